@@ -1,0 +1,21 @@
+ghost use Rattle.std.specs.Prelude.{◌≡◌, Option};
+ghost use Rattle.hs_base.specs.Files.{Listing, Counts, NeverFall, IsRead};
+
+use crate::FileEnd;
+
+/// Files by name. What a read means is `IsRead` of `specs/Files.antt`, over three things that code does not see:
+/// the listing, where it is told, which never changes, and the counts of misses and of faults, which never fall.
+pub trait Files {
+    /// The files, by name, where the object tells them.
+    ghost listing: { Self → Option Listing };
+
+    /// How many reads found no file of their name, and how many failed.
+    ghost counts: { Self → Counts };
+
+    /// Puts the bytes of the named file into `into`, in place of what was there, where it has at most `max` bytes.
+    /// After a refusal `into` is empty.
+    fn read(&mut self, name: &str, max: usize, into: &mut Vec<u8>) -> Result<(), FileEnd>
+        ensures listing_stays { listing self.new ≡ listing self.old }
+        ensures counts_stay_up { NeverFall (counts self.old) (counts self.new) }
+        ensures means { IsRead (listing self.old) name.now max (counts self.old) (counts self.new) into.new.items result };
+}

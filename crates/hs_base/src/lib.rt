@@ -1,0 +1,17 @@
+//! The outside as a trait sees it, and the words that every other crate shares: places in files, limits, lists whose
+//! contents alone count. `specs/Files.antt` and `specs/Sink.antt` say what a read and a put mean.
+#![tactic(auto)]
+
+mod errors;
+mod files;
+mod limit;
+mod lists;
+mod pos;
+mod sink;
+
+pub use errors::{Failed, FileEnd, NoMemory};
+pub use files::Files;
+pub use limit::{Limit, LimitKind};
+pub use lists::{Bytes, Numbers};
+pub use pos::Pos;
+pub use sink::Sink;

@@ -1,0 +1,4 @@
+pub mod Heap
+pub mod Shift
+pub mod Straight
+pub mod Value

@@ -1,0 +1,68 @@
+ghost use Rattle.std.specs.Prelude.{◌≡◌};
+
+use std::marker::Model;
+
+/// A byte of memory.
+#[derive(Clone, Copy, Debug, PartialEq, Eq)]
+pub enum Cell {
+    /// Nothing was stored there.
+    Undefined,
+    Byte(u8),
+}
+
+/// The cells of a block. Contracts see the list.
+#[derive(Debug, Drop)]
+pub struct Cells {
+    vec: Vec<Cell>,
+}
+
+impl Model for Cells {
+    ghost use Rattle.std.specs.Prelude.{List};
+    ghost use Rattle.hs_meaning.specs.declared.block.Cell.{Cell};
+
+    ghost Value = { List Cell };
+
+    ghost view = { λ c. c.vec.items };
+}
+
+impl Cells {
+    /// The list of these items. Takes no memory.
+    pub fn from_vec(items: Vec<Cell>) -> Cells
+        ensures { result ≡ items.items }
+    {
+        Cells { vec: items }
+    }
+
+    /// Lends the items.
+    pub fn items(&self) -> &[Cell]
+        ensures { result.now ≡ self.now }
+    {
+        self.vec.as_slice()
+    }
+}
+
+/// Whether a relocatable block has its cells.
+#[derive(Clone, Copy, Debug, PartialEq, Eq)]
+pub enum Presence {
+    Present,
+    /// The program emptied it.
+    Emptied,
+    /// The schedule purged it. Its cells still count as live bytes, and no access reaches them.
+    Purged,
+    /// The program disposed it.
+    Disposed,
+}
+
+/// A relocatable block of the reference machine's heap.
+#[derive(Debug, Drop)]
+pub struct Block {
+    pub cells: Cells,
+    /// How often the program emptied or reallocated it.
+    pub life: u32,
+    /// How often the schedule moved or purged it.
+    pub epoch: u32,
+    /// The lock: one attribute, and no count.
+    pub locked: bool,
+    pub purgeable: bool,
+    pub presence: Presence,
+}

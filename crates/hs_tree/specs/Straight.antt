@@ -1,0 +1,4 @@
+pub mod Fine
+pub mod Grammar
+pub mod Names
+pub mod Text
