@@ -1,4 +1,5 @@
 pub mod Count
 pub mod Files
 pub mod Limit
+pub mod Memory
 pub mod Sink

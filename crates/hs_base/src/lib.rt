@@ -6,6 +6,8 @@ mod errors;
 mod files;
 mod limit;
 mod lists;
+mod mem_files;
+mod mem_sink;
 mod pos;
 mod sink;
 
@@ -13,5 +15,7 @@ pub use errors::{Failed, FileEnd, NoMemory};
 pub use files::Files;
 pub use limit::{Limit, LimitKind};
 pub use lists::{Bytes, Numbers};
+pub use mem_files::MemFiles;
+pub use mem_sink::MemSink;
 pub use pos::Pos;
 pub use sink::Sink;

@@ -1,0 +1,57 @@
+-- Files and a sink that are kept in memory. Own to this project.
+--     raised count                 a count that rises by one, and stands still at the end of its type
+--     AnswersRead ..               what a read of files in memory answers
+--     put_front ..                 the front of a piece that a put into a sink in memory writes
+--     put_succeeds ..              whether that put succeeds
+use Rattle.std.specs.Prelude.{◌≡◌, ℕ, ◌+◌, ◌-◌, ◌/◌, ◌^◌, ◌==◌, nat_lt, nat_le, min, Bool, true, false, List, length, take, map, Option, Some, None, Result, Ok, Err, IsOkUnless, if◌then◌else◌}
+use Rattle.std.specs.Bool.{MatchBool}
+use Rattle.std.specs.List.{list_any}
+use Rattle.hs_base.specs.Files.{Listing, file_of}
+use Rattle.hs_base.specs.declared.errors.Failed.{Failed}
+use Rattle.hs_base.specs.declared.errors.FileEnd.{FileEnd}
+use Rattle.hs_base.specs.declared.errors.FileEnd.TheVariants as end
+
+-- a u64 that rises by one
+abbrev pub raised : ℕ → ℕ
+raised count = min (count + 1) (2 ^ 64 - 1)
+
+-- the number is among them
+abbrev pub is_among : List ℕ → ℕ → Bool
+is_among numbers number = list_any (λ n. n == number) numbers
+
+pub record MemoryFiles : Type 0 where
+  pub listing : Listing
+  -- the numbers, from 1, of the reads that fail
+  pub failing : List ℕ
+  pub reads : ℕ
+  pub misses : ℕ
+  pub faults : ℕ
+
+abbrev pub AnswersFile : ℕ → Option (List ℕ) → Result Unit FileEnd → Type 0
+AnswersFile max None result = result ≡ Err end.Missing
+AnswersFile max (Some bytes) result = MatchBool (nat_lt max (length bytes)) (result ≡ Err end.TooLong) (IsOkUnless result end.NoMemory)
+
+-- the read fails where its number says so, and else answers by the file
+abbrev pub AnswersRead : MemoryFiles → List ℕ → ℕ → Result Unit FileEnd → Type 0
+AnswersRead files name max result = MatchBool (is_among files.failing (raised files.reads)) (result ≡ Err end.Failed) (AnswersFile max (file_of files.listing name) result)
+
+pub record MemorySink : Type 0 where
+  pub written : List ℕ
+  -- how many bytes it may hold
+  pub room : ℕ
+  -- the numbers, from 1, of the puts that fail
+  pub failing : List ℕ
+  pub puts : ℕ
+  pub faults : ℕ
+
+-- the put is one that fails by its number
+abbrev pub put_fails : MemorySink → Bool
+put_fails sink = is_among sink.failing (raised sink.puts)
+
+-- how many bytes a put may write: half of the piece, rounded down, where it fails by its number, and never more than fit
+abbrev pub put_len : MemorySink → List ℕ → ℕ
+put_len sink piece = min (if put_fails sink then length piece / 2 else length piece) (sink.room - length sink.written)
+
+-- the put writes the whole piece
+abbrev pub put_succeeds : MemorySink → List ℕ → Bool
+put_succeeds sink piece = if put_fails sink then false else nat_le (length piece) (sink.room - length sink.written)
