@@ -1,3 +1,4 @@
 pub mod Along
+pub mod AlongLaws
 pub mod Run
 pub mod StaleUses

@@ -1,5 +1,6 @@
 ghost use Rattle.std.specs.Prelude.{◌≡◌};
 
+use crate::Decision;
 use std::marker::Model;
 
 /// A byte of memory.
@@ -65,4 +66,33 @@ pub struct Block {
     pub locked: bool,
     pub purgeable: bool,
     pub presence: Presence,
+}
+
+impl Block {
+    ghost use Rattle.std.specs.Prelude.{◌≡◌, ◌+◌, ◌^◌, ◌<◌, IsTrue};
+    ghost use Rattle.hs_meaning.specs.Shift.{shifted};
+
+    /// The block of that number, from 1, after a decision taken by a routine that moves, or purges, or neither. What the
+    /// block does not permit counts for nothing (Inside Macintosh: Memory, "Relocatable Blocks" and "Locking").
+    pub fn shifted(self, moves: bool, purges: bool, decision: &Decision, number: u32) -> Block
+        requires epoch_fits { self.epoch + 1 < 2 ^ 32 }
+        ensures exact { result ≡ shifted (record { moves = moves; purges = purges }) decision.now number self }
+        ensures locked_stays { IsTrue self.locked → result ≡ self }
+    {
+        let is_loose = matches!(self.presence, Presence::Present) && !self.locked;
+        if purges && decision.purges.names(number) && is_loose && self.purgeable {
+            return Block {
+                epoch: self.epoch + 1,
+                presence: Presence::Purged,
+                ..self
+            };
+        }
+        if (moves || purges) && decision.moves.names(number) && is_loose {
+            return Block {
+                epoch: self.epoch + 1,
+                ..self
+            };
+        }
+        self
+    }
 }

@@ -1,0 +1,4 @@
+//! The verdict on a program. So far the programs are straight files.
+#![tactic(auto)]
+
+pub mod straight;
