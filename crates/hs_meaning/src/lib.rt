@@ -7,6 +7,7 @@ mod block;
 mod decision;
 mod input;
 mod outcome;
+pub mod straight;
 
 pub use block::{Block, Cell, Cells, Presence};
 pub use decision::{Decision, Which};

@@ -1,5 +1,5 @@
 -- The rule of stale uses as a recursion says what the rule says: a use is stale just where `is_stale_after` is true.
-use Rattle.std.proofs.Common.{◌≡◌, ℕ, ◌==◌, Bool, true, false, not, ◌&&◌, ◌||◌, List, [], ◌∷◌, ◌++◌, IsTrue, ◌⊎◌, inl, inr, Option, Some, None, refl, sym, ap, ◌∙◌, subst, if◌then◌else◌, true≢false, eqb-true, eq-eqb, append_assoc}
+use Rattle.std.proofs.Common.{◌≡◌, ℕ, Bool, true, false, not, ◌&&◌, ◌||◌, List, [], ◌∷◌, ◌++◌, IsTrue, ◌⊎◌, inl, inr, Option, Some, None, refl, sym, ap, ◌∙◌, subst, if◌then◌else◌, true≢false, eqb-true, eq-eqb}
 use Rattle.std.specs.List.{list_any}
 use Rattle.std.proofs.lemmas.Bool.{or_parts, or_cases, or_left, or_right, or_from, and_parts, and_from, and_cases, not-true, not-false}
 use Rattle.std.proofs.lemmas.Option.{none-some, same_Some}
@@ -8,7 +8,7 @@ use Rattle.hs_base.specs.declared.pos.Pos.{Pos}
 use Rattle.hs_tree.specs.declared.straight.tree.Step.{Step}
 use Rattle.hs_tree.specs.declared.straight.tree.Step.TheVariants as form
 use Rattle.hs_tree.specs.Straight.Fine.{assigns}
-use Rattle.hs_meaning.specs.Straight.StaleUses.{Use, IsStaleUse, calls_new_handle, is_locked_after}
+use Rattle.hs_meaning.specs.Straight.StaleUses.{IsStaleUse, calls_new_handle, is_locked_after}
 use Rattle.hs_meaning.specs.Straight.Along.{Derivation, derived_by, kept_by, kept_if, derived_after, is_stale_derivation, is_stale_after}
 
 -- neither the one nor any other
@@ -19,7 +19,7 @@ not-or false true = refl
 not-or false false = refl
 
 -- where the step assigns the pointer not, what is known is kept
-derived_after-keep : (pointer : ℕ) (step : Step) (done : List Step) → assigns pointer step ≡ false
+pub derived_after-keep : (pointer : ℕ) (step : Step) (done : List Step) → assigns pointer step ≡ false
     → derived_after pointer (step ∷ done) ≡ kept_if done step (derived_after pointer done)
 derived_after-keep pointer step done other = rw other refl
 
