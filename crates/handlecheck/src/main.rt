@@ -1,0 +1,40 @@
+//! The program `handlecheck`.
+#![tactic(auto)]
+
+mod host_files;
+mod host_sink;
+mod report;
+mod run;
+mod status;
+
+pub use host_files::HostFiles;
+pub use host_sink::HostSink;
+pub use report::Report;
+pub use run::run;
+pub use status::Status;
+
+use std::env;
+use std::env::Env;
+use std::io;
+use std::process::ExitCode;
+
+/// The words after the program's name. One that is no UTF-8 is an error.
+fn words_after_name<R: Env + AllocGlobal>(rt: &R) -> io::Result<Vec<String>> {
+    let mut words = Vec::new(rt.alloc());
+    for word in env::args(rt)?.skip(1) {
+        words.push(word)?;
+    }
+    Ok(words)
+}
+
+fn main(rt: HostRuntime) -> ExitCode {
+    let mut out = HostSink::new(io::writer(&rt));
+    let words = match words_after_name(&rt) {
+        Ok(words) => words,
+        // A word that is no text is no command, and has no form.
+        Err(_) => Vec::new(rt.alloc()),
+    };
+    let mut files = HostFiles::new(&rt);
+    let status = run(rt.alloc(), words.as_slice(), &mut files, &mut out);
+    ExitCode::from(status.code())
+}
