@@ -38,13 +38,12 @@ headline_of told words before now old new answer safe answered done = go answere
   where
     go : (report : Report) → IsReport told words before now report → IsCause report answer old new → Checks words (IsSafeFile told)
     go report is_report (cut unwritten fault) = absurd (cc)
-    go Accepted is_report (whole is_status) =
-        (
-          is_report.0,
-          is_report.1,
-          FileHas-from told is_report.0 (HasTreeOf 0) (λ text. (tree : Straight) × IsTheTree text tree × IsSafe tree)
-          (λ text has. (has.1.0, has.1.1, safe has.1.0 has.1.2)) is_report.2
-        )
+    go Accepted is_report (whole is_status) = (
+      is_report.0,
+      is_report.1,
+      FileHas-from told is_report.0 (HasTreeOf 0) (λ text. (tree : Straight) × IsTheTree text tree × IsSafe tree)
+          (λ text has. (has.1.0, has.1.1, safe has.1.0 has.1.2)) is_report.2,
+    )
     go (Hazards count) is_report (whole is_status) = absurd (cc)
     go Unbuilt is_report (whole is_status) = absurd (cc)
     go Usage is_report (whole is_status) = absurd (cc)

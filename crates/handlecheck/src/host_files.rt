@@ -2,9 +2,8 @@ ghost use Rattle.std.specs.Prelude.{None, [], Err};
 ghost use Rattle.hs_base.specs.Files.{NeverFall, IsRead};
 
 use hs_base::{FileEnd, Files};
-use std::fs;
-use std::io;
 use std::io::Read;
+use std::{fs, io};
 
 /// The files of the system, by path. They tell nothing of names and bytes: what a real file holds is not proved.
 /// A file that is not found is a miss; any other error but want of memory is a fault.
@@ -45,7 +44,12 @@ impl<R: fs::Files + Drop> HostFiles<R> {
 }
 
 /// Reads the file to its end, or one byte past `max`.
-fn read_file<R: fs::Files>(system: &R, name: &str, max: usize, into: &mut Vec<u8>) -> io::Result<()> {
+fn read_file<R: fs::Files>(
+    system: &R,
+    name: &str,
+    max: usize,
+    into: &mut Vec<u8>,
+) -> io::Result<()> {
     let limit = (max as u64).saturating_add(1);
     fs::open(system, name)?.take(limit).read_to_end(into)?;
     Ok(())

@@ -6,17 +6,17 @@ mod host_sink;
 mod report;
 mod run;
 mod status;
+#[cfg(test)]
+mod tests;
 
 pub use host_files::HostFiles;
 pub use host_sink::HostSink;
 pub use report::Report;
 pub use run::run;
 pub use status::Status;
-
-use std::env;
 use std::env::Env;
-use std::io;
 use std::process::ExitCode;
+use std::{env, io};
 
 /// The words after the program's name. One that is no UTF-8 is an error.
 fn words_after_name<R: Env + AllocGlobal>(rt: &R) -> io::Result<Vec<String>> {

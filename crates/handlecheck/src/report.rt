@@ -28,6 +28,7 @@ pub enum Report {
 
 /// The lines that are put without taking memory.
 pub(crate) const NO_MEMORY: &str = "no memory\n";
+
 pub(crate) const USAGE: &str = "usage: handlecheck check|repair|run|gen [options] FILE...\n";
 
 /// A word, a space and a name, as a line.

@@ -10,6 +10,8 @@ mod mem_files;
 mod mem_sink;
 mod pos;
 mod sink;
+#[cfg(test)]
+mod tests;
 
 pub use errors::{Failed, FileEnd, NoMemory};
 pub use files::Files;

@@ -19,5 +19,5 @@ IsCountOf-stale_uses (use_of ∷ uses) = go (IsCountOf-stale_uses uses) (is_stal
     go rest false is_stale =
         inr (
           λ stale. true≢false (sym (along-from_IsStaleUse use_of.pointer use_of.done stale) ∙ is_stale),
-          subst (λ (n : ℕ). IsCountOf IsStaleUse uses n) (sym (counted ∙ rw is_stale (zero-add (stale_uses uses)))) rest
+          subst (λ (n : ℕ). IsCountOf IsStaleUse uses n) (sym (counted ∙ rw is_stale (zero-add (stale_uses uses)))) rest,
         )

@@ -1,2 +1,13 @@
 pub mod Count
+pub mod Declarations
+pub mod Ends
+pub mod Exprs
+pub mod Fine
+pub mod Marks
+pub mod Names
+pub mod Numbers
+pub mod Rows
+pub mod Scanning
+pub mod Staleness
 pub mod Steps
+pub mod Whole

@@ -1,1 +1,4 @@
 pub mod Count
+pub mod Ends
+pub mod Reading
+pub mod Rows

@@ -35,15 +35,25 @@ fn unread(alloc: Global, name: &str, end: FileEnd) -> SourceError
     ensures { FailsAs name.now end result }
 {
     match end {
-        FileEnd::Missing => name_of(alloc, name).map_or(SourceError::NoMemory, SourceError::Missing),
-        FileEnd::Failed => name_of(alloc, name).map_or(SourceError::NoMemory, SourceError::ReadFault),
+        FileEnd::Missing => name_of(alloc, name).map_or(
+            SourceError::NoMemory,
+            SourceError::Missing,
+        ),
+        FileEnd::Failed => name_of(alloc, name).map_or(
+            SourceError::NoMemory,
+            SourceError::ReadFault,
+        ),
         FileEnd::TooLong => SourceError::Limit(LimitKind::FileBytes.passed()),
         FileEnd::NoMemory => SourceError::NoMemory,
     }
 }
 
 /// The tree of the one named file. `specs/Source.antt` says what each answer means.
-pub fn read_program<F: Files>(alloc: Global, files: &mut F, roots: &[String]) -> Result<Straight, SourceError>
+pub fn read_program<F: Files>(
+    alloc: Global,
+    files: &mut F,
+    roots: &[String],
+) -> Result<Straight, SourceError>
     requires one_root { length roots.now ≡ 1 }
     ensures listing_stays { F.listing files.new ≡ F.listing files.old }
     ensures counts_stay_up { NeverFall (F.counts files.old) (F.counts files.new) }

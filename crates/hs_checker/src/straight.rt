@@ -1,7 +1,18 @@
-//! The straight checker. This module goes when whole programs are checked.
+//! The straight checker: the reader of straight files, and the count of their stale uses. This module goes when whole
+//! programs are checked.
 
+mod declarations;
+mod ends;
+mod exprs;
+mod marks;
+mod names;
+mod numbers;
 mod reader;
+mod scanner;
 mod stale_uses;
+mod steps;
+#[cfg(test)]
+mod tests;
 
 pub use reader::read;
 pub use stale_uses::check;

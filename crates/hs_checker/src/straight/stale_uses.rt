@@ -5,21 +5,10 @@ ghost use Rattle.hs_meaning.specs.Straight.StaleUses.{HasStaleUses, concerns as 
 ghost use Rattle.hs_meaning.specs.Straight.Along.{is_stale_after};
 ghost use Rattle.hs_checker.specs.Straight.Count.{stale_pointers, stale_uses, GoesStale, IsLastAssignment};
 
+use crate::straight::steps::assigns;
 use hs_base::NoMemory;
 use hs_tree::straight::{Expr, Step, Straight};
 use std::alloc::Global;
-
-/// Whether the step assigns the variable.
-fn assigns(step: &Step, variable: u32) -> bool
-    ensures { result ≡ assigns_variable variable step.now }
-{
-    match step {
-        Step::NewHandle { handle, .. } => *handle == variable,
-        Step::Derive { pointer, .. } => *pointer == variable,
-        Step::Set { letter, .. } => *letter == variable,
-        _ => false,
-    }
-}
 
 /// Whether the step locks the handle.
 fn locks(step: &Step, variable: u32) -> bool
@@ -37,7 +26,7 @@ fn concerns(step: &Step, variable: u32) -> bool
 {
     match step {
         Step::HLock { handle, .. } | Step::HUnlock { handle, .. } => *handle == variable,
-        _ => assigns(step, variable),
+        _ => assigns(variable, *step),
     }
 }
 
@@ -55,14 +44,18 @@ fn calls_new_handle(step: &Step) -> bool
 fn is_locked_then(is_locked: bool, step: &Step, handle: u32) -> bool
     ensures { result ≡ (if concerns_handle handle step.now then locks_handle handle step.now else is_locked) }
 {
-    if concerns(step, handle) { locks(step, handle) } else { is_locked }
+    if concerns(step, handle) {
+        locks(step, handle)
+    } else {
+        is_locked
+    }
 }
 
 /// Whether the handle was still not assigned anew after the step.
 fn is_same_then(is_same: bool, step: &Step, handle: u32) -> bool
     ensures { result ≡ (is_same && not (assigns_variable handle step.now)) }
 {
-    is_same && !assigns(step, handle)
+    is_same && !assigns(handle, *step)
 }
 
 /// Whether a pointer is stale after the step: a call of NewHandle makes it so, but where its handle is the same and locked.
@@ -105,7 +98,7 @@ fn last_assignment(done: &[Step], variable: u32) -> Option<usize>
 {
     let mut last = None;
     for (place, step) in done.iter().enumerate() {
-        if assigns(step, variable) {
+        if assigns(variable, *step) {
             last = Some(place);
         }
     }
@@ -145,7 +138,8 @@ fn stale_in_step(done: &[Step], step: &Step) -> u64
     ensures at_most { result ≤ 2 }
 {
     match step {
-        Step::Store { pointer, value, .. } => u64::from(is_stale(done, *pointer)) + stale_in_expr(done, value),
+        Step::Store { pointer, value, .. } => u64::from(is_stale(done, *pointer))
+            + stale_in_expr(done, value),
         Step::Set { value, .. } | Step::Putchar { value } => stale_in_expr(done, value),
         _ => 0,
     }

@@ -7,13 +7,12 @@ use Rattle.hs_base.proofs.mem_sink.MemSinkSink.put.Goals as goal
 pub returns-then-fails-2-clause-means : goal.returns-then-fails-2-clause-means
 returns-then-fails-2-clause-means c =
     let faults : c.self.inside.faults ≡ c.args.self.now.faults = ap (λ (s : MemorySink). s.faults) c.self.view_is in
-    let written : c.self.inside.bytes.items ≡ c.args.self.now.written = ap (λ (s : MemorySink). s.written) c.self.view_is in
-    (
+    let written : c.self.inside.bytes.items ≡ c.args.self.now.written = ap (λ (s : MemorySink). s.written) c.self.view_is in (
       (
         take c.min-len.result c.args.piece.now,
         (drop c.min-len.result c.args.piece.now, sym (take-append-drop c.min-len.result c.args.piece.now)),
-        rw (← written) c.append.ensures.items
+        rw (← written) c.append.ensures.items,
       ),
       omega arith,
-      λ below. omega arith
+      λ below. omega arith,
     )

@@ -1,6 +1,6 @@
 -- The three cases of the last step that assigns the pointer.
 use Rattle.hs_tree.specs.declared.straight.tree.Step.TheVariants as form
-use Rattle.hs_checker.proofs.Steps.{not_stale-never, not_stale-other, stale-taken, derived_by-other}
+use Rattle.hs_checker.proofs.Staleness.{not_stale-never, not_stale-other, stale-taken, derived_by-other}
 use Rattle.hs_checker.proofs.straight.stale_uses.is_stale.Goals as goal
 
 pub returns-in-None : goal.returns-in-None

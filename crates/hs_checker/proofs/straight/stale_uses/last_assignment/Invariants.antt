@@ -1,5 +1,5 @@
 -- The place is that of the last one among the steps that were looked at.
-use Rattle.hs_checker.proofs.Steps.{IsLastBefore}
+use Rattle.hs_checker.proofs.Staleness.{IsLastBefore}
 use Rattle.hs_checker.proofs.straight.stale_uses.last_assignment.Given as goal
 
 abbrev pub invariant-loop-place : goal.invariant-loop-place

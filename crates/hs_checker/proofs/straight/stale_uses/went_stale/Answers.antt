@@ -1,5 +1,5 @@
 -- One step more of `since`, by `IsKnown-step`.
-use Rattle.hs_checker.proofs.Steps.{IsKnown-derive, IsKnown-step, stale_at_end}
+use Rattle.hs_checker.proofs.Staleness.{IsKnown-derive, IsKnown-step, stale_at_end}
 use Rattle.hs_checker.proofs.straight.stale_uses.went_stale.Goals as goal
 
 pub loop-step-init : goal.loop-step-init

@@ -5,7 +5,7 @@ use Rattle.hs_base.specs.declared.pos.Pos.{Pos}
 use Rattle.hs_tree.specs.declared.straight.tree.Step.{Step}
 use Rattle.hs_tree.specs.declared.straight.tree.Step.TheVariants as step
 use Rattle.hs_tree.specs.Straight.Fine.{assigns}
-use Rattle.hs_checker.proofs.Steps.{IsKnown}
+use Rattle.hs_checker.proofs.Staleness.{IsKnown}
 use Rattle.hs_checker.proofs.straight.stale_uses.went_stale.Given as goal
 
 abbrev pub invariant-loop-step : goal.invariant-loop-step

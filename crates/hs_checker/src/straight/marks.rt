@@ -1,0 +1,45 @@
+ghost use Rattle.std.specs.Prelude.{◌≡◌, map};
+ghost use Rattle.hs_checker.specs.Straight.Reading.{Gives, first_at, mark_at, marks_at, is_at};
+
+use hs_base::Pos;
+use hs_tree::straight::Token;
+
+/// The first token, and the tokens after it.
+pub(crate) fn first(tokens: &[Token]) -> Option<(&Token, &[Token])>
+    ensures { Gives (λ x. (x.0.now, x.1.now)) result (first_at tokens.now) }
+{
+    tokens.split_first()
+}
+
+/// Reads one token with that text. Its place, and the tokens after it.
+#[tactic(auto, unfolding(crate::specs::Straight::Reading::mark_at))]
+pub(crate) fn mark<'a>(text: &[u8], tokens: &'a [Token]) -> Option<(Pos, &'a [Token])>
+    ensures { Gives (λ x. (x.0, x.1.now)) result (mark_at text.now tokens.now) }
+{
+    let (token, rest) = first(tokens)?;
+    if token.text.items() == text {
+        Some((token.pos, rest))
+    } else {
+        None
+    }
+}
+
+/// Whether the first token has that text.
+#[tactic(auto, unfolding(crate::specs::Straight::Reading::is_at))]
+pub(crate) fn is_at(text: &[u8], tokens: &[Token]) -> bool
+    ensures { result ≡ is_at text.now tokens.now }
+{
+    mark(text, tokens).is_some()
+}
+
+/// Reads tokens with the texts of the wanted ones. The tokens after them.
+#[tactic(auto, unfolding(crate::specs::Straight::Reading::marks_at))]
+pub(crate) fn marks<'a>(wanted: &[Token], tokens: &'a [Token]) -> Option<&'a [Token]>
+    ensures { Gives (λ x. x.now) result (marks_at (map (λ token. token.text) wanted.now) tokens.now) }
+{
+    let mut rest = tokens;
+    for token in wanted {
+        (_, rest) = mark(token.text.items(), rest)?;
+    }
+    Some(rest)
+}
