@@ -1,8 +1,9 @@
-use super::*;
+use super::read;
+use super::scanner::scan;
 use hs_base::Pos;
 use hs_tree::straight::{Expr, Step, Straight};
 use std::alloc::Global;
-use std::test::*;
+use std::test::Fail;
 
 const ROW: &str =
     "char **NewHandle(long n); void HLock(char **h);\nvoid HUnlock(char **h); int putchar(int c);\nint main(void) { char **h; char **g; char *p; h = NewHandle(4); p = *h; *p = 65; g = NewHandle(4); putchar(*p); return 0; }\n";
