@@ -14,6 +14,7 @@ use Rattle.hs_checker.specs.Straight.Reading.{◌>>=◌, first_at, mark_at, is_a
 use Rattle.hs_checker.proofs.Marks.{bind_some, some_is, chosen, first_is, first_again, word_takes, word_again, at_first}
 use Rattle.hs_checker.proofs.Names.{not_text}
 
+-- the stars are those of the kind
 abbrev IsKind : List Token → (Kind × List Token) → Type 0
 IsKind tokens x = (pieces : List Piece) → Spells pieces x.1 → Spells (stars_of x.0 ++ pieces) tokens
 
@@ -50,6 +51,7 @@ kind_takes tokens x e =
           subst (IsKind tokens) (some_is made x other.1) taken
     ]
 
+-- a declaration is its stars, then its name and its semicolon
 grouped : (kind : Kind) (name mark : Piece) (pieces : List Piece)
     → ((stars_of kind ++ name ∷ []) ++ mark ∷ []) ++ pieces ≡ stars_of kind ++ (name ∷ mark ∷ pieces)
 grouped Handle name mark pieces = refl
@@ -61,6 +63,7 @@ pub record IsDeclaration (earlier : List Variable) (tokens : List Token) (x : Va
   pub fine : is_fine_name earlier x.0.name ≡ true
   pub spelled : (pieces : List Piece) → Spells pieces x.1 → Spells (ended (declaration_spelling x.0) ++ pieces) tokens
 
+-- a declaration that is read is spelled so
 pub declaration_takes : (earlier : List Variable) (tokens : List Token) (x : Variable × List Token) → declaration_at earlier tokens ≡ Some x
     → IsDeclaration earlier tokens x
 unfolding declaration_at
@@ -90,6 +93,7 @@ declaration_takes earlier tokens x e =
     } in
     subst (IsDeclaration earlier tokens) test.1 taken
 
+-- the stars in front of a name give the kind
 kind_again : (kind : Kind) (name : List ℕ) (pieces : List Piece) (tokens : List Token) → is_name name ≡ true
     → Spells (stars_of kind ++ (word name ∷ pieces)) tokens
     → (rest : List Token) × (kind_at tokens ≡ Some (kind, rest)) × Spells (word name ∷ pieces) rest
@@ -109,6 +113,7 @@ kind_again Letter name pieces tokens is spelled =
     let here : is_at (codes "*") tokens ≡ false = at_first (codes "*") (word name) pieces tokens spelled ∙ not_text name (codes "*") is refl in
     (tokens, rw here refl, spelled)
 
+-- a spelled declaration that may stand there is read again
 pub declaration_again : (earlier : List Variable) (variable : Variable) (pieces : List Piece) (tokens : List Token) → is_fine_name earlier variable.name ≡ true
     → Spells (ended (declaration_spelling variable) ++ pieces) tokens → (rest : List Token) × (declaration_at earlier tokens ≡ Some (variable, rest))
     × Spells pieces rest
@@ -123,6 +128,7 @@ declaration_again earlier variable pieces tokens fine spelled =
     let mark = word_again (codes ";") pieces name.0.1 name.4 in
     (mark.0.1, rw (begin.1, kind.1, name.1, mark.1, name.2, fine) refl, mark.2)
 
+-- a declaration begins with `char`
 pub declaration_begins : (variable : Variable) (pieces : List Piece) (tokens : List Token)
     → Spells (ended (declaration_spelling variable) ++ pieces) tokens → is_at (codes "char") tokens ≡ true
 declaration_begins variable pieces tokens spelled =

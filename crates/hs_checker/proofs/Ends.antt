@@ -1,19 +1,19 @@
 -- The fixed beginning and end of a straight file.
 use Rattle.std.proofs.Common.{◌≡◌, ℕ, ◌≤◌, Bool, false, List, [], ◌∷◌, ◌++◌, length, map, Option, Some, None, Result, Ok, Err, refl, sym, subst, ◌∙◌, arith}
-use Rattle.std.specs.Prelude.{codes, IfOk, IfSome, IfNone, IsTrue, ◌↔◌, ◌==◌}
+use Rattle.std.specs.Prelude.{IfOk, IfSome, IfNone, IsTrue, ◌↔◌, ◌==◌}
 use Rattle.std.specs.Borrow.{Bor}
 use Rattle.std.proofs.lemmas.Bool.{eqb-true, eq-eqb}
 use Rattle.std.proofs.lemmas.List.{nil_from_length}
 use Rattle.std.proofs.lemmas.Option.{none-some}
 use Rattle.hs_base.specs.declared.errors.NoMemory.{NoMemory}
 use Rattle.hs_tree.specs.declared.straight.token.Token.{Token}
-use Rattle.hs_tree.specs.Straight.Text.{tokens_of}
 use Rattle.hs_tree.specs.Straight.Grammar.{Piece, word, opening, closing, Spells}
 use Rattle.hs_checker.specs.Straight.Reading.{Gives, mark_at, marks_at}
 use Rattle.hs_checker.specs.Straight.Ends.{IsOpened, NotOpened, IsClosing}
 use Rattle.hs_checker.proofs.Marks.{bind_some, some_is, word_takes, word_again}
 use Rattle.hs_checker.proofs.Rows.{taken_length}
 
+-- texts that are read are spelled so
 pub marks_take : (texts : List (List ℕ)) (tokens rest : List Token) → marks_at texts tokens ≡ Some rest → (pieces : List Piece) → Spells pieces rest
     → Spells (map word texts ++ pieces) tokens
 unfolding marks_at
@@ -22,6 +22,7 @@ marks_take (text ∷ texts) tokens rest e pieces s =
     let a = bind_some (mark_at text tokens) (λ first. marks_at texts first.1) rest e in
     word_takes text tokens a.0 (map word texts ++ pieces) a.1 (marks_take texts a.0.1 rest a.2 pieces s)
 
+-- spelled texts are read again
 pub marks_again : (texts : List (List ℕ)) (pieces : List Piece) (tokens : List Token) → Spells (map word texts ++ pieces) tokens
     → (rest : List Token) × (marks_at texts tokens ≡ Some rest) × Spells pieces rest
 unfolding marks_at
@@ -33,6 +34,7 @@ marks_again (text ∷ texts) pieces tokens s =
 
 -- ---- the beginning
 
+-- the beginning is read just where it is spelled
 pub opened : (tokens rest : List Token) → marks_at opening tokens ≡ Some rest → IsOpened tokens rest
 opened tokens rest e pieces = (
   λ s. let again = marks_again opening pieces tokens s in
@@ -40,16 +42,19 @@ opened tokens rest e pieces = (
   marks_take opening tokens rest e pieces,
 )
 
+-- the beginning is not read, so it is not spelled
 pub not_opened : (tokens : List Token) → marks_at opening tokens ≡ None → NotOpened tokens
 not_opened tokens e pieces s =
     let again = marks_again opening pieces tokens s in
     none-some again.0 (sym e ∙ again.1)
 
+-- the rest is no longer than the whole
 pub opened_length : (tokens rest : List Token) → marks_at opening tokens ≡ Some rest → length rest ≤ length tokens
 opened_length tokens rest e = omega (arith, taken_length (map word opening) tokens rest (marks_take opening tokens rest e))
 
 -- ---- the end
 
+-- the end is read to its last token just where it is spelled
 pub closing_is : (tokens rest : List Token) (ends : Bool) → marks_at closing tokens ≡ Some rest → ends ≡ (length rest == 0) → IsTrue ends ↔ IsClosing tokens
 closing_is tokens rest ends e is = (
   λ t. let nothing : rest ≡ [] = nil_from_length rest (eqb-true _ _ (sym is ∙ t)) in
@@ -63,6 +68,7 @@ closing_is tokens rest ends e is = (
     nothing_left [] s = refl
     nothing_left (token ∷ rest) s = absurd s
 
+-- the end is not read, so it is not spelled
 pub no_closing : (tokens : List Token) → marks_at closing tokens ≡ None → IsTrue false ↔ IsClosing tokens
 no_closing tokens e = (
   λ t. absurd cc,
@@ -71,6 +77,7 @@ no_closing tokens e = (
 
 -- ---- what the reader of a text gives at the two texts
 
+-- by the answer of the reader, and likewise below
 pub opening_found : (tokens : List Token) (r : Result (Option (Bor (List Token))) NoMemory)
     → IfOk r (λ read. Gives (λ x. x.now) read (marks_at opening tokens)) → IfOk r (λ read. IfSome read (λ rest. IsOpened tokens rest.now))
 opening_found tokens (Err e) h = tt

@@ -40,6 +40,7 @@ word_value_takes variables token value e =
           subst (IsWord variables token) (some_is (expr.Number a.0) value a.2) made
     ]
 
+-- the expression is spelled so at the front of the tokens, whatever follows it
 abbrev IsExpr : List Variable → List Token → (Expr × List Token) → Type 0
 IsExpr variables tokens x = (pieces : List Piece) → Spells pieces x.1 → Spells (expr_spelling variables x.0 ++ pieces) tokens
 
@@ -64,6 +65,7 @@ load_takes variables tokens x e =
     λ pieces s. placed_takes (codes "*") tokens a.0 (word (name_of variables b.0.0) ∷ pieces) a.1 (variable_takes variables a.0.1 b.0 pieces b.1 s) in
     subst (IsExpr variables tokens) (some_is made x b.2) taken
 
+-- an expression that is read is spelled so
 pub expr_takes : (variables : List Variable) (tokens : List Token) (x : Expr × List Token) → expr_at variables tokens ≡ Some x → IsExpr variables tokens x
 unfolding expr_at
 expr_takes variables tokens x e =
@@ -79,6 +81,7 @@ module _ (variables : List Variable) (named : are_fine_names [] variables ≡ tr
       → word_value variables (record { text = text; pos = token.pos }) ≡ Some value → word_value variables token ≡ Some value
   word_value_again token text value same e = subst (λ (t : List ℕ). word_value variables (record { text = t; pos = token.pos }) ≡ Some value) (sym same) e
 
+  -- the name of a letter is that letter
   letter_value : (pos : Pos) (letter : ℕ) → is_declared Letter variables letter ≡ true
       → word_value variables (record { text = name_of variables letter; pos = pos }) ≡ Some (expr.Letter pos letter)
   unfolding word_value
@@ -89,6 +92,7 @@ module _ (variables : List Variable) (named : are_fine_names [] variables ≡ tr
       let number : number_of variables (name_of variables letter) ≡ Some letter = rw name (number_again variables letter there.0 named there.1) in
       cond-true _ _ _ begins ∙ rw number refl
 
+  -- the text of a number is that number
   number_value : (pos : Pos) (number : ℕ) → number ≤ 127 → word_value variables (record { text = decimal number; pos = pos }) ≡ Some (expr.Number number)
   unfolding word_value
   number_value pos number low =
@@ -106,6 +110,7 @@ module _ (variables : List Variable) (named : are_fine_names [] variables ≡ tr
       let test : is_at (codes "*") tokens ≡ false = at_first (codes "*") piece pieces tokens spelled ∙ no_star in
       (first.0.1, rw (test, first.1, reads first.0.0 first.0.1 whole) refl, first.4)
 
+  -- a spelled expression that may stand there is read again
   pub expr_again : (done : List Step) (value : Expr) (pieces : List Piece) (tokens : List Token) → is_fine_expr variables done value ≡ true
       → Spells (expr_spelling variables value ++ pieces) tokens → (rest : List Token) × (expr_at variables tokens ≡ Some (value, rest)) × Spells pieces rest
   unfolding expr_at load_at

@@ -18,7 +18,8 @@ use Rattle.hs_tree.specs.Straight.Grammar.{Piece, word, step_spelling, Spells}
 use Rattle.hs_checker.specs.Straight.Reading.{is_at, declaration_at, step_at}
 use Rattle.hs_checker.specs.Straight.Rows.{declaration, begins_declaration, statement, begins_statement}
 use Rattle.hs_checker.proofs.Declarations.{declaration_takes, declaration_again, declaration_begins}
-use Rattle.hs_checker.proofs.Steps.{step_takes, step_again, step_begins}
+use Rattle.hs_checker.proofs.Steps.{step_takes}
+use Rattle.hs_checker.proofs.SpelledSteps.{step_again, step_begins}
 use Rattle.hs_checker.proofs.Rows.{IsReader}
 use Rattle.std.proofs.Common.{append_assoc}
 
@@ -45,6 +46,7 @@ and_all : (a : Bool) → (a && true) ≡ a
 and_all true = refl
 and_all false = refl
 
+-- a test of the earlier and the later, newest first
 any_newest : {A : Type 0} (test : A → Bool) (before parts : List A) → list_any test (newest before parts) ≡ (list_any test parts || list_any test before)
 unfolding newest
 any_newest test before [] = refl
@@ -56,6 +58,7 @@ any_order test parts = any_newest test [] parts ∙ or_none (list_any test parts
 
 -- ---- names
 
+-- the names of two rows, one behind the other
 names_append : (earlier xs ys : List Variable) → are_fine_names earlier (xs ++ ys) ≡ (are_fine_names earlier xs && are_fine_names (newest earlier xs) ys)
 unfolding newest
 names_append earlier [] ys = refl
@@ -63,9 +66,11 @@ names_append earlier (x ∷ xs) ys =
     ap (λ (b : Bool). is_fine_name earlier x.name && b) (names_append (x ∷ earlier) xs ys)
     ∙ and_grouped (is_fine_name earlier x.name) (are_fine_names (x ∷ earlier) xs) (are_fine_names (newest (x ∷ earlier) xs) ys)
 
+-- the order of the earlier names does not matter
 name_order : (variables : List Variable) (name : List ℕ) → is_fine_name (newest [] variables) name ≡ is_fine_name variables name
 name_order variables name = ap (λ (b : Bool). is_name name && not b) (any_order (λ variable. bytes_eq variable.name name) variables)
 
+-- one more name
 name_more : (variables : List Variable) (variable : Variable) → are_fine_names [] variables ≡ true → is_fine_name variables variable.name ≡ true
     → are_fine_names [] (variables ++ variable ∷ []) ≡ true
 name_more variables variable all here =
@@ -73,6 +78,7 @@ name_more variables variable all here =
     ∙ and_from (are_fine_names [] variables) (are_fine_names (newest [] variables) (variable ∷ [])) all
     (and_all (is_fine_name (newest [] variables) variable.name) ∙ name_order variables variable.name ∙ here)
 
+-- the name behind those done may follow them
 name_next : (done : List Variable) (variable : Variable) (later : List Variable) → are_fine_names [] (done ++ (variable ∷ later)) ≡ true
     → is_fine_name done variable.name ≡ true
 name_next done variable later all =
@@ -80,6 +86,7 @@ name_next done variable later all =
     let here = and_parts (is_fine_name (newest [] done) variable.name) (are_fine_names (variable ∷ newest [] done) later) both.1 in
     sym (name_order done variable.name) ∙ here.0
 
+-- the reader of declarations
 pub declaration_reader : IsReader declaration (are_fine_names []) begins_declaration declaration_at
 declaration_reader = record {
   fine = λ done tokens x all read. name_more done x.0 all (declaration_takes done tokens x read).fine;
@@ -91,6 +98,7 @@ declaration_reader = record {
 
 -- ---- steps
 
+-- the steps of two rows, one behind the other
 steps_append : (variables : List Variable) (done xs ys : List Step)
     → are_fine_steps variables done (xs ++ ys) ≡ (are_fine_steps variables done xs && are_fine_steps variables (newest done xs) ys)
 unfolding newest
@@ -99,6 +107,7 @@ steps_append variables done (x ∷ xs) ys =
     ap (λ (b : Bool). is_fine_step variables done x && b) (steps_append variables (x ∷ done) xs ys)
     ∙ and_grouped (is_fine_step variables done x) (are_fine_steps variables (x ∷ done) xs) (are_fine_steps variables (newest (x ∷ done) xs) ys)
 
+-- the order of the steps done does not matter: for a variable, an expression, a step
 assigned_order : (done : List Step) (variable : ℕ) → was_assigned variable (newest [] done) ≡ was_assigned variable done
 assigned_order done variable = any_order (assigns variable) done
 
@@ -119,6 +128,7 @@ step_order variables done (step.Store pos pointer value) =
     ∙ ap (λ (b : Bool). is_readable Pointer variables done pointer && b) (expr_order variables done value)
 step_order variables done (step.Putchar value) = expr_order variables done value
 
+-- one more step
 step_more : (variables : List Variable) (steps : List Step) (form : Step) → are_fine_steps variables [] steps ≡ true
     → is_fine_step variables steps form ≡ true → are_fine_steps variables [] (steps ++ form ∷ []) ≡ true
 step_more variables steps form all here =
@@ -126,6 +136,7 @@ step_more variables steps form all here =
     ∙ and_from (are_fine_steps variables [] steps) (are_fine_steps variables (newest [] steps) (form ∷ [])) all
     (and_all (is_fine_step variables (newest [] steps) form) ∙ step_order variables steps form ∙ here)
 
+-- the step behind those done may follow them
 pub step_next : (variables : List Variable) (done : List Step) (form : Step) (later : List Step)
     → are_fine_steps variables [] (done ++ (form ∷ later)) ≡ true → is_fine_step variables done form ≡ true
 step_next variables done form later all =
@@ -144,6 +155,7 @@ statement_begins variables named done form pieces tokens text fine no_name no_st
     step_begins variables named done form (word (codes ";") ∷ pieces) tokens text fine no_name no_star no_lock no_unlock no_putchar
     (subst (λ (p : List Piece). Spells p tokens) (append_assoc (step_spelling variables form) (word (codes ";") ∷ []) pieces) spelled)
 
+-- the reader of steps
 pub step_reader : (variables : List Variable) → are_fine_names [] variables ≡ true
     → IsReader (statement variables) (are_fine_steps variables []) begins_statement (step_at variables)
 unfolding reserved

@@ -8,6 +8,7 @@ pub mod Names
 pub mod Numbers
 pub mod Rows
 pub mod Scanning
+pub mod SpelledSteps
 pub mod Staleness
 pub mod Steps
 pub mod Whole

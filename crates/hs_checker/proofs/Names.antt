@@ -18,13 +18,16 @@ use Rattle.hs_tree.specs.Straight.Grammar.{Piece, word, name_in, name_of, Spells
 use Rattle.hs_checker.specs.Straight.Reading.{◌>>=◌, first_at, number_of, variable_at}
 use Rattle.hs_checker.proofs.Marks.{bind_some, some_is, first_is, first_again}
 
+-- stands in where a list is read past its end
 nobody : Variable
 nobody = record { kind = Letter; name = [] }
 
+-- a number that was found is that of a variable
 pub number_within : (variables : List Variable) (name : List ℕ) (number : ℕ) → number_of variables name ≡ Some number → number < length variables
 unfolding number_of
 number_within variables name number found = (position-Some (λ variable. bytes_eq variable.name name) variables number nobody found).0
 
+-- the variable of that number has the name
 pub name_found : (variables : List Variable) (name : List ℕ) (number : ℕ) → number_of variables name ≡ Some number → name_of variables number ≡ name
 unfolding number_of
 name_found variables name number found =
@@ -38,6 +41,7 @@ not_text name text is not_one = false_from_ne_true (bytes_eq name text)
 
 -- ---- declared variables
 
+-- a variable of some kind is declared
 pub declared : (kind : Kind) (found : Option Variable) → has_kind kind found ≡ true → (variable : Variable) × (found ≡ Some variable)
     × (kind_eq variable.kind kind ≡ true)
 declared kind None has = absurd cc
@@ -58,6 +62,7 @@ names_hold earlier (first ∷ rest) (suc number) variable fine at =
     let after = names_hold (first ∷ earlier) rest number variable parts.1 at in
     (after.0, (or_parts (bytes_eq first.name variable.name) (is_taken earlier variable.name) after.1).1)
 
+-- no variable before it has the name, so the search ends at it
 place_again : (earlier variables : List Variable) (number : ℕ) (variable : Variable) → are_fine_names earlier variables ≡ true
     → slice_get variables number ≡ Some variable
     → position_or_len (λ other. bytes_eq other.name variable.name) variables ≡ number
@@ -72,6 +77,7 @@ place_again earlier (first ∷ rest) (suc number) variable fine at =
     let other : bytes_eq first.name variable.name ≡ false = (or_parts (bytes_eq first.name variable.name) (is_taken earlier variable.name) after.1).0 in
     rw other (one-add _ ∙ ap suc (place_again (first ∷ earlier) rest number variable parts.1 at))
 
+-- a declared variable is found by its name
 pub number_again : (variables : List Variable) (number : ℕ) (variable : Variable) → are_fine_names [] variables ≡ true
     → slice_get variables number ≡ Some variable
     → number_of variables variable.name ≡ Some number
@@ -84,6 +90,7 @@ number_again variables number variable fine at =
 
 -- ---- reading a name
 
+-- a name that is read is spelled by its number
 pub variable_takes : (variables : List Variable) (tokens : List Token) (x : ℕ × List Token) (pieces : List Piece)
     → variable_at variables tokens ≡ Some x → Spells pieces x.1 → Spells (word (name_of variables x.0) ∷ pieces) tokens
 unfolding variable_at
@@ -97,6 +104,7 @@ variable_takes variables tokens x pieces e after =
     let P : (ℕ × List Token) → Type 0 = λ y. Spells pieces y.1 → Spells (word (name_of variables y.0) ∷ pieces) tokens in
     subst P (some_is made x b.2) taken after
 
+-- a spelled name is read, and gives its number
 pub variable_again : (variables : List Variable) (kind : Kind) (number : ℕ) (pieces : List Piece) (tokens : List Token)
     → are_fine_names [] variables ≡ true → is_declared kind variables number ≡ true
     → Spells (word (name_of variables number) ∷ pieces) tokens → (rest : List Token) × (variable_at variables tokens ≡ Some (number, rest)) × Spells pieces rest
@@ -108,11 +116,13 @@ variable_again variables kind number pieces tokens fine is spelled =
     let found : number_of variables first.0.0.text ≡ Some number = rw name (number_again variables number there.0 fine there.1) in
     (first.0.1, rw (first.1, found) refl, first.4)
 
+-- the name of a declared variable is a name
 pub name_is : (variables : List Variable) (kind : Kind) (number : ℕ) → are_fine_names [] variables ≡ true → is_declared kind variables number ≡ true
     → is_name (name_of variables number) ≡ true
 name_is variables kind number fine is =
     let there = declared kind (slice_get variables number) is in
     rw there.1 (names_hold [] variables number there.0 fine there.1).0
 
+-- a name begins with a letter
 pub name_begins : (name : List ℕ) → is_name name ≡ true → begins_with_letter name ≡ true
 name_begins name is = (and_parts _ _ (and_parts (is_identifier name) _ is).0).0

@@ -20,9 +20,11 @@ use Rattle.hs_tree.specs.Straight.Grammar.{Piece, word, Spells}
 use Rattle.hs_checker.specs.Straight.Reading.{◌>>=◌, first_at, numeral, is_numeral, has_one, begins_with_zero, number_at}
 use Rattle.hs_checker.proofs.Marks.{bind_some, some_is, first_is, first_again}
 
+-- all bytes are digits
 abbrev AreDigits : List ℕ → Type 0
 AreDigits text = list_all is_digit text ≡ true
 
+-- `is_digit` tells the digits, so the library reads the numbers
 tells_digits : IsDigitsTest AreDigits
 tells_digits = record {
   empty = refl;
@@ -33,10 +35,12 @@ tells_digits = record {
 model : IsNumeralModel AreDigits (digits_value 10)
 model = numerals_by_value AreDigits tells_digits
 
+-- a number in its one form has digits alone
 are_digits : (text : List ℕ) → is_numeral text ≡ true → AreDigits text
 are_digits [] h = refl
 are_digits (byte ∷ rest) h = (and_parts (list_all is_digit (byte ∷ rest)) (has_one (byte ∷ rest) || not (begins_with_zero (byte ∷ rest))) h).0
 
+-- what a digit stands for
 value_of_digit : (byte : ℕ) → IsInRange 48 57 byte → digit_value byte ≡ byte - 48
 value_of_digit byte lies = grind (arith, nat_tests)
 
@@ -47,6 +51,7 @@ one_digit_more text i form within =
     digits_value_more 10 text i within
     ∙ ap (λ (d : ℕ). digits_value 10 (take i text) * 10 + d) (value_of_digit (get_or text i 0) (digit_at text i (model.to text (are_digits text form)) within))
 
+-- digits of a number that is too large already
 pub too_large : (most : ℕ) (text : List ℕ) (i : ℕ) → most < digits_value 10 (take i text) → numeral most text ≡ None
 unfolding numeral
 too_large most text i large =
@@ -55,10 +60,12 @@ too_large most text i large =
 
 -- ---- numbers and their text
 
+-- a number has a digit
 is_some_text : (text : List ℕ) → is_numeral text ≡ true → 0 < length text
 is_some_text [] h = absurd cc
 is_some_text (byte ∷ rest) h = omega arith
 
+-- a zero in front is alone
 lone_zero : (text : List ℕ) → is_numeral text ≡ true → get_or text 0 0 ≡ 48 → length text ≡ 1
 lone_zero [] h zero_first = absurd cc
 lone_zero (byte ∷ []) h zero_first = refl
@@ -66,6 +73,7 @@ lone_zero (byte ∷ next ∷ rest) h zero_first =
     let other = (and_parts (list_all is_digit (byte ∷ next ∷ rest)) (not (eqb byte 48)) h).1 in
     absurd (both_ways (eqb byte 48) (not-true (eqb byte 48) other) (eq-eqb byte 48 zero_first))
 
+-- what a number in its one form has
 numeral_from : (text : List ℕ) → AreDigits text → 0 < length text → (get_or text 0 0 ≡ 48 → length text ≡ 1) → is_numeral text ≡ true
 numeral_from [] digits some lone = absurd (omega arith)
 numeral_from (byte ∷ []) digits some lone = and_from (list_all is_digit (byte ∷ [])) true digits refl
@@ -73,6 +81,7 @@ numeral_from (byte ∷ next ∷ rest) digits some lone =
     and_from (list_all is_digit (byte ∷ next ∷ rest)) (not (eqb byte 48)) digits
     (not_from_false (eqb byte 48) (ne_eqb byte 48 (λ e. absurd (omega (arith, lone e)))))
 
+-- what is read is the decimal text of the number
 pub numeral_is : (most : ℕ) (text : List ℕ) (number : ℕ) → most ≤ 32767 → numeral most text ≡ Some number → (text ≡ decimal number) × (number ≤ most)
 unfolding numeral
 numeral_is most text number bound found =
@@ -83,13 +92,16 @@ numeral_is most text number bound found =
     decimal-digits_value model text (are_digits text parts.0) (is_some_text text parts.0) (lone_zero text parts.0) (omega arith) in
     (sym same ∙ ap decimal test.1, omega (arith, test.1))
 
+-- a decimal text with a zero in front is `0`
 decimal_lone : (number : ℕ) → number ≤ 32767 → get_or (decimal number) 0 0 ≡ 48 → length (decimal number) ≡ 1
 decimal_lone zero low first = ap length (decimal_digit 0 (omega arith))
 decimal_lone (suc number) low first = absurd (omega (arith, first_decimal (suc number) (omega arith) (omega arith)))
 
+-- a decimal text has digits alone
 pub digits_of_decimal : (number : ℕ) → number ≤ 32767 → list_all is_digit (decimal number) ≡ true
 digits_of_decimal number low = digits_decimal model number (omega arith)
 
+-- a decimal text is read, and gives its number
 pub numeral_again : (most number : ℕ) → most ≤ 32767 → number ≤ most → numeral most (decimal number) ≡ Some number
 unfolding numeral
 numeral_again most number bound low =
@@ -99,6 +111,7 @@ numeral_again most number bound low =
     let fits : leb (digits_value 10 (decimal number)) most ≡ true = le-leb _ _ (omega (arith, value)) in
     cond-true _ _ _ (and_from (is_numeral (decimal number)) (leb (digits_value 10 (decimal number)) most) form fits) ∙ ap (λ (n : ℕ). Some n) value
 
+-- a digit is no letter
 no_letter : (byte : ℕ) → is_digit byte ≡ true → is_letter byte ≡ false
 no_letter byte digit = grind (arith, nat_tests)
 
@@ -106,6 +119,7 @@ no_letter_first : (text : List ℕ) → list_all is_digit text ≡ true → begi
 no_letter_first [] digits = refl
 no_letter_first (byte ∷ rest) digits = no_letter byte (and_parts (is_digit byte) (list_all is_digit rest) digits).0
 
+-- a number begins with no letter
 pub decimal_begins : (number : ℕ) → number ≤ 32767 → begins_with_letter (decimal number) ≡ false
 decimal_begins number low = no_letter_first (decimal number) (digits_of_decimal number low)
 
@@ -117,6 +131,7 @@ decimal_not number text low other = false_from_ne_true (bytes_eq (decimal number
 
 -- ---- reading a number
 
+-- a number that is read is spelled so
 pub number_takes : (most : ℕ) (tokens : List Token) (x : ℕ × List Token) (pieces : List Piece) → most ≤ 32767 → number_at most tokens ≡ Some x
     → Spells pieces x.1 → Spells (word (decimal x.0) ∷ pieces) tokens
 unfolding number_at
@@ -130,6 +145,7 @@ number_takes most tokens x pieces bound e after =
     let P : (ℕ × List Token) → Type 0 = λ y. Spells pieces y.1 → Spells (word (decimal y.0) ∷ pieces) tokens in
     subst P (some_is made x b.2) taken after
 
+-- a spelled number is read again
 pub read_number_again : (most number : ℕ) (pieces : List Piece) (tokens : List Token) → most ≤ 32767 → number ≤ most
     → Spells (word (decimal number) ∷ pieces) tokens → (rest : List Token) × (number_at most tokens ≡ Some (number, rest)) × Spells pieces rest
 unfolding number_at

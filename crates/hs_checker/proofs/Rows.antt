@@ -12,15 +12,18 @@ use Rattle.hs_checker.proofs.Marks.{some_is}
 
 -- ---- as many tokens as pieces
 
+-- as many tokens as pieces
 pub spelled_length : (pieces : List Piece) (tokens : List Token) → Spells pieces tokens → length pieces ≡ length tokens
 spelled_length [] [] s = refl
 spelled_length [] (token ∷ tokens) s = absurd s
 spelled_length (piece ∷ pieces) [] s = absurd s
 spelled_length (piece ∷ pieces) (token ∷ tokens) s = ap suc (spelled_length pieces tokens s.2)
 
+-- tokens as pieces without places
 pieces_of : List Token → List Piece
 pieces_of tokens = map (λ token. word token.text) tokens
 
+-- tokens spell themselves
 spelled_so : (tokens : List Token) → Spells (pieces_of tokens) tokens
 unfolding pieces_of
 spelled_so [] = tt
@@ -60,6 +63,7 @@ module _ {A : Type 0} (spell : A → List Piece) (is_fine : List A → Bool) (be
   parted : (part : A) (later : List A) (pieces : List Piece) → flat_map spell (part ∷ later) ++ pieces ≡ spell part ++ (flat_map spell later ++ pieces)
   parted part later pieces = append_assoc (spell part) (flat_map spell later) pieces
 
+  -- the spelling of a row with one part more
   pushed : (parts : List A) (part : A) (pieces : List Piece) → flat_map spell (parts ++ part ∷ []) ++ pieces ≡ flat_map spell parts ++ (spell part ++ pieces)
   pushed parts part pieces =
       ap (λ (p : List Piece). p ++ pieces) (flat_map-append spell parts (part ∷ [])
@@ -80,6 +84,7 @@ module _ {A : Type 0} (spell : A → List Piece) (is_fine : List A → Bool) (be
       let P : (A × List Token) → Type 0 = λ y. (after : List A) × (others ≡ (parts ++ y.0 ∷ []) ++ after) × Spells (flat_map spell after ++ pieces) y.1 in
       subst P is (later, same ∙ sym (append_assoc parts (part ∷ []) later), again.2)
 
+  -- the row goes on by the part that is read
   pub one_more : (parts : List A) (rest : List Token) (x : A × List Token) → IsSoFar spell is_fine begins tokens parts rest → begins rest ≡ true
       → at parts rest ≡ Some x
       → IsSoFar spell is_fine begins tokens (parts ++ x.0 ∷ []) x.1
@@ -93,9 +98,11 @@ module _ {A : Type 0} (spell : A → List Piece) (is_fine : List A → Bool) (be
     few = omega (arith, so_far.few, length-append parts (x.0 ∷ []), taken_length (spell x.0) rest x.1 (reader.takes parts rest x read), reader.some x.0);
   }
 
+  -- a part takes a token at least
   pub less : (parts : List A) (rest : List Token) (x : A × List Token) → at parts rest ≡ Some x → length x.1 < length rest
   less parts rest x read = omega (arith, taken_length (spell x.0) rest x.1 (reader.takes parts rest x read), reader.some x.0)
 
+  -- where no further part begins, what else the row could be ends too
   ended_here : (parts : List A) (rest : List Token) (others : List A) (pieces : List Piece) → is_fine others ≡ true → begins rest ≡ false
       → (later : List A) → others ≡ parts ++ later → Spells (flat_map spell later ++ pieces) rest → (others ≡ parts) × Spells pieces rest
   ended_here parts rest others pieces fine past [] same s = (same ∙ append-nil parts, s)
@@ -104,6 +111,7 @@ module _ {A : Type 0} (spell : A → List Piece) (is_fine : List A → Bool) (be
       absurd (both_ways (begins rest) past (reader.begun parts part later (flat_map spell later ++ pieces) rest
       (subst (λ (o : List A). is_fine o ≡ true) same fine) whole))
 
+  -- where no further part begins, the row is whole
   pub whole_row : (parts : List A) (rest : List Token) → IsSoFar spell is_fine begins tokens parts rest → begins rest ≡ false
       → IsRow spell is_fine begins tokens parts rest
   whole_row parts rest so_far past = record {
@@ -114,6 +122,7 @@ module _ {A : Type 0} (spell : A → List Piece) (is_fine : List A → Bool) (be
         ended_here parts rest others pieces fine past known.0 known.1 known.2;
   }
 
+  -- what else the row could be would go on as it was not read
   broken_here : (parts : List A) (rest : List Token) (others : List A) (pieces : List Piece) → is_fine others ≡ true → EndsRow begins pieces
       → begins rest ≡ true → at parts rest ≡ None
       → (later : List A) → others ≡ parts ++ later → Spells (flat_map spell later ++ pieces) rest → ⊥
@@ -123,6 +132,7 @@ module _ {A : Type 0} (spell : A → List Piece) (is_fine : List A → Bool) (be
       let again = reader.again parts part later (flat_map spell later ++ pieces) rest (subst (λ (o : List A). is_fine o ≡ true) same fine) whole in
       none-some (part, again.0) (sym fails ∙ again.1)
 
+  -- where a part begins and is not read, there is no row
   pub broken_row : (parts : List A) (rest : List Token) → IsSoFar spell is_fine begins tokens parts rest → begins rest ≡ true → at parts rest ≡ None
       → NoRow spell is_fine begins tokens
   broken_row parts rest so_far here fails others pieces fine ends s =

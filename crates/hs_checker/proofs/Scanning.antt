@@ -6,15 +6,17 @@ use Rattle.std.proofs.lemmas.Bool.{cases_Bool, or_parts, and_left, and_right, an
 use Rattle.std.proofs.lemmas.Bool.Decides.{nat_tests}
 use Rattle.hs_base.specs.declared.pos.Pos.{Pos}
 use Rattle.hs_tree.specs.declared.straight.token.Token.{Token}
-use Rattle.hs_tree.specs.Straight.Text.{is_blank, is_word_byte, begins_word, begins_with, ends_line, next_place, lengthened, tokens_from}
+use Rattle.hs_tree.specs.Straight.Text.{is_blank, is_word_byte, begins_word, begins_with, ends_line, lengthened, tokens_from}
 
 -- so many bytes further in the line
 abbrev pub moved : Pos → ℕ → Pos
 moved at count = record { file = at.file; line = at.line; col = at.col + count }
 
+-- a byte of a word is no blank
 not_blank : (byte : ℕ) → is_word_byte byte ≡ true → is_blank byte ≡ false
 not_blank byte word = grind (arith, nat_tests)
 
+-- a byte that is no blank ends no line
 same_line : (byte : ℕ) (rest : List ℕ) → is_blank byte ≡ false → ends_line byte rest ≡ false
 same_line byte rest full =
     let parts = or_parts ((eqb byte 32 || eqb byte 9) || eqb byte 10) (eqb byte 13) full in
@@ -34,6 +36,7 @@ alone_here : (at : Pos) (byte : ℕ) (rest : List ℕ) → is_blank byte ≡ fal
     → tokens_from at (byte ∷ rest) ≡ token_at at byte 0 rest ∷ tokens_from (moved at 1) rest
 alone_here at byte rest full alone = rw (full, alone, same_line byte rest full) refl
 
+-- one byte further, and so many more
 moved_on : (at : Pos) (count : ℕ) → moved (moved at 1) count ≡ moved at (suc count)
 moved_on at count = ap (λ (col : ℕ). record { file = at.file; line = at.line; col = col }) (omega arith)
 

@@ -14,16 +14,18 @@ use Rattle.hs_tree.specs.Straight.Text.{is_blank, is_word_byte, begins_word, nex
 use Rattle.hs_tree.specs.Straight.Fine.{are_fine_names, are_fine_steps, is_fine}
 use Rattle.hs_tree.specs.Straight.Grammar.{Piece, word, opening, closing, spelling, Spells}
 use Rattle.hs_checker.specs.Straight.Rows.{EndsRow, declaration, begins_declaration, statement, begins_statement, AreDeclarations, NoDeclarations, AreSteps, NoSteps}
-use Rattle.hs_checker.specs.Straight.Ends.{IsOpened, NotOpened, IsClosing}
+use Rattle.hs_checker.specs.Straight.Ends.{IsOpened, IsClosing}
 use Rattle.hs_checker.proofs.Marks.{at_first}
 use Rattle.hs_checker.proofs.Fine.{step_next, statement_begins}
 
 -- ---- no more tokens than bytes
 
+-- a byte put in front of a token makes no token
 lengthened_length : (at : Pos) (byte : ℕ) (tokens : List Token) → length (lengthened at byte tokens) ≡ length tokens
 lengthened_length at byte [] = refl
 lengthened_length at byte (token ∷ tokens) = refl
 
+-- by the byte: a blank, a byte of a longer word, a byte alone
 few_from : (at : Pos) (text : List ℕ) → length (tokens_from at text) ≤ length text
 few_from at [] = omega arith
 few_from at (byte ∷ rest) =
@@ -34,14 +36,17 @@ few_from at (byte ∷ rest) =
     (λ f. omega (arith, after, lengthened_length at byte (tokens_from (next_place at byte rest) rest)))
     (λ f. omega (arith, after)))
 
+-- a text has no more tokens than bytes
 pub few_tokens : (text : List ℕ) → length (tokens_of text) ≤ length text
 few_tokens text = few_from _ text
 
 -- ---- what follows each row
 
+-- the steps and the end of `main`
 pub body : List Variable → List Step → List Piece
 body variables steps = flat_map (statement variables) steps ++ map word closing
 
+-- a straight file: its beginning, its declarations, its body
 pub parted : (variables : List Variable) (steps : List Step)
     → spelling variables steps ≡ map word opening ++ (flat_map declaration variables ++ body variables steps)
 unfolding body
@@ -49,9 +54,11 @@ parted variables steps =
     append_assoc (map word opening ++ flat_map declaration variables) (flat_map (statement variables) steps) (map word closing)
     ∙ append_assoc (map word opening) (flat_map declaration variables) (flat_map (statement variables) steps ++ map word closing)
 
+-- the end begins with `return`
 steps_end : EndsRow begins_statement (map word closing)
 steps_end tokens s = ap not (at_first (codes "return") (word (codes "return")) (word (codes "0") ∷ word (codes ";") ∷ word (codes "}") ∷ []) tokens s)
 
+-- neither a step nor the end begins with `char`
 declarations_end : (variables : List Variable) (steps : List Step) → are_fine_names [] variables ≡ true → are_fine_steps variables [] steps ≡ true
     → EndsRow begins_declaration (body variables steps)
 unfolding body reserved
@@ -64,6 +71,7 @@ declarations_end variables (step ∷ steps) named fine tokens s =
 
 -- ---- found
 
+-- each part is spelled, so the whole is
 pub whole : (tokens opened declared done : List Token) (variables : List Variable) (steps : List Step) → IsOpened tokens opened
     → AreDeclarations opened variables declared → AreSteps variables declared steps done → IsClosing done
     → Spells (spelling variables steps) tokens
@@ -82,9 +90,11 @@ module _ (tokens : List Token) (variables : List Variable) (steps : List Step) (
   forms : are_fine_steps variables [] steps ≡ true
   forms = (and_parts (are_fine_names [] variables) (are_fine_steps variables [] steps) fine).1
 
+  -- the parts of the other tree
   whole_parts : Spells (map word opening ++ (flat_map declaration variables ++ body variables steps)) tokens
   whole_parts = subst (λ (p : List Piece). Spells p tokens) (parted variables steps) spelled
 
+  -- another tree would have declarations
   pub none_undeclared : (opened : List Token) → IsOpened tokens opened → NoDeclarations opened → ⊥
   none_undeclared opened o fails = fails variables (body variables steps) names (declarations_end variables steps names forms)
       ((o (flat_map declaration variables ++ body variables steps)).0 whole_parts)
@@ -119,6 +129,7 @@ module _ (tokens : List Token) (variables : List Variable) (steps : List Step) (
 
 -- ---- trees
 
+-- the tree of these parts
 made_of : (variables : List Variable) (steps : List Step) → is_fine variables steps ≡ true → Straight
 made_of variables steps fine = record { variables = variables; steps = steps; fine = fine }
 

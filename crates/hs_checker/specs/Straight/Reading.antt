@@ -36,8 +36,6 @@ abbrev pub ◌>>=◌ : {A B : Type 0} → Option A → (A → Option B) → Opti
 None >>= f = None
 (Some x) >>= f = f x
 
--- ---- tokens
-
 -- the first token, whichever it is
 unfoldable pub first_at : List Token → Option (Token × List Token)
 first_at [] = None
@@ -59,8 +57,6 @@ marks_at [] tokens = Some tokens
 marks_at (text ∷ texts) tokens = do
   first ← mark_at text tokens
   marks_at texts first.1
-
--- ---- numbers and names
 
 -- one byte alone
 abbrev pub has_one : List ℕ → Bool
@@ -100,8 +96,6 @@ variable_at variables tokens = do
   number ← number_of variables first.0.text
   Some (number, first.1)
 
--- ---- declarations, with their semicolon
-
 -- the second star of a handle, where it stands
 unfoldable pub second_star_at : List Token → Option (Kind × List Token)
 second_star_at tokens =
@@ -126,8 +120,6 @@ declaration_at earlier tokens = do
   name ← first_at kind.1
   mark ← mark_at (codes ";") name.1
   if is_fine_name earlier name.0.text then Some (record { kind = kind.0; name = name.0.text }, mark.1) else None
-
--- ---- expressions
 
 -- the expression that one token is: a name or a number
 unfoldable pub word_value : List Variable → Token → Option Expr
@@ -156,8 +148,6 @@ load_at variables tokens = do
 -- an expression: only what is loaded begins with a star
 unfoldable pub expr_at : List Variable → List Token → Option (Expr × List Token)
 expr_at variables tokens = if is_at (codes "*") tokens then load_at variables tokens else word_at variables tokens
-
--- ---- steps
 
 -- a handle in parentheses
 unfoldable pub handle_at : List Variable → List Token → Option (ℕ × List Token)
