@@ -1,12 +1,10 @@
 -- The verdict on a file, from the tree that was read and its count.
-use Rattle.std.proofs.Common.{◌≡◌, ℕ, ◌<◌, ◌≤◌, List, [], ◌∷◌, length, Option, Some, None}
-use Rattle.hs_base.specs.Files.{Listing, Counts}
+use Rattle.std.proofs.Common.{ℕ, ◌≤◌, List, length, Option, Some, None}
+use Rattle.hs_base.specs.Files.{Listing}
 use Rattle.hs_tree.specs.declared.straight.tree.Straight.{Straight}
 use Rattle.hs_meaning.specs.Straight.StaleUses.{HasStaleUses}
 use Rattle.hs_checker.specs.Source.{FileHas, most_bytes, IsTheTree}
-use Rattle.handlecheck.specs.Report.{HasTreeOf, IsCheck, IsVerdict, IsReport}
-use Rattle.handlecheck.specs.declared.report.Report.{Report}
-use Rattle.handlecheck.specs.declared.report.Report.TheVariants.{Accepted, Hazards, Unbuilt, Usage, Missing, Unread, Limited, NoMemory}
+use Rattle.handlecheck.specs.Report.{HasTreeOf}
 
 -- what follows of a file's bytes
 pub FileHas-from : (told : Option Listing) (name : List ℕ) (P Q : List ℕ → Type 0) → ((text : List ℕ) → P text → Q text) → FileHas told name P → FileHas told name Q
@@ -18,15 +16,3 @@ pub HasTreeOf-from : (told : Option Listing) (name : List ℕ) (tree : Straight)
     → FileHas told name (λ text. (length text ≤ most_bytes) × IsTheTree text tree) → FileHas told name (HasTreeOf n)
 HasTreeOf-from told name tree n counted =
     FileHas-from told name (λ text. (length text ≤ most_bytes) × IsTheTree text tree) (HasTreeOf n) (λ text has. (has.0, (tree, has.1, counted)))
-
--- a verdict on the file that the words name is a report
-pub IsReport-from : (told : Option Listing) (words : List (List ℕ)) (name : List ℕ) (before now : Counts) (report : Report) → IsCheck words name
-    → IsVerdict told name before now report → IsReport told words before now report
-IsReport-from told words name before now Accepted is_check verdict = (name, is_check, verdict)
-IsReport-from told words name before now (Hazards count) is_check verdict = (name, is_check, verdict)
-IsReport-from told words name before now Unbuilt is_check verdict = (name, is_check, verdict)
-IsReport-from told words name before now Usage is_check verdict = absurd verdict
-IsReport-from told words name before now (Missing missing) is_check verdict = (name, is_check, verdict)
-IsReport-from told words name before now (Unread unread) is_check verdict = (name, is_check, verdict)
-IsReport-from told words name before now (Limited limit) is_check verdict = (name, is_check, verdict)
-IsReport-from told words name before now NoMemory is_check verdict = (name, is_check, verdict)

@@ -3,7 +3,7 @@
 --     status_of report            its status
 --     IsReport ..                 what the report says is so
 --     IsAnswered ..               the answer of a call: a report that is right, put whole, or cut by a write fault
-use Rattle.std.specs.Prelude.{◌≡◌, ℕ, ◌<◌, ◌≤◌, List, [], ◌∷◌, ◌++◌, length, codes, Option, Some, None, Result, Ok, Err, IfSome, ◌⊎◌}
+use Rattle.std.specs.Prelude.{◌≡◌, ℕ, ◌<◌, ◌≤◌, List, [], ◌∷◌, ◌++◌, length, codes, Option, Some, None, Result, Ok, Err, ◌⊎◌}
 use Rattle.std.specs.Fmt.{decimal}
 use Rattle.hs_base.specs.Count.{HasRisen, IsSteady}
 use Rattle.hs_base.specs.Files.{Listing, Counts, file_of}
@@ -21,9 +21,11 @@ use Rattle.handlecheck.specs.declared.report.Report.TheVariants.{Accepted, Hazar
 use Rattle.handlecheck.specs.declared.status.Status.{Status}
 use Rattle.handlecheck.specs.declared.status.Status.TheVariants as status
 
+-- a text and its LF
 abbrev pub line : List ℕ → List ℕ
 line text = text ++ 10 ∷ []
 
+-- the line that is put for a report
 abbrev pub text_of : Report → List ℕ
 text_of Accepted = line (codes "accepted")
 text_of (Hazards count) = line (codes "hazards " ++ decimal count)
@@ -34,6 +36,7 @@ text_of (Unread name) = line (codes "unread " ++ name)
 text_of (Limited limit) = line (codes "limit " ++ word_of limit.kind ++ 32 ∷ decimal limit.reached)
 text_of NoMemory = line (codes "no memory")
 
+-- the status of a report that was put whole
 abbrev pub status_of : Report → Status
 status_of Accepted = status.Done
 status_of (Hazards count) = status.Hazards
@@ -80,6 +83,7 @@ IsVerdict told name before now Usage = ⊥
 abbrev pub IsNoCheck : List (List ℕ) → Type 0
 IsNoCheck words = (name : List ℕ) → IsCheck words name → ⊥
 
+-- the report is right: of the words, or of the file that they name
 abbrev pub IsReport : Option Listing → List (List ℕ) → Counts → Counts → Report → Type 0
 IsReport told words before now Usage = IsNoCheck words
 IsReport told words before now report = (name : List ℕ) × IsCheck words name × IsVerdict told name before now report
@@ -100,37 +104,83 @@ pub record IsPutAs (text : List ℕ) (wanted : Status) (before now : Written) (a
   pub is_put : IsPut text before.bytes now.bytes before.faults now.faults put
   pub is_status : answer ≡ status_after wanted put
 
+-- What a call is about: what the files tell, the words, the files' counts before it and after it, and the sink before it
+-- and after it.
+pub record Call : Type 0 where
+  pub told : Option Listing
+  pub words : List (List ℕ)
+  pub before : Counts
+  pub now : Counts
+  pub old : Written
+  pub new : Written
+
 -- what a call did: a report that is right was put
-pub record IsAnswered (told : Option Listing) (words : List (List ℕ)) (before now : Counts) (old new : Written) (answer : Status) : Type 0 where
+pub record IsAnswered (call : Call) (answer : Status) : Type 0 where
   pub report : Report
-  pub is_report : IsReport told words before now report
-  pub is_put : IsPutAs (text_of report) (status_of report) old new answer
+  pub is_report : IsReport call.told call.words call.before call.now report
+  pub is_put : IsPutAs (text_of report) (status_of report) call.old call.new answer
 
 -- The words ask for the check of a file, the listing is told and says this of it, and no fault rose in the call.
-pub record Asks (told : Option Listing) (words : List (List ℕ)) (before now : Counts) (text : Option (List ℕ)) : Type 0 where
+pub record Asks (call : Call) (text : Option (List ℕ)) : Type 0 where
   pub files : Listing
   pub name : List ℕ
-  pub is_told : told ≡ Some files
-  pub is_check : IsCheck words name
+  pub is_told : call.told ≡ Some files
+  pub is_check : IsCheck call.words name
   pub is_text : file_of files name ≡ text
-  pub is_steady : IsSteady before.faults now.faults
+  pub is_steady : IsSteady call.before.faults call.now.faults
+
+-- they ask for the check of a file of these bytes, that are not too many
+abbrev pub AsksText : Call → List ℕ → Type 0
+AsksText call text = Asks call (Some text) × (length text ≤ most_bytes)
 
 -- the answer is this status, but for a write fault and for want of memory
 abbrev pub IsBut : Status → Status → Type 0
 IsBut wanted answer = (answer ≡ wanted) ⊎ (answer ≡ status.Unwritten) ⊎ (answer ≡ status.NoMemory)
 
 -- the words ask for the check of a file, of which this holds
-abbrev pub Checks : List (List ℕ) → (List ℕ → Type 0) → Type 0
-Checks words P = (name : List ℕ) × IsCheck words name × P name
+abbrev pub Checks : Call → (List ℕ → Type 0) → Type 0
+Checks call P = (name : List ℕ) × IsCheck call.words name × P name
 
--- The headline: the named file is a straight program, and it is safe, for every input, number of turns and schedule.
-abbrev pub IsSafeFile : Option Listing → List ℕ → Type 0
-IsSafeFile told name = FileHas told name (λ text. (tree : Straight) × IsTheTree text tree × IsSafe tree)
+-- and where the listing is told the file is there and this holds of its bytes
+abbrev pub ChecksText : Call → (List ℕ → Type 0) → Type 0
+ChecksText call P = Checks call (λ name. FileHas call.told name P)
+
+-- the bytes spell one straight program, and it is safe, for every input, number of turns and schedule of moves
+abbrev pub SpellsSafe : List ℕ → Type 0
+SpellsSafe text = (tree : Straight) × IsTheTree text tree × IsSafe tree
+
+-- the headline: an accepted file is a straight program and safe
+abbrev pub Headline : Call → Status → Type 0
+Headline call answer = answer ≡ status.Done → ChecksText call SpellsSafe
 
 -- the named file has stale uses, and their number was put
-abbrev pub IsRejectedFile : Option Listing → Written → Written → List ℕ → Type 0
-IsRejectedFile told old new name = (count : ℕ) × (0 < count) × FileHas told name (HasTreeOf count) × IsPutAs (text_of (Hazards count)) status.Hazards old new status.Hazards
+abbrev pub IsRejectedFile : Call → List ℕ → Type 0
+IsRejectedFile call name =
+    (count : ℕ) × (0 < count) × FileHas call.told name (HasTreeOf count) × IsPutAs (text_of (Hazards count)) status.Hazards call.old call.new status.Hazards
 
 -- the named file is missing, or its read failed
-abbrev pub IsUnreadFile : Option Listing → Counts → Counts → List ℕ → Type 0
-IsUnreadFile told before now name = IsMissing told name before now ⊎ HasRisen before.faults now.faults
+abbrev pub IsUnreadFile : Call → List ℕ → Type 0
+IsUnreadFile call name = IsMissing call.told name call.before call.now ⊎ HasRisen call.before.faults call.now.faults
+
+-- The causes of each status. A field with `only` in its name says what is so where the status came; its fellow says where
+-- it must come, but for a write fault and want of memory.
+pub record HasCauses (call : Call) (answer : Status) : Type 0 where
+  -- Done
+  pub accepted : (text : List ℕ) (tree : Straight) → AsksText call text → IsStraight text tree → HasStaleUses tree 0 → IsBut status.Done answer
+  -- Hazards: a stale use exists, and the number that was put is their count
+  pub hazards_only : answer ≡ status.Hazards → Checks call (IsRejectedFile call)
+  pub hazards : (text : List ℕ) (tree : Straight) (count : ℕ) → AsksText call text → IsStraight text tree → HasStaleUses tree count → 0 < count → IsBut status.Hazards answer
+  -- Refused: the file is not straight
+  pub unbuilt_only : answer ≡ status.Refused → ChecksText call IsUnbuilt
+  pub unbuilt : (text : List ℕ) → AsksText call text → SpellsNone text → IsBut status.Refused answer
+  -- Usage: the words have another form than `check FILE`; no memory is wanted for it
+  pub usage_only : answer ≡ status.Usage → IsNoCheck call.words
+  pub usage : IsNoCheck call.words → (answer ≡ status.Usage) ⊎ (answer ≡ status.Unwritten)
+  -- Unread: the file is missing, or its read failed
+  pub unread_only : answer ≡ status.Unread → Checks call (IsUnreadFile call)
+  pub missing : Asks call None → IsBut status.Unread answer
+  -- Limited: the file has too many bytes
+  pub limited_only : answer ≡ status.Limited → ChecksText call (λ text. most_bytes < length text)
+  pub limited : (text : List ℕ) → Asks call (Some text) → most_bytes < length text → IsBut status.Limited answer
+  -- Unwritten: the sink failed
+  pub unwritten_only : answer ≡ status.Unwritten → HasRisen call.old.faults call.new.faults

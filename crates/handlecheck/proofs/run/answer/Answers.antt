@@ -1,6 +1,5 @@
 -- The report that was put is right.
 use Rattle.handlecheck.specs.declared.report.Report.TheVariants.{Usage, NoMemory}
-use Rattle.handlecheck.proofs.Verdict.{IsReport-from}
 use Rattle.handlecheck.proofs.run.answer.Goals as goal
 
 pub returns-in_default-clause-answered : goal.returns-in_default-clause-answered

@@ -1,5 +1,5 @@
 -- The words are `check` and one name.
-use Rattle.std.proofs.Common.{sym, ap, ◌∙◌}
+use Rattle.std.proofs.Common.{sym, ◌∙◌}
 use Rattle.std.specs.String.{string_bytes}
 use Rattle.handlecheck.proofs.Words.{IsCheck-from}
 use Rattle.handlecheck.proofs.run.checked_roots.Goals as goal
