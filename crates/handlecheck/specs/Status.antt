@@ -3,6 +3,7 @@ use Rattle.std.specs.Prelude.{ℕ}
 use Rattle.handlecheck.specs.declared.status.Status.{Status}
 use Rattle.handlecheck.specs.declared.status.Status.TheVariants.{Done, Hazards, Refused, Usage, Unread, Unwritten, NoMemory, Limited, Unrepairable, Disagree, RanStale, RanStopped, RanOut}
 
+-- the place of the status, from 0
 abbrev pub code_of : Status → ℕ
 code_of Done = 0
 code_of Hazards = 1

@@ -27,14 +27,21 @@ fn words_after_name<R: Env + AllocGlobal>(rt: &R) -> io::Result<Vec<String>> {
     Ok(words)
 }
 
+/// Hands the words, the files of the system and standard output to `run`.
 fn main(rt: HostRuntime) -> ExitCode {
     let mut out = HostSink::new(io::writer(&rt));
-    let words = match words_after_name(&rt) {
-        Ok(words) => words,
-        // A word that is no text is no command, and has no form.
-        Err(_) => Vec::new(rt.alloc()),
+    let status = match words_after_name(&rt) {
+        Ok(words) => run(
+            rt.alloc(),
+            words.as_slice(),
+            &mut HostFiles::new(&rt),
+            &mut out,
+        ),
+        Err(error) => match error.kind() {
+            io::ErrorKind::OutOfMemory => run::refuse_memory(&mut out),
+            // A word that is no text is no name of a command, as no words are.
+            _ => run(rt.alloc(), &[], &mut HostFiles::new(&rt), &mut out),
+        },
     };
-    let mut files = HostFiles::new(&rt);
-    let status = run(rt.alloc(), words.as_slice(), &mut files, &mut out);
     ExitCode::from(status.code())
 }

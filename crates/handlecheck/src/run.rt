@@ -1,7 +1,7 @@
 ghost use Rattle.std.specs.Prelude.{◌≡◌, ℕ, List, [], ◌∷◌, map, length, IfNone, IfSome};
 ghost use Rattle.std.specs.String.{string_bytes};
 ghost use Rattle.hs_base.specs.Files.{NeverFall};
-ghost use Rattle.handlecheck.specs.Report.{IsCheck, IsNoCheck, IsVerdict, IsPutAs, IsAnswered, Headline, HasCauses};
+ghost use Rattle.handlecheck.specs.Report.{IsCheck, IsNoCheck, IsVerdict, IsPutAs, text_of, IsAnswered, Headline, HasCauses};
 
 use crate::report::{NO_MEMORY, USAGE};
 use crate::{Report, Status};
@@ -58,6 +58,14 @@ fn put<O: Sink>(out: &mut O, text: &[u8], status: Status) -> Status
         Ok(()) => status,
         Err(_) => Status::Unwritten,
     }
+}
+
+/// Says that there is no memory, where there was none for the words.
+pub(crate) fn refuse_memory<O: Sink>(out: &mut O) -> Status
+    ensures { IsPutAs (text_of Report.NoMemory) Status.NoMemory (record { bytes = O.written out.old; faults = O.faults out.old })
+        (record { bytes = O.written out.new; faults = O.faults out.new }) result }
+{
+    put(out, NO_MEMORY.as_bytes(), Status::NoMemory)
 }
 
 /// The whole of a call: the words, the file, its verdict, and the line that is put.

@@ -256,3 +256,52 @@ fn a_host_sink_fails_with_its_writer(rt: HostRuntime) -> Result<(), Fail> {
     assert!(rt; standard_output.put(b"a line of a test\n").is_ok());
     Ok(())
 }
+
+/// A writer that keeps what it is given in a list that is lent to it.
+#[derive(Drop)]
+struct Keeping<'a> {
+    bytes: &'a mut Vec<u8>,
+}
+
+impl Write for Keeping<'_> {
+    fn write(&mut self, buf: &[u8]) -> io::Result<usize> {
+        self.bytes.extend_from_slice(buf)?;
+        Ok(buf.len())
+    }
+
+    fn flush(&mut self) -> io::Result<()> {
+        Ok(())
+    }
+}
+
+// From a real file to a writer: the program, but for its words and its standard output.
+#[test]
+fn real_files_are_accepted_and_rejected(rt: HostRuntime) -> Result<(), Fail> {
+    let alloc = rt.alloc();
+    let folder = env::temp_dir(&rt)?;
+    let Some(folder) = folder.as_path().to_str() else {
+        return Err(Fail::from("the folder's name is no text"));
+    };
+    let name = format!(in alloc; "{folder}/handlecheck-real-file.c")?;
+    let words = vec![in alloc; "check".to_string(alloc)?, name.clone()?]?;
+    let rows: [(&str, Status, &[u8]); 2] = [
+        ("HLock(h);", Status::Done, b"accepted\n"),
+        ("", Status::Hazards, b"hazards 1\n"),
+    ];
+    for (lock, status, line) in rows {
+        let text = format!(in alloc;
+            "{PRELUDE}int main(void) {{ char **h; char *p; h = NewHandle(4); {lock} p = *h; h = NewHandle(4); putchar(*p); return 0; }}\n"
+        )?;
+        fs::write(&rt, name.as_str(), text.as_str())?;
+        let mut written = Vec::new(alloc);
+        let mut out = HostSink::new(Keeping {
+            bytes: &mut written,
+        });
+        let answer = run(alloc, words.as_slice(), &mut HostFiles::new(&rt), &mut out);
+        drop(out);
+        assert_eq!(rt; answer, status);
+        assert!(rt; written.as_slice() == line);
+    }
+    fs::remove_file(&rt, name.as_str())?;
+    Ok(())
+}

@@ -7,5 +7,6 @@ use Rattle.std.specs.Prelude.{◌≡◌, ℕ, ◌-◌, ◌^◌, ◌<◌}
 abbrev pub HasRisen : ℕ → ℕ → Type 0
 HasRisen before now = before < 2 ^ 64 - 1 → before < now
 
+-- The count did not rise: it stays where it was, below the end of its type.
 abbrev pub IsSteady : ℕ → ℕ → Type 0
 IsSteady before now = (before < 2 ^ 64 - 1) × (now ≡ before)

@@ -20,6 +20,7 @@ number_of Report = 16777216
 number_of Output = 16777216
 number_of Script = 4000000
 
+-- the word of a report for the kind
 abbrev pub word_of : LimitKind → List ℕ
 word_of Files = codes "Files"
 word_of FileBytes = codes "FileBytes"

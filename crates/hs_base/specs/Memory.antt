@@ -19,6 +19,7 @@ raised count = min (count + 1) (2 ^ 64 - 1)
 abbrev pub is_among : List ℕ → ℕ → Bool
 is_among numbers number = list_any (λ n. n == number) numbers
 
+-- what a contract sees of files in memory
 pub record MemoryFiles : Type 0 where
   pub listing : Listing
   -- the numbers, from 1, of the reads that fail
@@ -27,6 +28,7 @@ pub record MemoryFiles : Type 0 where
   pub misses : ℕ
   pub faults : ℕ
 
+-- an answer by the file alone: missing, too long, or its bytes unless memory runs out
 abbrev pub AnswersFile : ℕ → Option (List ℕ) → Result Unit FileEnd → Type 0
 AnswersFile max None result = result ≡ Err end.Missing
 AnswersFile max (Some bytes) result = MatchBool (nat_lt max (length bytes)) (result ≡ Err end.TooLong) (IsOkUnless result end.NoMemory)
@@ -35,6 +37,7 @@ AnswersFile max (Some bytes) result = MatchBool (nat_lt max (length bytes)) (res
 abbrev pub AnswersRead : MemoryFiles → List ℕ → ℕ → Result Unit FileEnd → Type 0
 AnswersRead files name max result = MatchBool (is_among files.failing (raised files.reads)) (result ≡ Err end.Failed) (AnswersFile max (file_of files.listing name) result)
 
+-- what a contract sees of a sink in memory
 pub record MemorySink : Type 0 where
   pub written : List ℕ
   -- how many bytes it may hold

@@ -14,6 +14,7 @@ use Rattle.hs_base.specs.declared.errors.FileEnd.TheVariants as ends
 use Rattle.hs_checker.specs.declared.source.SourceError.{SourceError}
 use Rattle.hs_checker.specs.declared.source.SourceError.TheVariants.{Missing, ReadFault, Limit, Unbuilt, NoMemory}
 
+-- of a file that is told: it is listed, and this holds of its bytes
 abbrev pub FileHas : Option Listing → List ℕ → (List ℕ → Type 0) → Type 0
 FileHas told name P = IfSome told (λ files. (text : List ℕ) × (file_of files name ≡ Some text) × P text)
 
@@ -21,6 +22,7 @@ FileHas told name P = IfSome told (λ files. (text : List ℕ) × (file_of files
 abbrev pub most_bytes : ℕ
 most_bytes = number_of FileBytes
 
+-- the bytes spell this tree and no other
 abbrev pub IsTheTree : List ℕ → Straight → Type 0
 IsTheTree text tree = IsStraight text tree × ((other : Straight) → IsStraight text other → other ≡ tree)
 
@@ -32,6 +34,7 @@ SpellsNone text = (tree : Straight) → IsStraight text tree → ⊥
 abbrev pub IsMissing : Option Listing → List ℕ → Counts → Counts → Type 0
 IsMissing told name before now = HasRisen before.misses now.misses × IfSome told (λ files. IsSteady before.faults now.faults → file_of files name ≡ None)
 
+-- the counts are those of the files, before the call and after it
 abbrev pub IsSource : Option Listing → List ℕ → Counts → Counts → Result Straight SourceError → Type 0
 IsSource told name before now (Ok tree) = FileHas told name (λ text. (length text ≤ most_bytes) × IsTheTree text tree)
 IsSource told name before now (Err (Missing missing)) = (missing ≡ name) × IsMissing told name before now

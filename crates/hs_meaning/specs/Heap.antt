@@ -33,6 +33,7 @@ live_size Emptied size = size
 live_size Purged size = size
 live_size Disposed size = 0
 
+-- the bytes of all blocks that count as live
 abbrev pub live_bytes : List Block → ℕ
 live_bytes heap = sum_by (λ block. live_size block.presence (length block.cells)) heap
 
@@ -47,6 +48,7 @@ is_disposed Present = false
 is_disposed Emptied = false
 is_disposed Purged = false
 
+-- the tests of a use, in their order
 abbrev pub used_block : Spot → Block → Result Block Stop
 used_block s block =
     if is_disposed block.presence then Err stop.Disposed
@@ -55,10 +57,12 @@ used_block s block =
     else if nat_le (length block.cells) s.offset then Err stop.Range
     else Ok block
 
+-- no pointer has the number of a block that was never made
 abbrev pub used_if : Spot → Option Block → Result Block Stop
 used_if s None = Err stop.BadPointer
 used_if s (Some block) = used_block s block
 
+-- the block that a pointer into it reaches
 abbrev pub used : List Block → Spot → Result Block Stop
 used heap s = used_if s (block_at heap s.block)
 
@@ -68,6 +72,7 @@ loaded_cell (Some (Byte byte)) = Ok (char_of byte)
 loaded_cell (Some undefined) = Err stop.Undefined
 loaded_cell None = Err stop.Range
 
+-- the char in the cell that the pointer reaches
 abbrev pub loaded_from : Spot → Result Block Stop → Result Value Stop
 loaded_from s (Ok block) = loaded_cell (slice_get block.cells s.offset)
 loaded_from s (Err kind) = Err kind
@@ -76,6 +81,7 @@ loaded_from s (Err kind) = Err kind
 abbrev pub load_char : List Block → Spot → Result Value Stop
 load_char heap s = loaded_from s (used heap s)
 
+-- the heap with the byte in that cell
 abbrev pub stored_in : List Block → Spot → ℕ → Result Block Stop → Result (List Block) Stop
 stored_in heap s byte (Ok block) = Ok (put_block heap s.block (record block { cells = slice_set block.cells s.offset (Byte byte) }))
 stored_in heap s byte (Err kind) = Err kind
@@ -91,10 +97,12 @@ master_of number block Emptied = Ok nil
 master_of number block Purged = Err stop.Purged
 master_of number block Disposed = Err stop.Disposed
 
+-- no handle has the number of a block that was never made
 abbrev pub master_if : ℕ → Option Block → Result Value Stop
 master_if number None = Err stop.BadHandle
 master_if number (Some block) = master_of number block block.presence
 
+-- the master pointer of the block of that number
 abbrev pub master : List Block → ℕ → Result Value Stop
 master heap number = master_if number (block_at heap number)
 
@@ -105,9 +113,11 @@ lock_set on heap number block Emptied = Ok heap
 lock_set on heap number block Purged = Err stop.Purged
 lock_set on heap number block Disposed = Err stop.Disposed
 
+-- no handle has the number of a block that was never made
 abbrev pub lock_if : Bool → List Block → ℕ → Option Block → Result (List Block) Stop
 lock_if on heap number None = Err stop.BadHandle
 lock_if on heap number (Some block) = lock_set on heap number block block.presence
 
+-- the heap after an HLock or HUnlock of the block of that number
 abbrev pub set_lock : Bool → List Block → ℕ → Result (List Block) Stop
 set_lock on heap number = lock_if on heap number (block_at heap number)

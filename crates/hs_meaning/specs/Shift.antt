@@ -13,6 +13,7 @@ use Rattle.hs_meaning.specs.declared.decision.Which.{Which}
 use Rattle.hs_meaning.specs.declared.decision.Which.TheVariants.{All, These}
 use Rattle.hs_meaning.specs.declared.decision.Decision.{Decision}
 
+-- the decision names the block
 abbrev pub is_named : Which → ℕ → Bool
 is_named All block = true
 is_named (These numbers) block = list_any (λ number. number == block) numbers
@@ -22,6 +23,7 @@ pub record Powers : Type 0 where
   pub moves : Bool
   pub purges : Bool
 
+-- it has its cells
 abbrev pub is_present : Presence → Bool
 is_present Present = true
 is_present Emptied = false
@@ -32,21 +34,26 @@ is_present Disposed = false
 abbrev pub is_loose : Block → Bool
 is_loose block = is_present block.presence && not block.locked
 
+-- the decision moves the block
 abbrev pub is_moved : Powers → Decision → ℕ → Block → Bool
 is_moved powers decision number block = (powers.moves || powers.purges) && is_named decision.moves number && is_loose block
 
+-- the decision purges the block
 abbrev pub is_purged : Powers → Decision → ℕ → Block → Bool
 is_purged powers decision number block = powers.purges && is_named decision.purges number && is_loose block && block.purgeable
 
+-- one block after the decision; its epoch rises once, also where it is named twice
 abbrev pub shifted : Powers → Decision → ℕ → Block → Block
 shifted powers decision number block =
     if is_purged powers decision number block then record block { epoch = block.epoch + 1; presence = Purged }
     else if is_moved powers decision number block then record block { epoch = block.epoch + 1 }
     else block
 
+-- the blocks from that number on, after the decision
 abbrev pub shift_from : Powers → Decision → ℕ → List Block → List Block
 shift_from powers decision number [] = []
 shift_from powers decision number (block ∷ blocks) = shifted powers decision number block ∷ shift_from powers decision (suc number) blocks
 
+-- the heap after the decision: blocks are numbered from 1
 abbrev pub shift : Powers → Decision → List Block → List Block
 shift powers decision heap = shift_from powers decision 1 heap

@@ -12,6 +12,7 @@ pub record Spot : Type 0 where
   pub epoch : ℕ
   pub offset : ℕ
 
+-- what a variable holds
 pub data Value : Type 0 where
   number : ℤ → Value
   nil : Value
@@ -25,5 +26,6 @@ byte_of nil = 0
 byte_of (handle block) = 0
 byte_of (spot s) = 0
 
+-- the number that a char object of that byte has
 abbrev pub char_of : ℕ → Value
 char_of byte = number (cast_signed w8 byte)

@@ -8,6 +8,8 @@ mod decision;
 mod input;
 mod outcome;
 pub mod straight;
+#[cfg(test)]
+mod tests;
 
 pub use block::{Block, Cell, Cells, Presence};
 pub use decision::{Decision, Which};

@@ -2,6 +2,8 @@
 //! when whole programs are checked.
 
 mod lists;
+#[cfg(test)]
+mod tests;
 mod token;
 mod tree;
 

@@ -34,17 +34,21 @@ kept_by done step derivation =
       is_stale = derivation.is_stale || (calls_new_handle step && not (derivation.is_same && is_locked_after derivation.handle done));
     }
 
+-- what is known, where anything is
 abbrev pub kept_if : List Step → Step → Option Derivation → Option Derivation
 kept_if done step None = None
 kept_if done step (Some derivation) = Some (kept_by done step derivation)
 
+-- what is known of the pointer after the steps
 abbrev pub derived_after : ℕ → List Step → Option Derivation
 derived_after pointer [] = None
 derived_after pointer (step ∷ done) = if assigns pointer step then derived_by step else kept_if done step (derived_after pointer done)
 
+-- a pointer of which nothing is known is not stale
 abbrev pub is_stale_derivation : Option Derivation → Bool
 is_stale_derivation None = false
 is_stale_derivation (Some derivation) = derivation.is_stale
 
+-- the pointer is stale after the steps
 abbrev pub is_stale_after : ℕ → List Step → Bool
 is_stale_after pointer done = is_stale_derivation (derived_after pointer done)

@@ -44,6 +44,7 @@ pub record Halt : Type 0 where
   pub kind : Stop
   pub pos : Pos
 
+-- a stop ends what follows
 infixl 10 ◌>>=◌
 abbrev pub ◌>>=◌ : {A B : Type 0} → Result A Halt → (A → Result B Halt) → Result B Halt
 (Ok x) >>= f = f x
@@ -59,13 +60,16 @@ abbrev pub lookup : List (ℕ × Value) → ℕ → Option Value
 lookup [] variable = None
 lookup (entry ∷ entries) variable = if entry.0 == variable then Some entry.1 else lookup entries variable
 
+-- a variable without a value is undefined
 abbrev pub defined : Option Value → Result Value Stop
 defined None = Err stop.Undefined
 defined (Some value) = Ok value
 
+-- the value of a variable, or the stop
 abbrev pub value_of : State → ℕ → Result Value Stop
 value_of state variable = defined (lookup state.variables variable)
 
+-- the state with that value in the variable
 abbrev pub assigned : State → ℕ → Value → State
 assigned state variable value = record state { variables = (variable, value) ∷ state.variables }
 
@@ -97,6 +101,7 @@ lock_through on heap (handle block) = set_lock on heap block
 lock_through on heap (spot s) = Err stop.BadHandle
 lock_through on heap (number n) = Err stop.BadHandle
 
+-- the value of an expression, or the stop at its place
 abbrev pub eval : State → Expr → Result Value Halt
 eval state (expr.Letter pos letter) = at_place pos (value_of state letter)
 eval state (expr.Load pos pointer) = do
@@ -109,6 +114,7 @@ abbrev pub next_decision : List Decision → Decision
 next_decision [] = record { moves = These []; purges = These [] }
 next_decision (decision ∷ later) = decision
 
+-- the decisions behind the next one
 abbrev pub later_decisions : List Decision → List Decision
 later_decisions [] = []
 later_decisions (decision ∷ later) = later
@@ -131,12 +137,14 @@ allocated input state variable size =
     then record state { variables = (variable, handle (length state.heap + 1)) ∷ state.variables; heap = state.heap ++ new_block size ∷ []; allocations = state.allocations + 1 }
     else record state { variables = (variable, nil) ∷ state.variables; allocations = state.allocations + 1 }
 
+-- HLock and HUnlock of a variable
 abbrev pub locked_by : Bool → State → Pos → ℕ → Result State Halt
 locked_by on state pos variable = do
   value ← at_place pos (value_of state variable)
   heap ← at_place pos (lock_through on state.heap value)
   Ok (record state { heap = heap })
 
+-- one step
 abbrev pub after : Input → State → Step → Result State Halt
 after input state (step.NewHandle variable size) = Ok (allocated input (shifted_by new_handle_powers state) variable size)
 after input state (step.HLock pos variable) = locked_by true state pos variable
@@ -162,14 +170,17 @@ pub record Ending : Type 0 where
   pub output : List ℕ
   pub outcome : Outcome
 
+-- a stop ends the run, with the output so far
 abbrev pub going_on : State → Result State Halt → (State → Ending) → Ending
 going_on state (Ok next) go = go next
 going_on state (Err halt) go = record { output = state.output; outcome = Stopped halt.kind halt.pos }
 
+-- the steps, one after another
 abbrev pub run_from : Input → State → List Step → Ending
 run_from input state [] = record { output = state.output; outcome = Finished (integer 0) }
 run_from input state (step ∷ steps) = going_on state (after input state step) (λ next. run_from input next steps)
 
+-- before the first step
 abbrev pub start : List Decision → State
 start schedule = record { variables = []; heap = []; schedule = schedule; allocations = 0; output = [] }
 
@@ -177,6 +188,7 @@ start schedule = record { variables = []; heap = []; schedule = schedule; alloca
 abbrev pub run : Straight → Input → List Decision → ℕ → Ending
 run tree input schedule turns = run_from input (start schedule) tree.steps
 
+-- the run on the heap that never moves
 abbrev pub still_run : Straight → Input → ℕ → Ending
 still_run tree input turns = run tree input [] turns
 
@@ -186,6 +198,7 @@ IsMisuse (Stopped stop.Stale pos) = Unit {0}
 IsMisuse (Stopped stop.Purged pos) = Unit {0}
 IsMisuse _ = ⊥
 
+-- no schedule changes a run, and no run uses a stale pointer or a purged handle
 abbrev pub IsSafe : Straight → Type 0
 IsSafe tree =
     (input : Input) (schedule : List Decision) (turns : ℕ)

@@ -21,11 +21,13 @@ pub record Use : Type 0 where
   pub done : List Step
   pub pointer : ℕ
 
+-- the pointers that an expression reads through
 abbrev pub expr_uses : Expr → List ℕ
 expr_uses (expr.Letter pos letter) = []
 expr_uses (expr.Load pos pointer) = pointer ∷ []
 expr_uses (expr.Number value) = []
 
+-- the pointers that a step uses, in the order of the text
 abbrev pub step_uses : Step → List ℕ
 step_uses (step.NewHandle handle size) = []
 step_uses (step.HLock pos handle) = []
@@ -35,13 +37,16 @@ step_uses (step.Set letter value) = expr_uses value
 step_uses (step.Store pos pointer value) = pointer ∷ expr_uses value
 step_uses (step.Putchar value) = expr_uses value
 
+-- the uses in the steps, after the steps done
 abbrev pub uses_after : List Step → List Step → List Use
 uses_after done [] = []
 uses_after done (step ∷ steps) = map (λ pointer. record { done = done; pointer = pointer }) (step_uses step) ++ uses_after (step ∷ done) steps
 
+-- the uses in all steps
 abbrev pub uses : List Step → List Use
 uses steps = uses_after [] steps
 
+-- the step calls NewHandle, the one routine that may move
 abbrev pub calls_new_handle : Step → Bool
 calls_new_handle (step.NewHandle handle size) = true
 calls_new_handle (step.HLock pos handle) = false
@@ -51,6 +56,7 @@ calls_new_handle (step.Set letter value) = false
 calls_new_handle (step.Store pos pointer value) = false
 calls_new_handle (step.Putchar value) = false
 
+-- the step is an HLock of the handle
 abbrev pub locks : ℕ → Step → Bool
 locks variable (step.HLock pos handle) = handle == variable
 locks variable (step.NewHandle handle size) = false
@@ -60,6 +66,7 @@ locks variable (step.Set letter value) = false
 locks variable (step.Store pos pointer value) = false
 locks variable (step.Putchar value) = false
 
+-- the step is an HUnlock of the handle
 abbrev pub unlocks : ℕ → Step → Bool
 unlocks variable (step.HUnlock pos handle) = handle == variable
 unlocks variable (step.NewHandle handle size) = false

@@ -27,9 +27,11 @@ pub record Piece : Type 0 where
   pub text : List ℕ
   pub pos : Option Pos
 
+-- a token whose place the tree does not have
 abbrev pub word : List ℕ → Piece
 word text = record { text = text; pos = None }
 
+-- a token whose place the tree has
 abbrev pub placed : Pos → List ℕ → Piece
 placed pos text = record { text = text; pos = Some pos }
 
@@ -38,9 +40,11 @@ abbrev pub name_in : Option Variable → List ℕ
 name_in None = []
 name_in (Some variable) = variable.name
 
+-- the name of a variable, by its number
 abbrev pub name_of : List Variable → ℕ → List ℕ
 name_of variables number = name_in (slice_get variables number)
 
+-- the tokens of an expression
 abbrev pub expr_spelling : List Variable → Expr → List Piece
 expr_spelling variables (expr.Letter pos letter) = placed pos (name_of variables letter) ∷ []
 expr_spelling variables (expr.Load pos pointer) = placed pos (codes "*") ∷ word (name_of variables pointer) ∷ []
@@ -63,6 +67,7 @@ step_spelling variables (step.Store pos pointer value) =
 step_spelling variables (step.Putchar value) =
     word (codes "putchar") ∷ word (codes "(") ∷ (expr_spelling variables value ++ word (codes ")") ∷ [])
 
+-- the stars of a declaration
 abbrev pub stars_of : Kind → List Piece
 stars_of Handle = word (codes "*") ∷ word (codes "*") ∷ []
 stars_of Pointer = word (codes "*") ∷ []
@@ -84,6 +89,7 @@ opening = map (λ token. token.text) (tokens_of (codes "char **NewHandle(long n)
 abbrev pub closing : List (List ℕ)
 closing = codes "return" ∷ codes "0" ∷ codes ";" ∷ codes "}" ∷ []
 
+-- the tokens of a file
 abbrev pub spelling : List Variable → List Step → List Piece
 spelling variables steps =
     map word opening
@@ -98,5 +104,6 @@ Spells (piece ∷ pieces) (token ∷ tokens) = (token.text ≡ piece.text) × If
 Spells [] (token ∷ tokens) = ⊥
 Spells (piece ∷ pieces) [] = ⊥
 
+-- the bytes of a file spell the tree
 abbrev pub IsStraight : List ℕ → Straight → Type 0
 IsStraight text tree = Spells (spelling tree.variables tree.steps) (tokens_of text)

@@ -8,9 +8,11 @@ use Rattle.std.specs.Prelude.{ℕ, ◌+◌, ◌==◌, nat_le, Bool, true, false,
 use Rattle.hs_base.specs.declared.pos.Pos.{Pos}
 use Rattle.hs_tree.specs.declared.straight.token.Token.{Token}
 
+-- space, tab, LF or CR
 abbrev pub is_blank : ℕ → Bool
 is_blank byte = (byte == 32) || (byte == 9) || (byte == 10) || (byte == 13)
 
+-- 0 to 9
 abbrev pub is_digit : ℕ → Bool
 is_digit byte = nat_le 48 byte && nat_le byte 57
 
@@ -18,13 +20,16 @@ is_digit byte = nat_le 48 byte && nat_le byte 57
 abbrev pub is_letter : ℕ → Bool
 is_letter byte = (nat_le 65 byte && nat_le byte 90) || (nat_le 97 byte && nat_le byte 122) || (byte == 95)
 
+-- a byte of identifiers and numbers
 abbrev pub is_word_byte : ℕ → Bool
 is_word_byte byte = is_letter byte || is_digit byte
 
+-- a byte of a word stands first
 abbrev pub begins_word : List ℕ → Bool
 begins_word [] = false
 begins_word (byte ∷ rest) = is_word_byte byte
 
+-- that byte stands first
 abbrev pub begins_with : ℕ → List ℕ → Bool
 begins_with wanted [] = false
 begins_with wanted (byte ∷ rest) = byte == wanted
@@ -33,6 +38,7 @@ begins_with wanted (byte ∷ rest) = byte == wanted
 abbrev pub ends_line : ℕ → List ℕ → Bool
 ends_line byte rest = (byte == 10) || ((byte == 13) && not (begins_with 10 rest))
 
+-- the place of what follows the byte, with the rest behind it
 abbrev pub next_place : Pos → ℕ → List ℕ → Pos
 next_place at byte rest = if ends_line byte rest then record { file = at.file; line = at.line + 1; col = 1 } else record { file = at.file; line = at.line; col = at.col + 1 }
 
@@ -49,8 +55,10 @@ tokens_from at (byte ∷ rest) =
     else if is_word_byte byte && begins_word rest then lengthened at byte (tokens_from (next_place at byte rest) rest)
     else (record { text = byte ∷ []; pos = at } ∷ tokens_from (next_place at byte rest) rest)
 
+-- the place of the first byte
 abbrev pub text_start : Pos
 text_start = record { file = 0; line = 1; col = 1 }
 
+-- the tokens of a whole text
 abbrev pub tokens_of : List ℕ → List Token
 tokens_of text = tokens_from text_start text
