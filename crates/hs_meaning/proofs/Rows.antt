@@ -26,10 +26,10 @@ variables = record { kind = Handle; name = codes "h" } ∷ record { kind = Handl
 steps : List Step
 steps =
     step.NewHandle 0 4
-    ∷ step.Derive (place 68) 2 0
-    ∷ step.Store (place 75) 2 (expr.Number 65)
+    ∷ step.Derive (place 69) 2 0
+    ∷ step.Store (place 76) 2 (expr.Number 65)
     ∷ step.NewHandle 1 4
-    ∷ step.Putchar (expr.Load (place 107) 2)
+    ∷ step.Putchar (expr.Load (place 108) 2)
     ∷ []
 
 tree_is_fine : is_fine variables steps ≡ true
@@ -46,6 +46,6 @@ still_output : run_from nothing (start []) steps ≡ record { output = 65 ∷ []
 unfolding steps nothing place
 still_output = refl
 
-moving_stop : run_from nothing (start (moves_all ∷ moves_all ∷ [])) steps ≡ record { output = []; outcome = Stopped stop.Stale (place 107) }
+moving_stop : run_from nothing (start (moves_all ∷ moves_all ∷ [])) steps ≡ record { output = []; outcome = Stopped stop.Stale (place 108) }
 unfolding steps nothing moves_all place
 moving_stop = refl
