@@ -1,0 +1,5 @@
+pub mod Cursors
+pub mod Escapes
+pub mod Measures
+pub mod Parts
+mod Rows

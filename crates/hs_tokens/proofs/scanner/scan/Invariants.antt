@@ -1,0 +1,14 @@
+use Rattle.std.proofs.Common.{◌≡◌, ◌≤◌, vec_len}
+use Rattle.hs_tokens.specs.Scan.{scanned}
+use Rattle.hs_tokens.specs.Ahead.{ahead}
+use Rattle.hs_tokens.proofs.Parts.{to_come, joined}
+use Rattle.hs_tokens.proofs.scanner.scan.Given as goal
+
+abbrev pub invariant-parts : goal.invariant-parts
+invariant-parts l = record {
+  same : joined l.tokens.items (to_come (ahead l.rest) l.first l.spaced) ≡ scanned l.file l.text;
+  count : vec_len l.tokens ≤ l.room;
+}
+
+abbrev pub decreases-parts : goal.decreases-parts
+decreases-parts l = l.rest.left

@@ -1,0 +1,80 @@
+-- What the parts of the scanner say, in the definition's words.
+--     ahead cursor                    the bytes ahead, with their places
+--     bytes_ahead cursor              without
+--     placed_at step                  the byte of a step
+--     bytes_at step                   that byte, and those behind it
+--     IsLine cursor step              the step is at the first byte of phase 1
+--     IsNext cursor step              the step is at the first byte of phase 2
+--     IsSplice step behind            the cursor is behind the splice that begins there
+--     IsCharacter step behind         the cursor is behind the character that begins there
+--     HasCharacters content count     so many characters, or the place of the first bad escape
+--     form part                       the form that a part of the code stands for
+use Rattle.std.specs.Prelude.{ℕ, ◌+◌, ◌-◌, ◌<◌, ◌≤◌, ◌≡◌, true, false, List, [], ◌∷◌, length, drop, Option, Some, None, Result, Ok, Err}
+use Rattle.hs_base.specs.declared.pos.Pos.{Pos}
+use Rattle.hs_tokens.specs.Lines.{Placed, placed_from, unspliced}
+use Rattle.hs_tokens.specs.Literals.{character_len, is_bad_character}
+use Rattle.hs_tokens.specs.Forms.{bytes_of, characters, first_bad, Form, blank, line_end, comment, token, refused}
+use Rattle.hs_tokens.specs.Cursor.{ahead_of}
+use Rattle.hs_tokens.specs.declared.cursor.Cursor.{Cursor}
+use Rattle.hs_tokens.specs.declared.cursor.Step.{Step}
+use Rattle.hs_tokens.specs.declared.forms.Part.{Part}
+use Rattle.hs_tokens.specs.declared.forms.Part.TheVariants.{Blank, LineEnd, Comment, Token, Refused}
+
+-- the bytes ahead, phases 1 and 2 done
+abbrev pub ahead : Cursor → List Placed
+ahead cursor = ahead_of cursor.pos cursor.rest.now cursor.left
+
+-- without their places
+abbrev pub bytes_ahead : Cursor → List ℕ
+bytes_ahead cursor = bytes_of (ahead cursor)
+
+-- the bytes ahead, phase 1 done
+abbrev pub lines_ahead : Cursor → List Placed
+lines_ahead cursor = placed_from cursor.pos cursor.rest.now
+
+-- the byte of a step
+abbrev pub placed_at : Step → Placed
+placed_at step = record { byte = step.byte; pos = step.pos }
+
+-- that byte, and those behind it
+abbrev pub bytes_at : Step → List ℕ
+bytes_at step = step.byte ∷ bytes_ahead step.after
+
+-- the first byte of phase 1, or none at the end
+abbrev pub IsLine : Cursor → Option Step → Type 0
+IsLine cursor None = lines_ahead cursor ≡ []
+IsLine cursor (Some step) =
+    (lines_ahead cursor ≡ placed_at step ∷ lines_ahead step.after) × (length step.after.rest.now < length cursor.rest.now)
+    × (step.after.left ≡ cursor.left)
+
+-- the first byte of phase 2, or none at the end
+abbrev pub IsNext : Cursor → Option Step → Type 0
+IsNext cursor None = ahead cursor ≡ []
+IsNext cursor (Some step) = (ahead cursor ≡ placed_at step ∷ ahead step.after) × (step.after.left + 1 ≡ cursor.left)
+
+-- behind the splice that the byte of phase 1 begins, or none where it begins none
+abbrev pub IsSplice : Step → Option Cursor → Type 0
+IsSplice step None = unspliced (placed_at step ∷ lines_ahead step.after) ≡ placed_at step ∷ unspliced (lines_ahead step.after)
+IsSplice step (Some behind) =
+    (unspliced (placed_at step ∷ lines_ahead step.after) ≡ unspliced (lines_ahead behind))
+    × (length behind.rest.now < length step.after.rest.now)
+
+-- behind the character that the byte begins, or none where that is a bad escape
+abbrev pub IsCharacter : Step → Option Cursor → Type 0
+IsCharacter step None = is_bad_character (bytes_at step) ≡ true
+IsCharacter step (Some behind) =
+    (is_bad_character (bytes_at step) ≡ false) × (ahead behind ≡ drop (character_len (bytes_at step) - 1) (ahead step.after))
+    × (behind.left ≤ step.after.left)
+
+-- how many characters a content has, or the place of the first bad escape
+abbrev pub HasCharacters : List Placed → Result ℕ Pos → Type 0
+HasCharacters content (Ok count) = (count ≡ length (characters content)) × ((other : Pos) → first_bad other content ≡ None)
+HasCharacters content (Err bad) = (other : Pos) → first_bad other content ≡ Some bad
+
+-- what the definition calls a part
+abbrev pub form : Part → Form
+form Blank = blank
+form LineEnd = line_end
+form (Comment len) = comment len
+form (Token kind len) = token kind len
+form (Refused error) = refused error

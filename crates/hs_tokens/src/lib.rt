@@ -1,0 +1,17 @@
+//! The tokens of one text. `specs/` has the definition, phase by phase on whole lists; the scanner goes once over the
+//! bytes.
+#![tactic(auto)]
+
+mod characters;
+mod cursor;
+mod forms;
+mod literals;
+mod scan_error;
+mod scanner;
+#[cfg(test)]
+mod tests;
+mod token;
+
+pub use scan_error::ScanError;
+pub use scanner::scan;
+pub use token::{Origin, SourceToken, Token, TokenKind};

@@ -1,0 +1,244 @@
+use crate::{ScanError, Token, TokenKind, scan};
+use hs_base::{LimitKind, Pos};
+use std::alloc::{AllocError, Global};
+use std::test::Fail;
+
+/// Room for more tokens than any text here has.
+const ROOM: usize = 100;
+
+/// A place in the file that the tests scan.
+fn place(line: u32, col: u32) -> Pos {
+    Pos { file: 7, line, col }
+}
+
+/// Scans a short text as that file.
+fn scan_short(
+    alloc: Global,
+    text: &[u8],
+    room: usize,
+) -> Result<Result<Vec<Token>, ScanError>, Fail> {
+    if text.len() > 4096 {
+        return Err(Fail::new("the text is short"));
+    }
+    Ok(scan(alloc, text, 7, room))
+}
+
+/// The tokens, each with its kind's letter in front and a space behind.
+fn spelled(alloc: Global, tokens: &[Token]) -> Result<Vec<u8>, AllocError> {
+    let mut spelling = Vec::new(alloc);
+    for token in tokens {
+        let kind = match token.kind {
+            TokenKind::Identifier => b'I',
+            TokenKind::Number => b'N',
+            TokenKind::Character => b'C',
+            TokenKind::Literal => b'L',
+            TokenKind::Punctuator => b'P',
+        };
+        spelling.push(kind)?;
+        spelling.extend_from_slice(token.text.items())?;
+        spelling.push(b' ')?;
+    }
+    Ok(spelling)
+}
+
+// X3.159-1989 3.1: the longest token that can be made; 3.1.8: a preprocessing number; 3.1.9: comments hold no strings,
+// strings no comments, and two slashes are two operators; 2.1.1.2: splices come before all of it.
+#[test]
+fn texts_have_these_tokens(rt: HostRuntime) -> Result<(), Fail> {
+    let alloc = rt.alloc();
+    let expected: [(&[u8], &[u8]); 36] = [
+        (b"", b""),
+        (b" \t\n\x0b\x0c\n", b""),
+        (b"x+++++y", b"Ix P++ P++ P+ Iy "),
+        (b"0x1e+1", b"N0x1e+1 "),
+        (b".5.e-2x", b"N.5.e-2x "),
+        (b"1+1E+-2", b"N1 P+ N1E+ P- N2 "),
+        (b"a.5", b"Ia N.5 "),
+        (b"a.b", b"Ia P. Ib "),
+        (b"_a9 9_a", b"I_a9 N9_a "),
+        (b"a->b--=c", b"Ia P-> Ib P-- P= Ic "),
+        (b"<<=>>=<=>=<<>><>", b"P<<= P>>= P<= P>= P<< P>> P< P> "),
+        (b"....", b"P... P. "),
+        (b"..", b"P. P. "),
+        (b"###", b"P## P# "),
+        (b"&&&|||^=!=", b"P&& P& P|| P| P^= P!= "),
+        (b"[](){},;:?~", b"P[ P] P( P) P{ P} P, P; P: P? P~ "),
+        (b"*=/=%=+=-=&=|===", b"P*= P/= P%= P+= P-= P&= P|= P== "),
+        (b"a//*c*/b", b"Ia P/ Ib "),
+        (b"/*/ */x", b"Ix "),
+        (b"/***/x/**/", b"Ix "),
+        (b"/* \"a */ b", b"Ib "),
+        (b"\"/*\" b \"*/\"", b"L\"/*\" Ib L\"*/\" "),
+        (b"'/*' \"'\" '\"'", b"C'/*' L\"'\" C'\"' "),
+        (b"L\"a\"", b"IL L\"a\" "),
+        (b"ab\\\ncd", b"Iabcd "),
+        (b"\"x\\\ny\"", b"L\"xy\" "),
+        (b"/\\\n* c *\\\r\n/ z", b"Iz "),
+        (b"+\\\r+", b"P++ "),
+        (b"\\\n\\\nq\\\n", b"Iq "),
+        (b"\"\\\\\nn\"", b"L\"\\n\" "),
+        (
+            b"\"\\'\\\"\\?\\\\\\a\\b\\f\\n\\r\\t\\v\"",
+            b"L\"\\'\\\"\\?\\\\\\a\\b\\f\\n\\r\\t\\v\" ",
+        ),
+        (
+            b"'\\0' '\\377' '\\xfF' '\\3777'",
+            b"C'\\0' C'\\377' C'\\xfF' C'\\3777' ",
+        ),
+        (b"'a' 'ab' 'abc' 'abcd'", b"C'a' C'ab' C'abc' C'abcd' "),
+        (b"'\\x41\\101\\n?'", b"C'\\x41\\101\\n?' "),
+        (b"/*\x80*/ \"\x81\" '\xff'", b"L\"\x81\" C'\xff' "),
+        (b"\"\" \"\\p\" \"\\pabc\"", b"L\"\" L\"\\p\" L\"\\pabc\" "),
+    ];
+    for (text, spelling) in expected {
+        let tokens = scan_short(alloc, text, ROOM)??;
+        let found = spelled(alloc, tokens.as_slice())?;
+        assert_eq!(rt; found.as_slice(), spelling);
+    }
+    Ok(())
+}
+
+// Lines and byte columns count from 1, in the file as it is: a splice takes none of them back. A line's end is LF, CR or
+// CR LF. A comment is a space, whatever lines it spans (X3.159-1989 2.1.1.2 phase 3).
+#[test]
+fn tokens_have_these_places(rt: HostRuntime) -> Result<(), Fail> {
+    let alloc = rt.alloc();
+    let expected: [(&[u8], &[(u32, u32, bool, bool)]); 14] = [
+        (b"a", &[(1, 1, true, false)]),
+        (b" a b", &[(1, 2, true, true), (1, 4, false, true)]),
+        (
+            b"a+b",
+            &[
+                (1, 1, true, false),
+                (1, 2, false, false),
+                (1, 3, false, false),
+            ],
+        ),
+        (
+            b"a\n  b c\n",
+            &[(1, 1, true, false), (2, 3, true, true), (2, 5, false, true)],
+        ),
+        (
+            b"a\r\nb\rc\n\nd",
+            &[
+                (1, 1, true, false),
+                (2, 1, true, true),
+                (3, 1, true, true),
+                (5, 1, true, true),
+            ],
+        ),
+        (b"a\n\rb", &[(1, 1, true, false), (3, 1, true, true)]),
+        (b"a/**/b", &[(1, 1, true, false), (1, 6, false, true)]),
+        (b"a /* \n */ b", &[(1, 1, true, false), (2, 5, false, true)]),
+        (b"/* \r\n\r */ b", &[(3, 5, true, true)]),
+        (b"a\\\nb c", &[(1, 1, true, false), (2, 3, false, true)]),
+        (
+            b"a \\\r\n+ b",
+            &[
+                (1, 1, true, false),
+                (2, 1, false, true),
+                (2, 3, false, true),
+            ],
+        ),
+        (b"a\\\n+", &[(1, 1, true, false), (2, 1, false, false)]),
+        (b"\\\n\\\n a", &[(3, 2, true, true)]),
+        (b"\xe9", &[]),
+    ];
+    for (text, places) in expected {
+        let mut found = Vec::new(alloc);
+        if let Ok(tokens) = scan_short(alloc, text, ROOM)? {
+            for token in tokens.as_slice() {
+                assert_eq!(rt; token.pos.file, 7);
+                found.push((token.pos.line, token.pos.col, token.first, token.spaced))?;
+            }
+        }
+        assert_eq!(rt; found.as_slice(), places);
+    }
+    Ok(())
+}
+
+// Where a text is refused, and why: the first place from its start.
+#[test]
+fn texts_are_refused_there(rt: HostRuntime) -> Result<(), Fail> {
+    let alloc = rt.alloc();
+    let expected: [(&[u8], ScanError); 28] = [
+        (b"$", ScanError::BadByte(place(1, 1))),
+        (b"a @", ScanError::BadByte(place(1, 3))),
+        (b"a\n `", ScanError::BadByte(place(2, 2))),
+        (b"a\x80", ScanError::BadByte(place(1, 2))),
+        (b"\0", ScanError::BadByte(place(1, 1))),
+        (b"a \\ b", ScanError::BadByte(place(1, 3))),
+        (b"a\\", ScanError::BadByte(place(1, 2))),
+        (b"\"a\\q\"", ScanError::BadByte(place(1, 3))),
+        (b"\"\\x\"", ScanError::BadByte(place(1, 2))),
+        (b"'\\8'", ScanError::BadByte(place(1, 2))),
+        (b"'\\400'", ScanError::BadByte(place(1, 2))),
+        (b"'\\777'", ScanError::BadByte(place(1, 2))),
+        (b"'a\\x100'", ScanError::BadByte(place(1, 3))),
+        (
+            b"'\\x00000000000000000100'",
+            ScanError::BadByte(place(1, 2)),
+        ),
+        (b"\"\\\\\\\n\\N\"", ScanError::BadByte(place(2, 1))),
+        (b"x 'abcde'", ScanError::BadByte(place(1, 3))),
+        (b"'\\3777777'", ScanError::BadByte(place(1, 1))),
+        (b"\"a\\p\"", ScanError::BadByte(place(1, 3))),
+        (b"\n /* a *", ScanError::OpenComment(place(2, 2))),
+        (b"/*/", ScanError::OpenComment(place(1, 1))),
+        (b"\"a", ScanError::OpenString(place(1, 1))),
+        (b"x \"a\ny\"", ScanError::OpenString(place(1, 3))),
+        (b"\"a\\\"", ScanError::OpenString(place(1, 1))),
+        (b"'a", ScanError::OpenString(place(1, 1))),
+        (b"'", ScanError::OpenString(place(1, 1))),
+        (b"''", ScanError::OpenString(place(1, 1))),
+        (b"'a\r'", ScanError::OpenString(place(1, 1))),
+        (b"don't $", ScanError::OpenString(place(1, 4))),
+    ];
+    for (text, error) in expected {
+        assert_eq!(rt; scan_short(alloc, text, ROOM)?.err(), Some(error));
+    }
+    Ok(())
+}
+
+// The count of a string that begins with `\p` is a byte.
+#[test]
+fn a_counted_string_has_255_bytes_at_most(rt: HostRuntime) -> Result<(), Fail> {
+    let alloc = rt.alloc();
+    let mut text = b"x \"\\p\\\"".to_vec(alloc)?;
+    for _ in 0..254 {
+        text.push(b'a')?;
+    }
+    text.push(b'"')?;
+    assert_eq!(rt; scan_short(alloc, text.as_slice(), ROOM)??.len(), 2);
+    text.pop();
+    text.extend_from_slice(b"a\"")?;
+    assert_eq!(rt;
+        scan_short(alloc, text.as_slice(), ROOM)?.err(),
+        Some(ScanError::BadByte(place(1, 4)))
+    );
+    Ok(())
+}
+
+// A token without room comes before what is refused behind it, and after what is refused in front of it.
+#[test]
+fn a_text_has_no_more_tokens_than_room(rt: HostRuntime) -> Result<(), Fail> {
+    let alloc = rt.alloc();
+    let limit = ScanError::Limit(LimitKind::Scanned.passed());
+    let expected: [(&[u8], usize, Result<usize, ScanError>); 8] = [
+        (b"", 0, Ok(0)),
+        (b" /* */ \n", 0, Ok(0)),
+        (b"a", 0, Err(limit)),
+        (b"a b c", 3, Ok(3)),
+        (b"a b c", 2, Err(limit)),
+        (b"a b c $", 2, Err(limit)),
+        (b"a b $ c", 2, Err(ScanError::BadByte(place(1, 5)))),
+        (b"a b 'c", 2, Err(ScanError::OpenString(place(1, 5)))),
+    ];
+    for (text, room, answer) in expected {
+        assert_eq!(rt;
+            scan_short(alloc, text, room)?.map(|tokens| tokens.len()),
+            answer
+        );
+    }
+    Ok(())
+}

@@ -1,0 +1,44 @@
+use hs_base::{Bytes, Pos};
+
+/// What a token is (X3.159-1989 3.1). A keyword is an identifier here.
+#[derive(Clone, Copy, Debug, PartialEq, Eq)]
+pub enum TokenKind {
+    /// An identifier or a keyword (3.1.1, 3.1.2).
+    Identifier,
+    /// A preprocessing number (3.1.8).
+    Number,
+    /// A character constant (3.1.3.4).
+    Character,
+    /// A string literal (3.1.4).
+    Literal,
+    /// An operator or a punctuator (3.1.5, 3.1.6).
+    Punctuator,
+}
+
+/// A token of a text.
+#[derive(Debug, Drop)]
+pub struct Token {
+    pub kind: TokenKind,
+    /// Its bytes, without splices.
+    pub text: Bytes,
+    /// The place of its first byte.
+    pub pos: Pos,
+    /// No token stands before it on its line.
+    pub first: bool,
+    /// White space, a comment or a line's end stands directly before it.
+    pub spaced: bool,
+}
+
+/// Whether a token stands in a source as it is, or comes from a macro.
+#[derive(Clone, Copy, Debug, PartialEq, Eq)]
+pub enum Origin {
+    Plain,
+    Macro,
+}
+
+/// A token of a unit, and where it comes from.
+#[derive(Debug, Drop)]
+pub struct SourceToken {
+    pub token: Token,
+    pub origin: Origin,
+}
