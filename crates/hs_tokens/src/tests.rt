@@ -42,7 +42,8 @@ fn spelled(alloc: Global, tokens: &[Token]) -> Result<Vec<u8>, AllocError> {
 }
 
 // X3.159-1989 3.1: the longest token that can be made; 3.1.8: a preprocessing number; 3.1.9: comments hold no strings,
-// strings no comments, and two slashes are two operators; 2.1.1.2: splices come before all of it.
+// strings no comments, and two slashes are two operators; 2.1.1.2: splices come before all of it. Own: bytes above 127,
+// `\p`, and constants of two to four bytes; the standard decides the rest.
 #[test]
 fn texts_have_these_tokens(rt: HostRuntime) -> Result<(), Fail> {
     let alloc = rt.alloc();
@@ -99,7 +100,7 @@ fn texts_have_these_tokens(rt: HostRuntime) -> Result<(), Fail> {
 }
 
 // Lines and byte columns count from 1, in the file as it is: a splice takes none of them back. A line's end is LF, CR or
-// CR LF. A comment is a space, whatever lines it spans (X3.159-1989 2.1.1.2 phase 3).
+// CR LF: both are own. A comment is a space, whatever lines it spans (X3.159-1989 2.1.1.2 phase 3).
 #[test]
 fn tokens_have_these_places(rt: HostRuntime) -> Result<(), Fail> {
     let alloc = rt.alloc();
@@ -157,7 +158,9 @@ fn tokens_have_these_places(rt: HostRuntime) -> Result<(), Fail> {
     Ok(())
 }
 
-// Where a text is refused, and why: the first place from its start.
+// Where a text is refused, and why: the first place from its start. The standard has comments, literals and constants
+// closed, and the escapes that there are (3.1.3.4, 3.1.4, 3.1.9). Own: the places, the bytes that begin no token, and a
+// constant's four bytes.
 #[test]
 fn texts_are_refused_there(rt: HostRuntime) -> Result<(), Fail> {
     let alloc = rt.alloc();
@@ -200,7 +203,7 @@ fn texts_are_refused_there(rt: HostRuntime) -> Result<(), Fail> {
     Ok(())
 }
 
-// The count of a string that begins with `\p` is a byte.
+// Own: the count of a string that begins with `\p` is a byte.
 #[test]
 fn a_counted_string_has_255_bytes_at_most(rt: HostRuntime) -> Result<(), Fail> {
     let alloc = rt.alloc();
@@ -219,7 +222,7 @@ fn a_counted_string_has_255_bytes_at_most(rt: HostRuntime) -> Result<(), Fail> {
     Ok(())
 }
 
-// A token without room comes before what is refused behind it, and after what is refused in front of it.
+// Own: a token without room comes before what is refused behind it, and after what is refused in front of it.
 #[test]
 fn a_text_has_no_more_tokens_than_room(rt: HostRuntime) -> Result<(), Fail> {
     let alloc = rt.alloc();
