@@ -1,8 +1,9 @@
-ghost use Rattle.std.specs.Prelude.{None, [], Err};
+ghost use Rattle.std.specs.Prelude.{◌≡◌, ◌≢◌, ◌+◌, ◌-◌, ◌^◌, ◌<◌, ◌≤◌, ◌↔◌, ◌++◌, [], length, take, min, None, Err, OnOk, OnErr, IfErr, IfSome};
+ghost use Rattle.std.specs.IoError.{error_kind};
 ghost use Rattle.hs_base.specs.Files.{NeverFall, IsRead};
 
 use hs_base::{FileEnd, Files};
-use std::io::Read;
+use std::io::{ErrorKind, Read};
 use std::{fs, io};
 
 /// The files of the system, by path. They tell nothing of names and bytes: what a real file holds is not proved.
@@ -16,7 +17,10 @@ pub struct HostFiles<R: fs::Files + Drop> {
 
 impl<R: fs::Files + Drop> HostFiles<R> {
     /// The files that the runtime reaches. No read was made.
-    pub fn new(system: R) -> HostFiles<R> {
+    pub fn new(system: R) -> HostFiles<R>
+        ensures misses { result.misses ≡ 0 }
+        ensures faults { result.faults ≡ 0 }
+    {
         HostFiles {
             system,
             misses: 0,
@@ -27,14 +31,17 @@ impl<R: fs::Files + Drop> HostFiles<R> {
     /// Counts an error, and says what the read answers.
     fn failed(&mut self, error: &io::Error) -> FileEnd
         ensures counts_stay_up { NeverFall (record { misses = self.old.misses; faults = self.old.faults }) (record { misses = self.new.misses; faults = self.new.faults }) }
+        ensures missing { result ≡ FileEnd.Missing ↔ error_kind error.now ≡ ErrorKind.NotFound }
+        ensures memory { result ≡ FileEnd.NoMemory ↔ error_kind error.now ≡ ErrorKind.OutOfMemory }
+        ensures long { result ≢ FileEnd.TooLong }
         ensures means { IsRead None [] 0 (record { misses = self.old.misses; faults = self.old.faults }) (record { misses = self.new.misses; faults = self.new.faults }) [] (Err result) }
     {
         match error.kind() {
-            io::ErrorKind::NotFound => {
+            ErrorKind::NotFound => {
                 self.misses = self.misses.saturating_add(1);
                 FileEnd::Missing
             }
-            io::ErrorKind::OutOfMemory => FileEnd::NoMemory,
+            ErrorKind::OutOfMemory => FileEnd::NoMemory,
             _ => {
                 self.faults = self.faults.saturating_add(1);
                 FileEnd::Failed
@@ -43,15 +50,25 @@ impl<R: fs::Files + Drop> HostFiles<R> {
     }
 }
 
-/// Reads the file to its end, or one byte past `max`.
-fn read_file<R: fs::Files>(
-    system: &R,
-    name: &str,
-    max: usize,
-    into: &mut Vec<u8>,
-) -> io::Result<()> {
+/// Appends what the reader gives, to its end or to one byte past `max`.
+fn read_front<T: Read + Drop>(from: T, max: usize, into: &mut Vec<u8>) -> io::Result<()>
+    ensures { OnOk result (IfSome (T.remaining from) (λ bytes. into.new.items ≡ into.old.items ++ take (min (max + 1) (2 ^ 64 - 1)) bytes)) }
+{
     let limit = (max as u64).saturating_add(1);
-    fs::open(system, name)?.take(limit).read_to_end(into)?;
+    from.take(limit).read_to_end(into)?;
+    Ok(())
+}
+
+/// What was read, where it is not more than `max` bytes.
+fn fitted(into: &mut Vec<u8>, max: usize) -> Result<(), FileEnd>
+    ensures fits { OnOk result ((length into.old.items ≤ max) × (into.new.items ≡ into.old.items)) }
+    ensures long { OnErr result ((max < length into.old.items) × (into.new.items ≡ [])) }
+    ensures end { IfErr result (λ end. end ≡ FileEnd.TooLong) }
+{
+    if into.len() > max {
+        into.clear();
+        return Err(FileEnd::TooLong);
+    }
     Ok(())
 }
 
@@ -62,14 +79,9 @@ impl<R: fs::Files + Drop> Files for HostFiles<R> {
 
     fn read(&mut self, name: &str, max: usize, into: &mut Vec<u8>) -> Result<(), FileEnd> {
         into.clear();
-        match read_file(&self.system, name, max, into) {
-            Ok(()) => {
-                if into.len() > max {
-                    into.clear();
-                    return Err(FileEnd::TooLong);
-                }
-                Ok(())
-            }
+        let opened = fs::open(&self.system, name);
+        match opened.and_then(|file| read_front(file, max, into)) {
+            Ok(()) => fitted(into, max),
             Err(error) => {
                 into.clear();
                 Err(self.failed(&error))

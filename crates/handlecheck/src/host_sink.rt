@@ -1,4 +1,6 @@
-ghost use Rattle.std.specs.Prelude.{None};
+ghost use Rattle.std.specs.Prelude.{◌≡◌, None, OnOk};
+ghost use Rattle.std.specs.Io.KnownBytes.{Appends};
+ghost use Rattle.hs_base.specs.Sink.{IsPut};
 
 use hs_base::{Failed, Sink};
 use std::io::Write;
@@ -13,7 +15,10 @@ pub struct HostSink<W: Write + Drop> {
 
 impl<W: Write + Drop> HostSink<W> {
     /// The sink over the writer. No put was made.
-    pub fn new(writer: W) -> HostSink<W> {
+    pub fn new(writer: W) -> HostSink<W>
+        ensures writer { result.writer ≡ writer }
+        ensures faults { result.faults ≡ 0 }
+    {
         HostSink { writer, faults: 0 }
     }
 }
@@ -23,7 +28,11 @@ impl<W: Write + Drop> Sink for HostSink<W> {
 
     ghost faults = { λ sink. sink.faults };
 
-    fn put(&mut self, piece: &[u8]) -> Result<(), Failed> {
+    fn put(&mut self, piece: &[u8]) -> Result<(), Failed>
+        ensures means { IsPut piece.now None None self.old.faults self.new.faults result }
+        // Where the writer tells what it holds, the piece was appended.
+        ensures written { OnOk result (Appends (W.contents self.old.writer) (W.contents self.new.writer) piece.now) }
+    {
         let written = self.writer.write_all(piece);
         if written.is_ok() && self.writer.flush().is_ok() {
             return Ok(());

@@ -1,6 +1,7 @@
 ghost use Rattle.std.specs.Prelude.{◌≡◌, ℕ, List, [], ◌∷◌, map, length, IfNone, IfSome};
 ghost use Rattle.std.specs.String.{string_bytes};
 ghost use Rattle.hs_base.specs.Files.{NeverFall};
+ghost use Rattle.hs_checker.specs.Source.{most_bytes};
 ghost use Rattle.handlecheck.specs.Report.{IsCheck, IsNoCheck, IsVerdict, IsPutAs, text_of, IsAnswered, Headline, HasCauses};
 
 use crate::report::{NO_MEMORY, USAGE};
@@ -29,6 +30,7 @@ fn judge<F: Files>(alloc: Global, files: &mut F, roots: &[String]) -> Report
     requires one_root { length roots.now ≡ 1 }
     ensures listing_stays { F.listing files.new ≡ F.listing files.old }
     ensures counts_stay_up { NeverFall (F.counts files.old) (F.counts files.new) }
+    ensures one_read { (name : List ℕ) → map string_bytes roots.now ≡ name ∷ [] → F.leads_to files.old name most_bytes files.new }
     ensures means { (name : List ℕ) → map string_bytes roots.now ≡ name ∷ [] → IsVerdict (F.listing files.old) name (F.counts files.old) (F.counts files.new) result }
 {
     match read_program(alloc, files, roots) {
@@ -72,6 +74,8 @@ pub(crate) fn refuse_memory<O: Sink>(out: &mut O) -> Status
 fn answer<F: Files, O: Sink>(alloc: Global, words: &[String], files: &mut F, out: &mut O) -> Status
     ensures listing_stays { F.listing files.new ≡ F.listing files.old }
     ensures counts_stay_up { NeverFall (F.counts files.old) (F.counts files.new) }
+    ensures one_read { (name : List ℕ) → IsCheck (map string_bytes words.now) name → F.leads_to files.old name most_bytes files.new }
+    ensures no_read { IsNoCheck (map string_bytes words.now) → files.new ≡ files.old }
     ensures answered { IsAnswered (record {
       told = F.listing files.old;
       words = map string_bytes words.now;
@@ -99,6 +103,10 @@ fn answer<F: Files, O: Sink>(alloc: Global, words: &[String], files: &mut F, out
 pub fn run<F: Files, O: Sink>(alloc: Global, words: &[String], files: &mut F, out: &mut O) -> Status
     ensures listing_stays { F.listing files.new ≡ F.listing files.old }
     ensures counts_stay_up { NeverFall (F.counts files.old) (F.counts files.new) }
+
+    // The named file is read, once, and no other.
+    ensures one_read { (name : List ℕ) → IsCheck (map string_bytes words.now) name → F.leads_to files.old name most_bytes files.new }
+    ensures no_read { IsNoCheck (map string_bytes words.now) → files.new ≡ files.old }
 
     // A report that is right was put, whole, or with Unwritten a front of it.
     ensures answered { IsAnswered (record {

@@ -1,7 +1,7 @@
 ghost use Rattle.std.specs.Prelude.{◌≡◌, ℕ, List, [], ◌∷◌, map, length, IfOk};
 ghost use Rattle.std.specs.String.{string_bytes};
 ghost use Rattle.hs_base.specs.Files.{NeverFall};
-ghost use Rattle.hs_checker.specs.Source.{IsSource, FailsAs};
+ghost use Rattle.hs_checker.specs.Source.{IsSource, FailsAs, most_bytes};
 
 use crate::straight::read;
 use hs_base::{Bytes, FileEnd, Files, LimitKind, NoMemory};
@@ -57,6 +57,7 @@ pub fn read_program<F: Files>(
     requires one_root { length roots.now ≡ 1 }
     ensures listing_stays { F.listing files.new ≡ F.listing files.old }
     ensures counts_stay_up { NeverFall (F.counts files.old) (F.counts files.new) }
+    ensures one_read { (name : List ℕ) → map string_bytes roots.now ≡ name ∷ [] → F.leads_to files.old name most_bytes files.new }
     ensures means { (name : List ℕ) → map string_bytes roots.now ≡ name ∷ [] → IsSource (F.listing files.old) name (F.counts files.old) (F.counts files.new) result }
 {
     let name = roots[0].as_str();
