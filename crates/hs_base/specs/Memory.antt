@@ -3,11 +3,10 @@
 --     AnswersRead ..               what a read of files in memory answers
 --     put_front ..                 the front of a piece that a put into a sink in memory writes
 --     put_succeeds ..              whether that put succeeds
-use Rattle.std.specs.Prelude.{◌≡◌, ℕ, ◌+◌, ◌-◌, ◌/◌, ◌^◌, ◌==◌, nat_lt, nat_le, min, Bool, true, false, List, length, take, map, Option, Some, None, Result, Ok, Err, IsOkUnless, if◌then◌else◌}
+use Rattle.std.specs.Prelude.{◌≡◌, ℕ, ◌+◌, ◌-◌, ◌/◌, ◌^◌, ◌==◌, nat_lt, nat_le, min, Bool, false, List, length, Option, Some, None, Result, Err, IsOkUnless, if◌then◌else◌}
 use Rattle.std.specs.Bool.{MatchBool}
 use Rattle.std.specs.List.{list_any}
 use Rattle.hs_base.specs.Files.{Listing, file_of}
-use Rattle.hs_base.specs.declared.errors.Failed.{Failed}
 use Rattle.hs_base.specs.declared.errors.FileEnd.{FileEnd}
 use Rattle.hs_base.specs.declared.errors.FileEnd.TheVariants as end
 

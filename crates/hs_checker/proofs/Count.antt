@@ -1,5 +1,5 @@
 -- The count of stale uses is that of the rule.
-use Rattle.std.proofs.Common.{◌≡◌, ℕ, ◌+◌, suc, Bool, true, false, List, [], ◌∷◌, refl, inl, inr, arith, true≢false, zero-add, sym, subst, ◌∙◌, if◌then◌else◌}
+use Rattle.std.proofs.Common.{◌≡◌, ℕ, ◌+◌, Bool, true, false, List, [], ◌∷◌, refl, inl, inr, arith, true≢false, zero-add, sym, subst, ◌∙◌, if◌then◌else◌}
 use Rattle.std.proofs.lemmas.List.Sums.{sum_by-cons}
 use Rattle.hs_meaning.specs.Straight.StaleUses.{Use, IsStaleUse, IsCountOf}
 use Rattle.hs_meaning.specs.Straight.Along.{is_stale_after}

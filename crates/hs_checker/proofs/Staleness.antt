@@ -10,7 +10,7 @@ use Rattle.hs_tree.specs.declared.straight.tree.Step.{Step}
 use Rattle.hs_tree.specs.declared.straight.tree.Step.TheVariants as form
 use Rattle.hs_tree.specs.Straight.Fine.{assigns}
 use Rattle.hs_meaning.specs.Straight.StaleUses.{concerns, locks, calls_new_handle, is_lock_of, is_locked_after}
-use Rattle.hs_meaning.specs.Straight.Along.{Derivation, derived_after, kept_by, kept_if, is_stale_after, is_stale_derivation, derived_by}
+use Rattle.hs_meaning.specs.Straight.Along.{derived_after, is_stale_after, is_stale_derivation, derived_by}
 use Rattle.hs_checker.specs.Straight.Count.{GoesStale}
 
 -- a step at the end of the text's order is the newest

@@ -1,17 +1,17 @@
 -- The definitions on worked examples: each line computes.
-use Rattle.std.proofs.Common.{◌≡◌, ℕ, pos, true, false, List, [], ◌∷◌, refl, Option, Some, None}
+use Rattle.std.proofs.Common.{◌≡◌, ℕ, pos, true, List, [], ◌∷◌, refl}
 use Rattle.std.specs.Prelude.{codes}
 use Rattle.hs_base.specs.declared.pos.Pos.{Pos}
-use Rattle.hs_tree.specs.declared.straight.tree.Kind.TheVariants.{Handle, Pointer, Letter}
+use Rattle.hs_tree.specs.declared.straight.tree.Kind.TheVariants.{Handle, Pointer}
 use Rattle.hs_tree.specs.declared.straight.tree.Variable.{Variable}
 use Rattle.hs_tree.specs.declared.straight.tree.Expr.TheVariants as expr
 use Rattle.hs_tree.specs.declared.straight.tree.Step.{Step}
 use Rattle.hs_tree.specs.declared.straight.tree.Step.TheVariants as step
 use Rattle.hs_tree.specs.Straight.Fine.{is_fine}
 use Rattle.hs_tree.specs.Straight.Names.{reserved}
-use Rattle.hs_meaning.specs.Straight.Run.{run_from, start, Ending}
+use Rattle.hs_meaning.specs.Straight.Run.{run_from, start}
 use Rattle.hs_meaning.specs.declared.decision.Decision.{Decision}
-use Rattle.hs_meaning.specs.declared.decision.Which.TheVariants.{All, These}
+use Rattle.hs_meaning.specs.declared.decision.Which.TheVariants.{All}
 use Rattle.hs_meaning.specs.declared.input.Input.{Input}
 use Rattle.hs_meaning.specs.declared.outcome.Stop.TheVariants as stop
 use Rattle.hs_meaning.specs.declared.outcome.Outcome.TheVariants.{Finished, Stopped}

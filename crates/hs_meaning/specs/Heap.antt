@@ -2,7 +2,7 @@
 --     with_new_block heap size     the heap with one block more, or unchanged where the limit of live bytes is passed
 --     used heap spot               the block that a pointer reaches, or the stop
 --     master heap pos number       what the master pointer of a handle holds, or the stop
-use Rattle.std.specs.Prelude.{◌≡◌, ℕ, zero, suc, ◌+◌, ◌<◌, ◌==◌, nat_lt, nat_le, Bool, true, false, not, List, [], ◌∷◌, ◌++◌, length, replicate, sum_by, slice_get, slice_set, Option, Some, None, Result, Ok, Err, if◌then◌else◌}
+use Rattle.std.specs.Prelude.{ℕ, zero, suc, ◌+◌, ◌==◌, nat_lt, nat_le, Bool, true, false, not, List, length, replicate, sum_by, slice_get, slice_set, Option, Some, None, Result, Ok, Err, if◌then◌else◌}
 use Rattle.hs_meaning.specs.Value.{Value, nil, spot, Spot, char_of}
 use Rattle.hs_meaning.specs.declared.block.Block.{Block}
 use Rattle.hs_meaning.specs.declared.block.Cell.{Cell}

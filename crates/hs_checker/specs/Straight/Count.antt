@@ -1,5 +1,5 @@
 -- How many uses are stale, by the rule as a recursion.
-use Rattle.std.specs.Prelude.{◌≡◌, ℕ, suc, ◌<◌, Bool, true, false, List, [], ◌∷◌, ◌++◌, reverse, length, take, drop, count_by, slice_index_or}
+use Rattle.std.specs.Prelude.{◌≡◌, ℕ, suc, ◌<◌, Bool, true, false, List, [], ◌∷◌, ◌++◌, reverse, length, drop, count_by, slice_index_or}
 use Rattle.std.specs.List.{list_any}
 use Rattle.hs_base.specs.declared.pos.Pos.{Pos}
 use Rattle.hs_tree.specs.declared.straight.tree.Step.{Step}

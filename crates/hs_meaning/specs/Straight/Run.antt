@@ -4,7 +4,7 @@
 --     run tree input schedule turns    what the run of the tree puts out, and how it ends
 --     still_run tree input turns       the run on the heap that never moves: its schedule is empty
 --     IsSafe tree                      every run equals the still one, and uses no stale pointer and no purged handle
-use Rattle.std.specs.Prelude.{◌≡◌, ℕ, suc, ◌+◌, ◌==◌, pos as integer, Bool, true, false, not, ◌&&◌, ◌||◌, List, [], ◌∷◌, ◌++◌, length, Option, Some, None, Result, Ok, Err, if◌then◌else◌}
+use Rattle.std.specs.Prelude.{◌≡◌, ℕ, ◌+◌, ◌==◌, pos as integer, Bool, true, false, ◌||◌, List, [], ◌∷◌, ◌++◌, length, Option, Some, None, Result, Ok, Err, if◌then◌else◌}
 use Rattle.std.specs.List.{list_any}
 use Rattle.hs_base.specs.declared.pos.Pos.{Pos}
 use Rattle.hs_tree.specs.declared.straight.tree.Expr.{Expr}
@@ -12,7 +12,7 @@ use Rattle.hs_tree.specs.declared.straight.tree.Expr.TheVariants as expr
 use Rattle.hs_tree.specs.declared.straight.tree.Step.{Step}
 use Rattle.hs_tree.specs.declared.straight.tree.Step.TheVariants as step
 use Rattle.hs_tree.specs.declared.straight.tree.Straight.{Straight}
-use Rattle.hs_meaning.specs.Value.{Value, number, nil, handle, spot, Spot, byte_of, char_of}
+use Rattle.hs_meaning.specs.Value.{Value, number, nil, handle, spot, byte_of, char_of}
 use Rattle.hs_meaning.specs.Heap.{new_block, has_room, load_char, store_byte, master, set_lock}
 use Rattle.hs_meaning.specs.Shift.{Powers, shift}
 use Rattle.hs_meaning.specs.declared.block.Block.{Block}

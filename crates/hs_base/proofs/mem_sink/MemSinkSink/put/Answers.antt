@@ -1,5 +1,5 @@
 -- What a failing put wrote is a front of the piece.
-use Rattle.std.proofs.Common.{◌≡◌, arith, sym, ap, take, drop, rules}
+use Rattle.std.proofs.Common.{◌≡◌, arith, sym, ap, take, drop}
 use Rattle.std.proofs.lemmas.List.{take-append-drop}
 use Rattle.hs_base.specs.Memory.{MemorySink}
 use Rattle.hs_base.proofs.mem_sink.MemSinkSink.put.Goals as goal
