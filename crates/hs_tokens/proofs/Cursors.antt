@@ -49,19 +49,22 @@ whole_text file text =
     let shorter : length (unspliced (placed_from start text)) ≤ length (placed_from start text) = length-unspliced_after false (placed_from start text) in
     take_all (length text) (unspliced (placed_from start text)) (omega (arith, length-placed_from start text))
 
--- the first byte of phase 1: a line's end, another byte, or the CR of a CR LF, which is left out
+-- the first byte of phase 1
 module _ (pos : Pos) where
+  -- a line's end is one LF
   pub end_here : (text : List ℕ) → 1 ≤ length text → ends_line (get_or text 0 0) (drop 1 text) ≡ true
       → placed_from pos text ≡ record { byte = 10; pos = pos } ∷ placed_from (next_place pos (get_or text 0 0) (drop 1 text)) (drop 1 text)
   end_here [] some ends = absurd (omega arith)
   end_here (byte ∷ rest) some ends = rw ends refl
 
+  -- another byte stays
   pub other_here : (text : List ℕ) → 1 ≤ length text → ends_line (get_or text 0 0) (drop 1 text) ≡ false → (get_or text 0 0 == 13) ≡ false
       → placed_from pos text
       ≡ record { byte = get_or text 0 0; pos = pos } ∷ placed_from (next_place pos (get_or text 0 0) (drop 1 text)) (drop 1 text)
   other_here [] some goes other = absurd (omega arith)
   other_here (byte ∷ rest) some goes other = rw (goes, other) refl
 
+  -- the CR of a CR LF is left out
   pub return_here : (text : List ℕ) → 1 ≤ length text → ends_line (get_or text 0 0) (drop 1 text) ≡ false → (get_or text 0 0 == 13) ≡ true
       → placed_from pos text ≡ placed_from (next_place pos (get_or text 0 0) (drop 1 text)) (drop 1 text)
   return_here [] some goes cr = absurd (omega arith)
@@ -77,11 +80,12 @@ next_of pos next rest after (suc left) byte some same =
     let less : suc left - 1 ≡ left = omega arith in
     rw (same, less) refl
 
--- nothing is ahead where no byte counts, and at the end
+-- nothing is ahead where no byte counts
 pub none_left : (pos : Pos) (rest : List ℕ) (left : ℕ) → left ≡ 0 → ahead_of pos rest left ≡ []
 unfolding ahead_of
 none_left pos rest left none = rw none refl
 
+-- nor at the end
 pub none_of : (pos : Pos) (rest : List ℕ) (left : ℕ) → unspliced (placed_from pos rest) ≡ [] → ahead_of pos rest left ≡ []
 unfolding ahead_of
 none_of pos rest zero same = refl

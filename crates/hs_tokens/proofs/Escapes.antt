@@ -30,30 +30,33 @@ octal_grows : (value : ℕ) (digits : List ℕ) → value ≤ octal_value value 
 octal_grows value [] = omega arith
 octal_grows value (digit ∷ digits) = omega (arith, octal_grows (8 * value + (digit - 48)) digits)
 
+-- so a value above a byte stays so
 pub octal_over : (len value : ℕ) (bytes : List ℕ) → 255 < value → octal_from len value bytes ≡ None
 octal_over len value bytes over =
     let digits : List ℕ = take (prefix_len is_octal bytes) bytes in
     value_or_none (len + prefix_len is_octal bytes) (octal_value value digits) (omega (arith, octal_grows value digits))
 
--- a digit, another byte, the end
+-- a further digit
 pub octal_next : (len value byte : ℕ) (bytes rest : List ℕ) → bytes ≡ byte ∷ rest → is_octal byte ≡ true
     → octal_from (len + 1) (8 * value + (byte - 48)) rest ≡ octal_from len value bytes
 octal_next len value byte bytes rest ahead digit =
     let one : len + suc (prefix_len is_octal rest) ≡ len + 1 + prefix_len is_octal rest = omega arith in
     rw (ahead, digit, one-add (prefix_len is_octal rest), one) refl
 
+-- no digit any more
 pub octal_stop : (len value byte : ℕ) (bytes rest : List ℕ) → bytes ≡ byte ∷ rest → is_octal byte ≡ false → value ≤ 255
     → octal_from len value bytes ≡ Some len
 octal_stop len value byte bytes rest ahead other within =
     let none : len + 0 ≡ len = omega arith in
     rw (ahead, other, none) (value_or_len len value within)
 
+-- no byte any more
 pub octal_end : (len value : ℕ) (bytes : List ℕ) → bytes ≡ [] → value ≤ 255 → octal_from len value bytes ≡ Some len
 octal_end len value bytes ahead within =
     let none : len + 0 ≡ len = omega arith in
     rw (ahead, none) (value_or_len len value within)
 
--- no digit yet, of three at most
+-- three digits at most
 octal_front : (bytes : List ℕ) (count : ℕ) → count ≡ prefix_len is_octal (take 3 bytes)
     → byte_escape (0 + count) (octal_value 0 (take count (take 3 bytes))) ≡ byte_escape count (octal_value 0 (take count bytes))
 octal_front bytes count is =
@@ -61,6 +64,7 @@ octal_front bytes count is =
     let none : 0 + count ≡ count = omega arith in
     rw (none, take_both count 3 bytes, few) refl
 
+-- no digit yet
 pub octal_start : (bytes front : List Placed) → front ≡ take 3 bytes → octal_from 0 0 (bytes_of front) ≡ octal_escape (bytes_of bytes)
 octal_start bytes front ahead =
     let same : bytes_of front ≡ take 3 (bytes_of bytes) = ap bytes_of ahead ∙ sym (take-map (λ (placed : Placed). placed.byte) 3 bytes) in
@@ -83,11 +87,13 @@ hex_none : (len value : ℕ) → 255 < value → hex_some len value ≡ None
 hex_none len value over =
     elim (cases_Bool (len == 0)) [ inl empty ↦ rw empty refl | inr full ↦ rw (full, value_or_none len value over) refl ]
 
+-- a value above a byte stays so
 pub hex_over : (len value : ℕ) (bytes : List ℕ) → 255 < value → hex_from len value bytes ≡ None
 hex_over len value bytes over =
     let digits : List ℕ = take (prefix_len is_hex bytes) bytes in
     hex_none (len + prefix_len is_hex bytes) (hex_value value digits) (omega (arith, hex_grows value digits))
 
+-- a further digit
 pub hex_next : (len value byte : ℕ) (bytes rest : List ℕ) → bytes ≡ byte ∷ rest → is_hex byte ≡ true
     → hex_from (len + 1) (16 * value + hex_digit_value byte) rest ≡ hex_from len value bytes
 hex_next len value byte bytes rest ahead digit =
@@ -109,11 +115,13 @@ module _ (placed : Placed) (bytes after behind : List Placed) (here : List ℕ) 
       let same : behind ≡ drop skip after = is_behind ∙ ap (λ (bs : List ℕ). drop (character_len bs - 1) after) is_here in
       rw (ahead, same) (ap (λ parts. (placed ∷ after) ∷ parts) (cuts-skip (λ rest. character_len (bytes_of rest)) skip after))
 
+  -- the count is one on
   pub count_next : (count : ℕ) → count + 1 + length (characters behind) ≡ count + length (characters bytes)
   count_next count =
       let one : length (characters bytes) ≡ suc (length (characters behind)) = ap length characters_next in
       omega arith
 
+  -- a good character is not the first bad one
   pub bad_later : (other : Pos) → is_bad_character here ≡ false → first_bad other behind ≡ first_bad other bytes
   bad_later other good =
       let fine : is_bad_character (placed.byte ∷ bytes_of after) ≡ false = sym (ap is_bad_character is_here) ∙ good in

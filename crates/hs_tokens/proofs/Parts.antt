@@ -93,6 +93,7 @@ module _ (file room : ℕ) (text : List ℕ) (done : List Token) where
       let under : nat_lt room (length (scanned file text).tokens) ≡ false = grind (arith, nat_tests) in
       rw (under, tokens, same) refl
 
+  -- the answer where nothing is ahead
   pub scan_done : (bytes : List Placed) (first spaced : Bool) → joined done (to_come bytes first spaced) ≡ scanned file text → bytes ≡ []
       → length done ≤ room → scan_of file room text ≡ Ok done
   scan_done bytes first spaced so_far ahead fits = scan_fits None (sym (ap (joined done) (to_come_none bytes first spaced ahead)) ∙ so_far) fits

@@ -9,11 +9,14 @@
 --     IsCharacter step behind         the cursor is behind the character that begins there
 --     HasCharacters content count     so many characters, or the place of the first bad escape
 --     form part                       the form that a part of the code stands for
+--     comment_ahead pos cursor, character_ahead pos cursor, literal_ahead pos cursor
+--                                     the form of a comment, a character constant and a literal, at the place of its
+--                                     opening, with the cursor behind that
 use Rattle.std.specs.Prelude.{ℕ, ◌+◌, ◌-◌, ◌<◌, ◌≤◌, ◌≡◌, true, false, List, [], ◌∷◌, length, drop, Option, Some, None, Result, Ok, Err}
 use Rattle.hs_base.specs.declared.pos.Pos.{Pos}
 use Rattle.hs_tokens.specs.Lines.{Placed, placed_from, unspliced}
-use Rattle.hs_tokens.specs.Literals.{character_len, is_bad_character}
-use Rattle.hs_tokens.specs.Forms.{bytes_of, characters, first_bad, Form, blank, line_end, comment, token, refused}
+use Rattle.hs_tokens.specs.Literals.{content_len, character_len, is_bad_character}
+use Rattle.hs_tokens.specs.Forms.{bytes_of, characters, first_bad, comment_len_after, Form, blank, line_end, comment, token, refused, comment_form, character_form, literal_form}
 use Rattle.hs_tokens.specs.Cursor.{ahead_of}
 use Rattle.hs_tokens.specs.declared.cursor.Cursor.{Cursor}
 use Rattle.hs_tokens.specs.declared.cursor.Step.{Step}
@@ -78,3 +81,15 @@ form LineEnd = line_end
 form (Comment len) = comment len
 form (Token kind len) = token kind len
 form (Refused error) = refused error
+
+-- a comment behind its opening
+abbrev pub comment_ahead : Pos → Cursor → Form
+comment_ahead pos cursor = comment_form pos (comment_len_after false (bytes_ahead cursor))
+
+-- a character constant behind its opening quote
+abbrev pub character_ahead : Pos → Cursor → Form
+character_ahead pos cursor = character_form pos (ahead cursor) (content_len 39 (bytes_ahead cursor))
+
+-- a literal behind its opening quote
+abbrev pub literal_ahead : Pos → Cursor → Form
+literal_ahead pos cursor = literal_form pos (ahead cursor) (content_len 34 (bytes_ahead cursor))

@@ -1,9 +1,8 @@
 ghost use Rattle.std.specs.Prelude.{◌≡◌, ◌≤◌, map, IfSome, false};
 ghost use Rattle.std.specs.List.{prefix_len, starts_with};
 ghost use Rattle.hs_tokens.specs.Characters.{is_word_byte};
-ghost use Rattle.hs_tokens.specs.Literals.{content_len};
-ghost use Rattle.hs_tokens.specs.Forms.{begins_number, number_len, comment_len_after, longest_of, punctuators, punctuator_len, literal_form, character_form, comment_form, plain_form, form_of};
-ghost use Rattle.hs_tokens.specs.Ahead.{ahead, bytes_ahead, bytes_at, form};
+ghost use Rattle.hs_tokens.specs.Forms.{begins_number, number_len, comment_len_after, longest_of, punctuators, punctuator_len, plain_form, form_of};
+ghost use Rattle.hs_tokens.specs.Ahead.{ahead, bytes_ahead, bytes_at, form, comment_ahead, character_ahead, literal_ahead};
 
 use crate::characters::{is_blank, is_digit, is_letter, is_word_byte};
 use crate::cursor::{Cursor, Step};
@@ -132,7 +131,7 @@ fn punctuator_len(step: Step) -> usize
 
 /// The comment whose opening is at that place, with the rest behind the opening.
 fn comment(pos: Pos, rest: Cursor) -> Part
-    ensures { form result ≡ comment_form pos (comment_len_after false (bytes_ahead rest.entry)) }
+    ensures { form result ≡ comment_ahead pos rest.entry }
 {
     match comment_len(rest) {
         Some(len) => Part::Comment(len + 2),
@@ -143,7 +142,7 @@ fn comment(pos: Pos, rest: Cursor) -> Part
 /// The character constant whose opening quote is at that place, with the rest behind the quote: one to four bytes
 /// (X3.159-1989 3.1.3.4, and own).
 fn character(pos: Pos, rest: Cursor) -> Part
-    ensures { let bytes = bytes_ahead rest.entry in form result ≡ character_form pos (ahead rest.entry) (content_len 39 bytes) }
+    ensures { form result ≡ character_ahead pos rest.entry }
 {
     let Some(len) = content_len(b'\'', rest) else {
         return Part::Refused(ScanError::OpenString(pos));
@@ -153,20 +152,15 @@ fn character(pos: Pos, rest: Cursor) -> Part
     }
     match characters(rest.front(len)) {
         Err(bad) => Part::Refused(ScanError::BadByte(bad)),
-        Ok(count) => {
-            if count < 5 {
-                Part::Token(TokenKind::Character, len + 2)
-            } else {
-                Part::Refused(ScanError::BadByte(pos))
-            }
-        }
+        Ok(count) if count < 5 => Part::Token(TokenKind::Character, len + 2),
+        Ok(_) => Part::Refused(ScanError::BadByte(pos)),
     }
 }
 
 /// The string literal whose opening quote is at that place, with the rest behind the quote. One that begins with `\p`
 /// counts at most 255 bytes (X3.159-1989 3.1.4, and own).
 fn literal(pos: Pos, rest: Cursor) -> Part
-    ensures { let bytes = bytes_ahead rest.entry in form result ≡ literal_form pos (ahead rest.entry) (content_len 34 bytes) }
+    ensures { form result ≡ literal_ahead pos rest.entry }
 {
     let Some(len) = content_len(b'"', rest) else {
         return Part::Refused(ScanError::OpenString(pos));
@@ -175,13 +169,8 @@ fn literal(pos: Pos, rest: Cursor) -> Part
     if content.starts_with(b"\\p") {
         match characters(content.behind(2)) {
             Err(bad) => Part::Refused(ScanError::BadByte(bad)),
-            Ok(count) => {
-                if count < 256 {
-                    Part::Token(TokenKind::Literal, len + 2)
-                } else {
-                    Part::Refused(ScanError::BadByte(rest.place(pos)))
-                }
-            }
+            Ok(count) if count < 256 => Part::Token(TokenKind::Literal, len + 2),
+            Ok(_) => Part::Refused(ScanError::BadByte(rest.place(pos))),
         }
     } else {
         match characters(content) {

@@ -56,6 +56,7 @@ pub fn scan(alloc: Global, text: &[u8], file: u16, room: usize) -> Result<Vec<To
             }
             Part::Refused(error) => return Err(error),
         }
+        // The step is behind the part's first byte already.
         rest = step.after.behind(part_len(part).saturating_sub(1));
     }
     Ok(tokens)
