@@ -84,12 +84,14 @@ opening_found tokens (Err e) h = tt
 opening_found tokens (Ok None) h = tt
 opening_found tokens (Ok (Some rest)) h = opened tokens rest.now h
 
+-- what is left is no longer
 pub opening_few : (tokens : List Token) (r : Result (Option (Bor (List Token))) NoMemory)
     → IfOk r (λ read. Gives (λ x. x.now) read (marks_at opening tokens)) → IfOk r (λ read. IfSome read (λ rest. length rest.now ≤ length tokens))
 opening_few tokens (Err e) h = tt
 opening_few tokens (Ok None) h = tt
 opening_few tokens (Ok (Some rest)) h = opened_length tokens rest.now h
 
+-- nothing read, so the file does not begin so
 pub opening_none : (tokens : List Token) (r : Result (Option (Bor (List Token))) NoMemory)
     → IfOk r (λ read. Gives (λ x. x.now) read (marks_at opening tokens)) → IfOk r (λ read. IfNone read (NotOpened tokens))
 opening_none tokens (Err e) h = tt

@@ -68,12 +68,14 @@ pub word_takes : (text : List ℕ) (tokens : List Token) (x : Pos × List Token)
     → Spells pieces x.1 → Spells (word text ∷ pieces) tokens
 word_takes text tokens x pieces e after = subst (λ (t : List Token). Spells (word text ∷ pieces) t) (sym (mark_is text tokens x e)) (refl, tt, after)
 
--- what is spelled so is read again
+-- ---- what is spelled so is read again
+
 -- a token with that text is read
 marked : (text : List ℕ) (token : Token) (rest : List Token) → token.text ≡ text → mark_at text (token ∷ rest) ≡ Some (token.pos, rest)
 unfolding mark_at first_at
 marked text token rest same = cond-true (bytes_eq token.text text) _ _ ((bytes_eq-Decides token.text text).1 same)
 
+-- a spelled token at its place
 pub placed_again : (pos : Pos) (text : List ℕ) (pieces : List Piece) (tokens : List Token) → Spells (placed pos text ∷ pieces) tokens
     → (rest : List Token) × (mark_at text tokens ≡ Some (pos, rest)) × Spells pieces rest
 placed_again pos text pieces [] spelled = absurd spelled

@@ -111,6 +111,7 @@ module _ (tokens : List Token) (variables : List Variable) (steps : List Step) (
     forms_found : are_fine_steps found [] steps ≡ true
     forms_found = subst (λ (v : List Variable). are_fine_steps v [] steps ≡ true) declarations_known.0 forms
 
+    -- the statements are read
     pub none_broken : NoSteps found declared → ⊥
     none_broken fails = fails steps (map word closing) forms_found steps_end steps_left
 
@@ -118,9 +119,11 @@ module _ (tokens : List Token) (variables : List Variable) (steps : List Step) (
       steps_known : (steps ≡ made) × Spells (map word closing) done
       steps_known = s.only steps (map word closing) forms_found steps_end steps_left
 
+      -- what is left closes the function
       pub none_unclosed : (IsClosing done → ⊥) → ⊥
       none_unclosed fails = fails steps_known.1
 
+      -- what is read is the tree that was spelled
       pub same_variables : variables ≡ found
       same_variables = declarations_known.0
 

@@ -2,8 +2,11 @@
 -- A block that is named to move, present and unlocked is moved where the routine moves or purges: its epoch rises.
 -- A block that is named to purge, present, unlocked and purgeable is purged where the routine purges: its epoch rises.
 -- All other entries of a decision count for nothing.
---     shifted routine decision number block     the block of that number after the decision
---     shift routine decision heap               the heap after it
+--     is_named which number                     the decision names the block of that number
+--     is_present, is_loose                      a block that has its cells; one that may move
+--     is_moved, is_purged                       what happens to a block
+--     shifted powers decision number block      the block of that number after the decision
+--     shift powers decision heap                the heap after it
 use Rattle.std.specs.Prelude.{ℕ, suc, ◌+◌, ◌==◌, Bool, true, false, not, ◌&&◌, ◌||◌, List, [], ◌∷◌, if◌then◌else◌}
 use Rattle.std.specs.List.{list_any}
 use Rattle.hs_meaning.specs.declared.block.Block.{Block}

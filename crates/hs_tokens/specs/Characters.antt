@@ -1,6 +1,7 @@
 -- The bytes of the source's character set, by what they may begin or continue (X3.159-1989 2.2.1 and 3.1).
 use Rattle.std.specs.Prelude.{ℕ, ◌==◌, nat_le, Bool, ◌&&◌, ◌||◌}
 
+-- 0 to 9
 abbrev pub is_digit : ℕ → Bool
 is_digit byte = nat_le 48 byte && nat_le byte 57
 
@@ -8,6 +9,7 @@ is_digit byte = nat_le 48 byte && nat_le byte 57
 abbrev pub is_letter : ℕ → Bool
 is_letter byte = (nat_le 65 byte && nat_le byte 90) || (nat_le 97 byte && nat_le byte 122) || (byte == 95)
 
+-- a byte that goes on an identifier
 abbrev pub is_word_byte : ℕ → Bool
 is_word_byte byte = is_letter byte || is_digit byte
 
@@ -15,8 +17,10 @@ is_word_byte byte = is_letter byte || is_digit byte
 abbrev pub is_blank : ℕ → Bool
 is_blank byte = (byte == 32) || (byte == 9) || (byte == 11) || (byte == 12)
 
+-- 0 to 7
 abbrev pub is_octal : ℕ → Bool
 is_octal byte = nat_le 48 byte && nat_le byte 55
 
+-- a digit, or a letter A to F of either case
 abbrev pub is_hex : ℕ → Bool
 is_hex byte = is_digit byte || (nat_le 65 byte && nat_le byte 70) || (nat_le 97 byte && nat_le byte 102)

@@ -5,6 +5,7 @@ use Rattle.std.specs.Prelude.{ℕ, ◌+◌, ◌≤◌, List, length, take}
 use Rattle.hs_base.specs.declared.pos.Pos.{Pos}
 use Rattle.hs_tokens.specs.Lines.{Placed, placed_from, unspliced}
 
+-- the bytes of the text behind the place, phases 1 and 2 done, and no more than `left`
 unfoldable pub ahead_of : Pos → List ℕ → ℕ → List Placed
 ahead_of pos rest left = take left (unspliced (placed_from pos rest))
 

@@ -1,7 +1,13 @@
 -- What begins at a byte of a text without splices: white space, a comment, a token, or what is refused there
 -- (X3.159-1989 2.1.1.2 phase 3, and 3.1). A token is the longest that can be made.
---     cuts len skip bytes       the rests at which a part begins, where `len` is the length of the part at the front
---     form_of bytes             what begins at the front
+--     cuts len skip bytes           the rests at which a part begins, where `len` is the length of the part at the front
+--     Form, form_of, form_len       what begins at the front, and how many bytes it has
+--     comment_form pos len          a comment
+--     number_len, punctuator_len    how many bytes such a token has at the front
+--     characters content            the characters of a literal, and `first_bad` its first bad escape
+--     character_form pos rest len   a character constant, where its content has so many bytes
+--     literal_form pos rest len     a literal, likewise
+--     plain_form pos bytes          any other token
 use Rattle.std.specs.Prelude.{ℕ, zero, suc, ◌+◌, ◌-◌, ◌==◌, nat_lt, nat_eq, max, Bool, true, false, ◌&&◌, ◌||◌, List, [], ◌∷◌, length, map, find, take, drop, codes, Option, Some, None, if◌then◌else◌}
 use Rattle.std.specs.List.{prefix_len, starts_with}
 use Rattle.hs_base.specs.declared.pos.Pos.{Pos}
@@ -23,6 +29,7 @@ cuts len skip [] = []
 cuts len (suc skip) (placed ∷ rest) = cuts len skip rest
 cuts len zero (placed ∷ rest) = (placed ∷ rest) ∷ cuts len (len (placed ∷ rest) - 1) rest
 
+-- what begins at a byte
 pub data Form : Type 0 where
   -- a space, tab, VT or FF
   blank : Form
@@ -39,6 +46,7 @@ abbrev pub comment_len_after : Bool → List ℕ → Option ℕ
 comment_len_after star [] = None
 comment_len_after star (byte ∷ rest) = if star && (byte == 47) then Some 1 else one_more (comment_len_after (byte == 42) rest)
 
+-- the comment whose closing was found, or was not
 abbrev pub comment_form : Pos → Option ℕ → Form
 comment_form pos None = refused (OpenComment pos)
 comment_form pos (Some n) = comment (n + 2)
@@ -57,6 +65,7 @@ number_len_after exponent (byte ∷ rest) =
     else if exponent && ((byte == 43) || (byte == 45)) then number_len_after false rest + 1
     else 0
 
+-- C 3.1.8: how many bytes a preprocessing number has
 abbrev pub number_len : List ℕ → ℕ
 number_len bytes = number_len_after false bytes
 
@@ -73,6 +82,7 @@ abbrev pub longest_of : List (List ℕ) → List ℕ → ℕ
 longest_of [] bytes = 0
 longest_of (text ∷ texts) bytes = if starts_with nat_eq bytes text then max (length text) (longest_of texts bytes) else longest_of texts bytes
 
+-- the longest punctuator at the front
 abbrev pub punctuator_len : List ℕ → ℕ
 punctuator_len bytes = longest_of punctuators bytes
 
@@ -80,6 +90,7 @@ punctuator_len bytes = longest_of punctuators bytes
 abbrev pub characters : List Placed → List (List Placed)
 characters content = cuts (λ rest. character_len (bytes_of rest)) 0 content
 
+-- the place of the first byte
 abbrev pub place_of : Pos → List Placed → Pos
 place_of other [] = other
 place_of other (placed ∷ rest) = placed.pos
@@ -89,6 +100,7 @@ abbrev pub place_of_bad : Pos → Option (List Placed) → Option Pos
 place_of_bad other None = None
 place_of_bad other (Some rest) = Some (place_of other rest)
 
+-- the place of the first bad escape of a content, if there is one
 abbrev pub first_bad : Pos → List Placed → Option Pos
 first_bad pos content = place_of_bad pos (find (λ rest. is_bad_character (bytes_of rest)) (characters content))
 
@@ -126,6 +138,7 @@ plain_form pos (byte ∷ rest) =
     else if punctuator_len (byte ∷ rest) == 0 then refused (BadByte pos)
     else token Punctuator (punctuator_len (byte ∷ rest))
 
+-- what begins at the front
 abbrev pub form_of : List Placed → Form
 form_of [] = blank
 form_of (placed ∷ rest) =

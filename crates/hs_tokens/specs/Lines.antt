@@ -11,6 +11,7 @@ pub record Placed : Type 0 where
   pub byte : ℕ
   pub pos : Pos
 
+-- that byte stands first
 abbrev pub begins_with : ℕ → List ℕ → Bool
 begins_with wanted [] = false
 begins_with wanted (byte ∷ rest) = byte == wanted
@@ -43,8 +44,10 @@ unspliced_after true (placed ∷ rest) = unspliced_after false rest
 unspliced_after false (placed ∷ rest) =
     if (placed.byte == 92) && begins_with_end rest then unspliced_after true rest else (placed ∷ unspliced_after false rest)
 
+-- phase 2: no splices
 abbrev pub unspliced : List Placed → List Placed
 unspliced bytes = unspliced_after false bytes
 
+-- phases 1 and 2 of a whole text, which begins at line 1, column 1
 abbrev pub logical : ℕ → List ℕ → List Placed
 logical file text = unspliced (placed_from (record { file = file; line = 1; col = 1 }) text)

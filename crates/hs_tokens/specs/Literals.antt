@@ -7,6 +7,7 @@ use Rattle.std.specs.Prelude.{ℕ, ◌+◌, ◌-◌, ◌*◌, ◌==◌, nat_le, 
 use Rattle.std.specs.List.{prefix_len}
 use Rattle.hs_tokens.specs.Characters.{is_octal, is_hex}
 
+-- a length with one byte put in front
 abbrev pub one_more : Option ℕ → Option ℕ
 one_more None = None
 one_more (Some n) = Some (n + 1)
@@ -20,6 +21,7 @@ content_len_after escaped quote (byte ∷ rest) =
     else if byte == quote then Some 0
     else one_more (content_len_after (byte == 92) quote rest)
 
+-- how many bytes stand before the closing quote, if it stands on the line
 abbrev pub content_len : ℕ → List ℕ → Option ℕ
 content_len quote bytes = content_len_after false quote bytes
 
@@ -33,9 +35,11 @@ abbrev pub octal_value : ℕ → List ℕ → ℕ
 octal_value value [] = value
 octal_value value (digit ∷ digits) = octal_value (8 * value + (digit - 48)) digits
 
+-- the value of a hexadecimal digit
 abbrev pub hex_digit_value : ℕ → ℕ
 hex_digit_value digit = if nat_le digit 57 then digit - 48 else if nat_le digit 70 then digit - 55 else digit - 87
 
+-- the same of hexadecimal digits
 abbrev pub hex_value : ℕ → List ℕ → ℕ
 hex_value value [] = value
 hex_value value (digit ∷ digits) = hex_value (16 * value + hex_digit_value digit) digits
@@ -52,6 +56,7 @@ octal_escape bytes = byte_escape (prefix_len is_octal (take 3 bytes)) (octal_val
 abbrev pub hex_escape : List ℕ → Option ℕ
 hex_escape bytes = if prefix_len is_hex bytes == 0 then None else one_more (byte_escape (prefix_len is_hex bytes) (hex_value 0 (take (prefix_len is_hex bytes) bytes)))
 
+-- how many bytes an escape has behind its backslash, or nothing where it is none
 abbrev pub escape_len : List ℕ → Option ℕ
 escape_len [] = None
 escape_len (byte ∷ rest) =
@@ -65,10 +70,12 @@ abbrev pub backslash_len : Option ℕ → ℕ
 backslash_len None = 1
 backslash_len (Some n) = n + 1
 
+-- how many bytes the character at the front has
 abbrev pub character_len : List ℕ → ℕ
 character_len [] = 0
 character_len (byte ∷ rest) = if byte == 92 then backslash_len (escape_len rest) else 1
 
+-- it is none
 abbrev pub is_bad_escape : Option ℕ → Bool
 is_bad_escape None = true
 is_bad_escape (Some n) = false

@@ -1,6 +1,8 @@
 -- The tokens of a text, or the first place at which it is refused (X3.159-1989 2.1.1.2 phase 3).
---     scanned file text        the tokens up to the first refusal, and that refusal
---     scan_of file room text   the tokens, or the first error, where there is room for so many tokens
+--     parts_of bytes             the parts of a text: white space, comments and tokens
+--     scan_parts parts           their tokens up to the first refusal, and that refusal
+--     scanned file text          the same of a text
+--     scan_of file room text     the tokens, or the first error, where there is room for so many tokens
 use Rattle.std.specs.Prelude.{ℕ, nat_lt, Bool, true, false, List, [], ◌∷◌, length, take, Option, Some, None, Result, Ok, Err, if◌then◌else◌}
 use Rattle.hs_base.specs.declared.limit.LimitKind.TheVariants.{Scanned}
 use Rattle.hs_base.specs.Limit.{number_of}
@@ -16,6 +18,7 @@ pub record Scan : Type 0 where
   pub tokens : List Token
   pub refusal : Option ScanError
 
+-- the token comes first
 abbrev pub with_token : Token → Scan → Scan
 with_token first scan = record { tokens = first ∷ scan.tokens; refusal = scan.refusal }
 
@@ -31,6 +34,7 @@ scan_part first spaced part line_end later = later true true
 scan_part first spaced part (token kind len) later = with_token (token_at kind len part first spaced) (later false false)
 scan_part first spaced part (refused error) later = record { tokens = []; refusal = Some error }
 
+-- part by part, up to the first refusal
 abbrev pub scan_parts : List (List Placed) → Bool → Bool → Scan
 scan_parts [] first spaced = record { tokens = []; refusal = None }
 scan_parts (part ∷ parts) first spaced = scan_part first spaced part (form_of part) (λ first' spaced'. scan_parts parts first' spaced')
@@ -39,9 +43,11 @@ scan_parts (part ∷ parts) first spaced = scan_part first spaced part (form_of 
 abbrev pub parts_of : List Placed → List (List Placed)
 parts_of bytes = cuts (λ rest. form_len (form_of rest)) 0 bytes
 
+-- the tokens of a text and its first refusal
 abbrev pub scanned : ℕ → List ℕ → Scan
 scanned file text = scan_parts (parts_of (logical file text)) true false
 
+-- the tokens, where nothing is refused
 abbrev pub result_of : List Token → Option ScanError → Result (List Token) ScanError
 result_of tokens None = Ok tokens
 result_of tokens (Some error) = Err error

@@ -2,8 +2,11 @@
 -- A token is a longest run of the bytes of identifiers and numbers (X3.159-1989 3.1.2 and 3.1.3), or any other byte
 -- alone that is no blank. Blanks are space, tab, CR and LF. A line ends at LF, CR or CR LF (own); lines and byte
 -- columns count from 1.
+--     is_blank, is_word_byte      what separates tokens, and what makes up words
+--     ends_line byte rest         the byte is the last of its line
 --     next_place at byte rest     the place of what follows a byte at that place
---     tokens_of text              the tokens of the text
+--     tokens_from at text         the tokens of a text that begins at that place
+--     tokens_of text              the tokens of a whole text
 use Rattle.std.specs.Prelude.{ℕ, ◌+◌, ◌==◌, nat_le, Bool, false, not, ◌&&◌, ◌||◌, List, [], ◌∷◌, if◌then◌else◌}
 use Rattle.hs_base.specs.declared.pos.Pos.{Pos}
 use Rattle.hs_tree.specs.declared.straight.token.Token.{Token}
