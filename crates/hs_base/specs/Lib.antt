@@ -3,3 +3,4 @@ pub mod Files
 pub mod Limit
 pub mod Memory
 pub mod Sink
+pub mod Text

@@ -12,6 +12,7 @@ mod pos;
 mod sink;
 #[cfg(test)]
 mod tests;
+mod text;
 
 pub use errors::{Failed, FileEnd, NoMemory};
 pub use files::Files;
@@ -21,3 +22,4 @@ pub use mem_files::MemFiles;
 pub use mem_sink::MemSink;
 pub use pos::Pos;
 pub use sink::Sink;
+pub use text::{ends_line, is_digit, is_letter, is_word_byte, next_place};

@@ -14,7 +14,7 @@ use Rattle.std.specs.Str.{bytes_eq}
 use Rattle.std.proofs.lemmas.Option.{cond_some}
 use Rattle.std.proofs.lemmas.Slice.Eq.{bytes_eq-Decides}
 use Rattle.hs_tree.specs.declared.straight.token.Token.{Token}
-use Rattle.hs_tree.specs.Straight.Text.{is_digit, is_letter}
+use Rattle.hs_base.specs.Text.{is_digit, is_letter}
 use Rattle.hs_tree.specs.Straight.Names.{begins_with_letter}
 use Rattle.hs_tree.specs.Straight.Grammar.{Piece, word, Spells}
 use Rattle.hs_checker.specs.Straight.Reading.{◌>>=◌, first_at, numeral, is_numeral, has_one, begins_with_zero, number_at}

@@ -6,7 +6,8 @@ use Rattle.std.proofs.lemmas.Bool.{cases_Bool, or_parts, and_left, and_right, an
 use Rattle.std.proofs.lemmas.Bool.Decides.{nat_tests}
 use Rattle.hs_base.specs.declared.pos.Pos.{Pos}
 use Rattle.hs_tree.specs.declared.straight.token.Token.{Token}
-use Rattle.hs_tree.specs.Straight.Text.{is_blank, is_word_byte, begins_word, begins_with, ends_line, lengthened, tokens_from}
+use Rattle.hs_base.specs.Text.{is_word_byte, begins_with, ends_line}
+use Rattle.hs_tree.specs.Straight.Text.{is_blank, begins_word, lengthened, tokens_from}
 
 -- so many bytes further in the line
 abbrev pub moved : Pos → ℕ → Pos

@@ -10,7 +10,8 @@ use Rattle.hs_tree.specs.declared.straight.tree.Variable.{Variable}
 use Rattle.hs_tree.specs.declared.straight.tree.Step.{Step}
 use Rattle.hs_tree.specs.declared.straight.tree.Straight.{Straight}
 use Rattle.hs_tree.specs.Straight.Names.{reserved}
-use Rattle.hs_tree.specs.Straight.Text.{is_blank, is_word_byte, begins_word, next_place, lengthened, tokens_from, tokens_of}
+use Rattle.hs_base.specs.Text.{is_word_byte, next_place}
+use Rattle.hs_tree.specs.Straight.Text.{is_blank, begins_word, lengthened, tokens_from, tokens_of}
 use Rattle.hs_tree.specs.Straight.Fine.{are_fine_names, are_fine_steps, is_fine}
 use Rattle.hs_tree.specs.Straight.Grammar.{Piece, word, opening, closing, spelling, Spells}
 use Rattle.hs_checker.specs.Straight.Rows.{EndsRow, declaration, begins_declaration, statement, begins_statement, AreDeclarations, NoDeclarations, AreSteps, NoSteps}

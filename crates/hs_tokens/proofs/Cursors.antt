@@ -3,7 +3,8 @@ use Rattle.std.proofs.Common.{◌≡◌, ℕ, zero, suc, ◌+◌, ◌-◌, ◌�
 use Rattle.std.proofs.lemmas.List.{take_all}
 use Rattle.std.proofs.lemmas.Bool.{cases_Bool}
 use Rattle.hs_base.specs.declared.pos.Pos.{Pos}
-use Rattle.hs_tokens.specs.Lines.{Placed, ends_line, next_place, placed_from, begins_with_end, unspliced_after, unspliced, logical}
+use Rattle.hs_base.specs.Text.{ends_line, next_place}
+use Rattle.hs_tokens.specs.Lines.{Placed, placed_from, begins_with_end, unspliced_after, unspliced, logical}
 use Rattle.hs_tokens.specs.Cursor.{ahead_of}
 
 -- a front of a front is the shorter front

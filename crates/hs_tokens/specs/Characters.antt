@@ -1,17 +1,6 @@
 -- The bytes of the source's character set, by what they may begin or continue (X3.159-1989 2.2.1 and 3.1).
 use Rattle.std.specs.Prelude.{ℕ, ◌==◌, nat_le, Bool, ◌&&◌, ◌||◌}
-
--- 0 to 9
-abbrev pub is_digit : ℕ → Bool
-is_digit byte = nat_le 48 byte && nat_le byte 57
-
--- a letter, or the underscore, which counts as one (3.1.2)
-abbrev pub is_letter : ℕ → Bool
-is_letter byte = (nat_le 65 byte && nat_le byte 90) || (nat_le 97 byte && nat_le byte 122) || (byte == 95)
-
--- a byte that goes on an identifier
-abbrev pub is_word_byte : ℕ → Bool
-is_word_byte byte = is_letter byte || is_digit byte
+use Rattle.hs_base.specs.Text.{is_digit}
 
 -- space, tab, VT or FF
 abbrev pub is_blank : ℕ → Bool

@@ -11,7 +11,8 @@
 use Rattle.std.specs.Prelude.{ℕ, zero, suc, ◌+◌, ◌-◌, ◌==◌, nat_lt, nat_eq, max, Bool, true, false, ◌&&◌, ◌||◌, List, [], ◌∷◌, length, map, find, take, drop, codes, Option, Some, None, if◌then◌else◌}
 use Rattle.std.specs.List.{prefix_len, starts_with}
 use Rattle.hs_base.specs.declared.pos.Pos.{Pos}
-use Rattle.hs_tokens.specs.Characters.{is_digit, is_letter, is_word_byte, is_blank}
+use Rattle.hs_base.specs.Text.{is_digit, is_letter, is_word_byte}
+use Rattle.hs_tokens.specs.Characters.{is_blank}
 use Rattle.hs_tokens.specs.Lines.{Placed}
 use Rattle.hs_tokens.specs.Literals.{one_more, content_len, character_len, is_bad_character}
 use Rattle.hs_tokens.specs.declared.token.TokenKind.{TokenKind}

@@ -1,28 +1,16 @@
 -- Translation phases 1 and 2 (X3.159-1989 2.1.1.2): the bytes of a text with their places, one LF for each line's end,
 -- and no splices. A line ends at LF, CR or CR LF (own). Lines and byte columns count from 1.
---     placed_text file text       each byte and its place; a line's end is one LF
+--     placed_from at text         each byte and its place; a line's end is one LF
 --     unspliced bytes             without each backslash that an LF follows directly, and that LF
 --     logical file text           both
-use Rattle.std.specs.Prelude.{ℕ, ◌+◌, ◌==◌, Bool, true, false, not, ◌&&◌, ◌||◌, List, [], ◌∷◌, if◌then◌else◌}
+use Rattle.std.specs.Prelude.{ℕ, ◌==◌, Bool, true, false, ◌&&◌, List, [], ◌∷◌, if◌then◌else◌}
+use Rattle.hs_base.specs.Text.{ends_line, next_place}
 use Rattle.hs_base.specs.declared.pos.Pos.{Pos}
 
 -- a byte of a text, and its place
 pub record Placed : Type 0 where
   pub byte : ℕ
   pub pos : Pos
-
--- that byte stands first
-abbrev pub begins_with : ℕ → List ℕ → Bool
-begins_with wanted [] = false
-begins_with wanted (byte ∷ rest) = byte == wanted
-
--- the byte is the last of its line: an LF, or a CR that no LF follows
-abbrev pub ends_line : ℕ → List ℕ → Bool
-ends_line byte rest = (byte == 10) || ((byte == 13) && not (begins_with 10 rest))
-
--- the place of what follows the byte
-abbrev pub next_place : Pos → ℕ → List ℕ → Pos
-next_place at byte rest = if ends_line byte rest then record { file = at.file; line = at.line + 1; col = 1 } else record { file = at.file; line = at.line; col = at.col + 1 }
 
 -- A line's end is one LF: the CR of a CR LF is left out.
 abbrev pub placed_from : Pos → List ℕ → List Placed

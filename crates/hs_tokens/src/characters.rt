@@ -1,27 +1,6 @@
 ghost use Rattle.std.specs.Prelude.{◌≡◌, ◌-◌, ◌<◌};
-ghost use Rattle.hs_tokens.specs.Characters.{is_digit, is_letter, is_word_byte, is_blank, is_octal, is_hex};
+ghost use Rattle.hs_tokens.specs.Characters.{is_blank, is_octal, is_hex};
 ghost use Rattle.hs_tokens.specs.Literals.{hex_digit_value, is_simple_escape};
-
-/// Whether the byte is one of `0` to `9`.
-pub(crate) fn is_digit(byte: u8) -> bool
-    ensures { result ≡ is_digit byte }
-{
-    matches!(byte, b'0'..=b'9')
-}
-
-/// Whether the byte is a letter, or the underscore, which counts as one (X3.159-1989 3.1.2).
-pub(crate) fn is_letter(byte: u8) -> bool
-    ensures { result ≡ is_letter byte }
-{
-    matches!(byte, b'A'..=b'Z' | b'a'..=b'z' | b'_')
-}
-
-/// Whether the byte is one of words.
-pub(crate) fn is_word_byte(byte: u8) -> bool
-    ensures { result ≡ is_word_byte byte }
-{
-    is_letter(byte) || is_digit(byte)
-}
 
 /// Whether the byte is a space, tab, VT or FF.
 pub(crate) fn is_blank(byte: u8) -> bool

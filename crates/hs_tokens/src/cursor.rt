@@ -1,10 +1,10 @@
 ghost use Rattle.std.specs.Prelude.{◌≡◌, ◌≤◌, ◌<◌, ◌+◌, ◌^◌, length, take, drop, IfOk, nat_eq};
 ghost use Rattle.std.specs.List.{starts_with};
-ghost use Rattle.hs_tokens.specs.Lines.{ends_line, next_place, logical};
+ghost use Rattle.hs_tokens.specs.Lines.{logical};
 ghost use Rattle.hs_tokens.specs.Forms.{place_of};
 ghost use Rattle.hs_tokens.specs.Cursor.{HasRoom};
 
-use hs_base::Pos;
+use hs_base::{Pos, ends_line, next_place};
 use std::alloc::{AllocError, Global};
 
 /// Where the scanner stands in a text.
@@ -27,38 +27,6 @@ pub(crate) struct Step<'a> {
     pub(crate) pos: Pos,
     /// Behind the byte.
     pub(crate) after: Cursor<'a>,
-}
-
-/// Whether the byte, with this text behind it, is the last of its line.
-fn ends_line(byte: u8, after: &[u8]) -> bool
-    ensures { result ≡ ends_line byte after.now }
-{
-    match byte {
-        b'\n' => true,
-        b'\r' => !matches!(after, [b'\n', ..]),
-        _ => false,
-    }
-}
-
-/// The place of what follows a byte at that place.
-fn next_place(place: Pos, byte: u8, after: &[u8]) -> Pos
-    requires line { place.line + 1 < 2 ^ 32 }
-    requires col { place.col + 1 < 2 ^ 32 }
-    ensures { result ≡ next_place place byte after.now }
-{
-    if ends_line(byte, after) {
-        Pos {
-            file: place.file,
-            line: place.line + 1,
-            col: 1,
-        }
-    } else {
-        Pos {
-            file: place.file,
-            line: place.line,
-            col: place.col + 1,
-        }
-    }
 }
 
 impl<'a> Cursor<'a> {

@@ -1,15 +1,15 @@
 ghost use Rattle.std.specs.Prelude.{◌≡◌, ◌≤◌, map, IfSome, false};
 ghost use Rattle.std.specs.List.{prefix_len, starts_with};
-ghost use Rattle.hs_tokens.specs.Characters.{is_word_byte};
+ghost use Rattle.hs_base.specs.Text.{is_word_byte};
 ghost use Rattle.hs_tokens.specs.Forms.{begins_number, number_len, comment_len_after, longest_of, punctuators, punctuator_len, plain_form, form_of};
 ghost use Rattle.hs_tokens.specs.Ahead.{ahead, bytes_ahead, bytes_at, form, comment_ahead, character_ahead, literal_ahead};
 
-use crate::characters::{is_blank, is_digit, is_letter, is_word_byte};
+use crate::characters::is_blank;
 use crate::cursor::{Cursor, Step};
 use crate::literals::{characters, content_len};
 use crate::scan_error::ScanError;
 use crate::token::TokenKind;
-use hs_base::Pos;
+use hs_base::{Pos, is_digit, is_letter, is_word_byte};
 
 /// What begins at a byte (X3.159-1989 2.1.1.2 phase 3).
 #[derive(Clone, Copy)]

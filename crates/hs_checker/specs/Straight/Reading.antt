@@ -13,7 +13,7 @@ use Rattle.std.specs.List.{list_all, position}
 use Rattle.std.specs.Str.{bytes_eq}
 use Rattle.std.specs.Str.Parse.{digits_value}
 use Rattle.hs_base.specs.declared.pos.Pos.{Pos}
-use Rattle.hs_tree.specs.Straight.Text.{is_digit}
+use Rattle.hs_base.specs.Text.{is_digit}
 use Rattle.hs_tree.specs.Straight.Names.{begins_with_letter}
 use Rattle.hs_tree.specs.Straight.Fine.{is_declared, is_fine_name, is_fine_step}
 use Rattle.hs_tree.specs.declared.straight.token.Token.{Token}

@@ -1,13 +1,13 @@
 ghost use Rattle.std.specs.Prelude.{◌≡◌, ◌≤◌, length, map};
 ghost use Rattle.std.specs.List.{list_any, list_all};
 ghost use Rattle.std.specs.Str.{bytes_eq};
-ghost use Rattle.hs_tree.specs.Straight.Text.{is_word_byte};
+ghost use Rattle.hs_base.specs.Text.{is_word_byte};
 ghost use Rattle.hs_tree.specs.Straight.Names.{begins_with_letter, is_identifier, is_name, reserved};
 ghost use Rattle.hs_tree.specs.Straight.Fine.{is_taken, is_fine_name};
 ghost use Rattle.hs_checker.specs.Straight.Reading.{Gives, number_of, variable_at};
 
 use crate::straight::marks::first;
-use crate::straight::scanner::{is_letter, is_word_byte};
+use hs_base::{is_letter, is_word_byte};
 use hs_tree::straight::{Token, Variable};
 
 /// The words that no variable may have as its name.

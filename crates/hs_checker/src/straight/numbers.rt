@@ -1,10 +1,10 @@
 ghost use Rattle.std.specs.Prelude.{◌≡◌, ◌≤◌, IfSome};
 ghost use Rattle.std.specs.List.{list_all};
-ghost use Rattle.hs_tree.specs.Straight.Text.{is_digit};
+ghost use Rattle.hs_base.specs.Text.{is_digit};
 ghost use Rattle.hs_checker.specs.Straight.Reading.{Gives, is_numeral, numeral, number_at};
 
 use crate::straight::marks::first;
-use crate::straight::scanner::is_digit;
+use hs_base::is_digit;
 use hs_tree::straight::Token;
 
 /// Whether all bytes are digits.

@@ -3,7 +3,7 @@
 use Rattle.std.specs.Prelude.{ℕ, Bool, false, not, ◌&&◌, List, [], ◌∷◌, codes}
 use Rattle.std.specs.List.{list_any, list_all}
 use Rattle.std.specs.Str.{bytes_eq}
-use Rattle.hs_tree.specs.Straight.Text.{is_letter, is_word_byte}
+use Rattle.hs_base.specs.Text.{is_letter, is_word_byte}
 
 -- the first byte is a letter
 abbrev pub begins_with_letter : List ℕ → Bool

@@ -1,6 +1,6 @@
 use Rattle.std.proofs.Common.{◌≡◌, ◌+◌}
 use Rattle.std.specs.List.{prefix_len}
-use Rattle.hs_tokens.specs.Characters.{is_word_byte}
+use Rattle.hs_base.specs.Text.{is_word_byte}
 use Rattle.hs_tokens.specs.Ahead.{bytes_ahead}
 use Rattle.hs_tokens.proofs.forms.word_len.Given as goal
 

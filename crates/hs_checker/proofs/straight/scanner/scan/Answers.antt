@@ -1,6 +1,6 @@
 use Rattle.std.proofs.Common.{arith, rules}
 use Rattle.std.proofs.lemmas.List.Sums.{prefix_len-le-length}
-use Rattle.hs_tree.specs.Straight.Text.{is_word_byte}
+use Rattle.hs_base.specs.Text.{is_word_byte}
 use Rattle.hs_checker.proofs.Scanning.{one_more}
 use Rattle.hs_checker.proofs.straight.scanner.scan.Goals as goal
 
