@@ -77,7 +77,11 @@ impl<R: fs::Files + Drop> Files for HostFiles<R> {
 
     ghost counts = { λ files. record { misses = files.misses; faults = files.faults } };
 
-    fn read(&mut self, name: &str, max: usize, into: &mut Vec<u8>) -> Result<(), FileEnd> {
+    fn read(&mut self, name: &str, max: usize, into: &mut Vec<u8>) -> Result<(), FileEnd>
+        ensures means { IsRead None name.now max (record { misses = self.old.misses; faults = self.old.faults }) (record { misses = self.new.misses; faults = self.new.faults }) into.new.items result }
+        ensures counts_stay_up { NeverFall (record { misses = self.old.misses; faults = self.old.faults }) (record { misses = self.new.misses; faults = self.new.faults }) }
+        ensures quiet { OnOk result ((self.new.misses ≡ self.old.misses) × (self.new.faults ≡ self.old.faults)) }
+    {
         into.clear();
         let opened = fs::open(&self.system, name);
         match opened.and_then(|file| read_front(file, max, into)) {
