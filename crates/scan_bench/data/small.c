@@ -1,16 +1,6 @@
-char **NewHandle(long n); void HLock(char **h);
-void HUnlock(char **h); int putchar(int c);
-int main(void)
-{
-    char **name;
-    char **other;
-    char *p;
-    name = NewHandle(4);
-    HLock(name);
-    p = *name;
-    *p = 65;
-    other = NewHandle(4);
-    putchar(*p);
-    HUnlock(name);
-    return 0;
-}
+/* Every kind of token, a comment over
+   two lines, and a splice. */
+#define LIMIT 0x1FL
+static char greeting[] = "\pHello\n";
+unsigned long sum = 1.5e+3 + 'TEXT' \
+    - LIMIT; int x, y; x = x+++++y; /**/ y <<= 2;
