@@ -1,0 +1,152 @@
+-- The arguments so far: what is left of the tokens decides the rest.
+--     collected_token, collected_comma, collected_close     a token, a comma, and the closing parenthesis at the front
+--     ahead-push, ahead-pop                                 the next token ahead
+use Rattle.std.proofs.Common.{◌≡◌, ℕ, ◌+◌, ◌-◌, ◌≤◌, Bool, true, false, List, [], ◌∷◌, ◌++◌, map, Option, Some, None, Vec, Global, refl, sym, ap, ◌∙◌, append_assoc, if◌then◌else◌, arith}
+use Rattle.std.specs.Prelude.{◌==◌, ◌&&◌, codes}
+use Rattle.std.proofs.lemmas.List.{append-nil, map-append, reverse-append}
+use Rattle.hs_macros.specs.Marks.{is_mark}
+use Rattle.hs_tokens.specs.declared.token.Token.{Token}
+use Rattle.hs_macros.specs.Arguments.{Hidden, Arguments, with_token, with_comma, closed, role_of, arguments_at, arguments_from, Argument, with_argument, paired}
+use Rattle.hs_macros.specs.Stacks.{Collected, collected, hidden, ahead, done, argument, waiting, with_later}
+use Rattle.hs_macros.specs.declared.pending.Pending.{Pending}
+use Rattle.hs_macros.specs.declared.arguments.Supplied.{Supplied}
+use Rattle.hs_macros.specs.declared.arguments.Role.TheVariants.{Ends, Separates, Inside}
+
+-- the last token of the list is the next one ahead
+pub ahead-push : (tokens : List Pending) (token : Pending) → ahead (tokens ++ token ∷ []) ≡ hidden token ∷ ahead tokens
+ahead-push tokens token = ap (λ (pending : List Pending). map hidden pending) (reverse-append tokens (token ∷ []))
+
+-- and comes last of those that are done
+pub done-push : (tokens : List Pending) (token : Pending) → done (tokens ++ token ∷ []) ≡ done tokens ++ hidden token ∷ []
+done-push tokens token = map-append hidden tokens (token ∷ [])
+
+-- a token goes into the next argument
+pub collected_token : (given : List (List Hidden)) (argument : List Hidden) (token : Hidden) (found : Option Arguments)
+    → collected given argument (with_token token found) ≡ collected given (argument ++ token ∷ []) found
+collected_token given argument token None = refl
+collected_token given argument token (Some found) =
+    ap (λ (first : List Hidden). Some (record { given = given ++ first ∷ found.others; close = found.close; behind = found.behind }))
+    (sym (append_assoc argument (token ∷ []) found.first))
+
+-- a comma ends it
+pub collected_comma : (given : List (List Hidden)) (argument : List Hidden) (found : Option Arguments)
+    → collected given argument (with_comma found) ≡ collected (given ++ argument ∷ []) [] found
+collected_comma given argument None = refl
+collected_comma given argument (Some found) =
+    let ended : given ++ (argument ++ []) ∷ found.first ∷ found.others ≡ (given ++ argument ∷ []) ++ found.first ∷ found.others =
+    ap (λ (last : List Hidden). given ++ last ∷ found.first ∷ found.others) (append-nil argument)
+    ∙ sym (append_assoc given (argument ∷ []) (found.first ∷ found.others)) in
+    ap (λ (all : List (List Hidden)). Some (record { given = all; close = found.close; behind = found.behind })) ended
+
+-- the closing parenthesis ends it, and all
+pub collected_close : (given : List (List Hidden)) (argument : List Hidden) (close : Hidden) (behind : List Hidden)
+    → collected given argument (Some (closed close behind)) ≡ Some (record { given = given ++ argument ∷ []; close = close; behind = behind })
+collected_close given argument close behind =
+    ap (λ (last : List Hidden). Some (record { given = given ++ last ∷ []; close = close; behind = behind })) (append-nil argument)
+
+-- an argument in the definition's words
+abbrev pub row : Vec Pending Global → List Hidden
+row argument = done argument.items
+
+-- the comma at the front ends the argument
+pub separated : (given more : List (Vec Pending Global)) (argument blank : Vec Pending Global) (depth : ℕ) (tokens behind : List Pending) (token : Pending)
+    (all : Option Collected) → tokens ≡ behind ++ token ∷ [] → more ≡ given ++ argument ∷ [] → blank.items ≡ [] → role_of depth token.token.now ≡ Separates
+    → collected (map row given) (row argument) (arguments_from depth (ahead tokens)) ≡ all
+    → collected (map row more) (row blank) (arguments_from 0 (ahead behind)) ≡ all
+separated given more argument blank depth tokens behind token all taken pushed empty is same =
+    let later : ℕ → Option Arguments = λ depth'. arguments_from depth' (ahead behind) in
+    let here : arguments_from depth (ahead tokens) ≡ with_comma (arguments_from 0 (ahead behind)) =
+    ap (λ (pending : List Pending). arguments_from depth (ahead pending)) taken
+    ∙ ap (arguments_from depth) (ahead-push behind token)
+    ∙ ap (arguments_at (hidden token) (ahead behind) later) is in
+    let rows : map row more ≡ map row given ++ row argument ∷ [] = ap (map row) pushed ∙ map-append row given (argument ∷ []) in
+    ap (λ (tokens' : List Pending). collected (map row more) (done tokens') (arguments_from 0 (ahead behind))) empty
+    ∙ ap (λ (given' : List (List Hidden)). collected given' [] (arguments_from 0 (ahead behind))) rows
+    ∙ sym (collected_comma (map row given) (row argument) (arguments_from 0 (ahead behind)))
+    ∙ ap (collected (map row given) (row argument)) (sym here)
+    ∙ same
+
+-- the token at the front goes into the argument
+pub inside : (given : List (List Hidden)) (argument more : List Pending) (depth further : ℕ) (tokens behind : List Pending) (token : Pending)
+    (all : Option Collected) → tokens ≡ behind ++ token ∷ [] → more ≡ argument ++ token ∷ [] → role_of depth token.token.now ≡ Inside further
+    → collected given (done argument) (arguments_from depth (ahead tokens)) ≡ all
+    → collected given (done more) (arguments_from further (ahead behind)) ≡ all
+inside given argument more depth further tokens behind token all taken pushed is same =
+    let later : ℕ → Option Arguments = λ depth'. arguments_from depth' (ahead behind) in
+    let here : arguments_from depth (ahead tokens) ≡ with_token (hidden token) (arguments_from further (ahead behind)) =
+    ap (λ (pending : List Pending). arguments_from depth (ahead pending)) taken
+    ∙ ap (arguments_from depth) (ahead-push behind token)
+    ∙ ap (arguments_at (hidden token) (ahead behind) later) is in
+    let longer : done more ≡ done argument ++ hidden token ∷ [] = ap done pushed ∙ done-push argument token in
+    ap (λ (argument' : List Hidden). collected given argument' (arguments_from further (ahead behind))) longer
+    ∙ sym (collected_token given (done argument) (hidden token) (arguments_from further (ahead behind)))
+    ∙ ap (collected given (done argument)) (sym here)
+    ∙ same
+
+-- by four tests
+depth_by : (opens closes outermost separates : Bool) (depth further : ℕ)
+    → (if opens then Inside (depth + 1) else if closes then (if outermost then Ends else Inside (depth - 1)) else if separates then Separates else Inside depth)
+    ≡ Inside further → further ≤ depth + 1
+depth_by true closes outermost separates depth further is = let same : depth + 1 ≡ further = cc in omega arith
+depth_by false true true separates depth further is = absurd cc
+depth_by false true false separates depth further is = let same : depth - 1 ≡ further = cc in omega arith
+depth_by false false outermost true depth further is = absurd cc
+depth_by false false outermost false depth further is = let same : depth ≡ further = cc in omega arith
+
+-- a token opens one parenthesis at most
+pub depth_grows : (depth further : ℕ) (token : Token) → role_of depth token ≡ Inside further → further ≤ depth + 1
+depth_grows depth further token is =
+    depth_by (is_mark (codes "(") token) (is_mark (codes ")") token) (depth == 0) (is_mark (codes ",") token && (depth == 0)) depth further is
+
+-- ---- arguments with their parameters
+
+-- the last parameter with the last argument
+paired-push : (names : List (List ℕ)) (given : List (List Hidden)) (name : List ℕ) (tokens : List Hidden) (later : List Argument)
+    → with_later (paired (names ++ name ∷ []) (given ++ tokens ∷ [])) later ≡ with_later (paired names given) (record { parameter = name; tokens = tokens } ∷ later)
+paired-push [] [] name tokens later = refl
+paired-push [] (other ∷ []) name tokens later = refl
+paired-push [] (other ∷ second ∷ given) name tokens later = refl
+paired-push (first ∷ []) [] name tokens later = refl
+paired-push (first ∷ second ∷ names) [] name tokens later = refl
+paired-push (first ∷ names) (other ∷ given) name tokens later =
+    in_front (record { parameter = first; tokens = other }) (paired (names ++ name ∷ []) (given ++ tokens ∷ [])) (paired names given) later
+    (record { parameter = name; tokens = tokens } ∷ later) (paired-push names given name tokens later)
+  where
+    -- an argument in front changes nothing
+    in_front : (argument : Argument) (all some : Option (List Argument)) (later more : List Argument)
+        → with_later all later ≡ with_later some more → with_later (with_argument argument all) later ≡ with_later (with_argument argument some) more
+    in_front argument None None later more same = refl
+    in_front argument None (Some some) later more same = absurd cc
+    in_front argument (Some all) None later more same = absurd cc
+    in_front argument (Some all) (Some some) later more same =
+        let behind : all ++ later ≡ some ++ more = cc in ap (λ (arguments : List Argument). Some (argument ∷ arguments)) behind
+
+-- the last name with the last tokens
+pub paired_step : (names others : List (List ℕ)) (name : List ℕ) (given rest : List (Vec Pending Global)) (tokens : Vec Pending Global) (later more : List Supplied)
+    (supplied : Supplied) (all : Option (List Argument)) → names ≡ others ++ name ∷ [] → given ≡ rest ++ tokens ∷ [] → more ≡ later ++ supplied ∷ []
+    → supplied.parameter.now ≡ name → supplied.tokens ≡ tokens
+    → with_later (paired names (map row given)) (waiting later) ≡ all → with_later (paired others (map row rest)) (waiting more) ≡ all
+paired_step names others name given rest tokens later more supplied all split popped pushed named taken same =
+    let pair : argument supplied ≡ record { parameter = name; tokens = row tokens } =
+    (λ i. record { parameter = named i; tokens = row (taken i) }) in
+    let next : waiting more ≡ record { parameter = name; tokens = row tokens } ∷ waiting later =
+    ap waiting pushed ∙ ap (map argument) (reverse-append later (supplied ∷ [])) ∙ ap (λ (first : Argument). first ∷ waiting later) pair in
+    ap (with_later (paired others (map row rest))) next
+    ∙ sym (paired-push others (map row rest) name (row tokens) (waiting later))
+    ∙ ap (λ (given' : List (List Hidden)). with_later (paired (others ++ name ∷ []) given') (waiting later)) (sym (ap (map row) popped ∙ map-append row rest (tokens ∷ [])))
+    ∙ ap (λ (names' : List (List ℕ)). with_later (paired names' (map row given)) (waiting later)) (sym split)
+    ∙ same
+
+-- a name without an argument
+paired_short : (others : List (List ℕ)) (name : List ℕ) → paired (others ++ name ∷ []) [] ≡ None
+paired_short [] name = refl
+paired_short (first ∷ others) name = refl
+
+-- so there are fewer arguments than parameters
+pub none_left : (names others : List (List ℕ)) (name : List ℕ) (given : List (Vec Pending Global)) (later : List Argument) (all : Option (List Argument))
+    → names ≡ others ++ name ∷ [] → given ≡ [] → with_later (paired names (map row given)) later ≡ all → None ≡ all
+none_left names others name given later all split none same =
+    ap (λ (arguments : Option (List Argument)). with_later arguments later)
+    (sym (ap (λ (names' : List (List ℕ)). paired names' []) split ∙ paired_short others name))
+    ∙ ap (λ (given' : List (Vec Pending Global)). with_later (paired names (map row given')) later) (sym none)
+    ∙ same

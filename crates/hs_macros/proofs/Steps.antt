@@ -1,0 +1,252 @@
+-- One step of the code's stack: what is left comes to the same as all, and less is left.
+--     resumed-push, resumed-Err       one more invocation waits;  a refusal comes to a refusal
+--     begins, places, refuses         an argument is begun;  the tokens are put in place, or pass a limit
+--     ends                            an argument is expanded
+use Rattle.std.proofs.Common.{◌≡◌, ℕ, ◌+◌, ◌≤◌, Bool, true, List, [], ◌∷◌, ◌++◌, map, reverse, length, Result, Ok, Err, Vec, Global, Bor, refl, sym, ap, subst, ◌∙◌, inl, inr, ◌⊎◌, append_assoc, arith, length-append, if◌then◌else◌}
+use Rattle.std.proofs.lemmas.List.{append-nil, map-append, reverse-append, reverse-reverse, length-map, length-reverse}
+use Rattle.hs_macros.specs.Arguments.{Hidden, Argument}
+use Rattle.hs_macros.specs.Definitions.{Definitions}
+use Rattle.hs_macros.specs.Replacement.{Invocation, Found, stays, wrong, invoked, found, is_used, placed, spent, Expansion, Outcome, with_front, and_then, placed_again, called, expanded_at, expanded}
+use Rattle.hs_macros.specs.ExpandedLaws.{load, spent_tokens, held_of_found, expanded-none, expanded-token}
+use Rattle.hs_macros.specs.Stacks.{hidden, done, ahead, argument, ready, waiting, invocation}
+use Rattle.hs_macros.specs.Levels.{level_outcome, call_outcome, after_argument, resumed, IsStep, weight_of, weights, weight}
+use Rattle.hs_macros.specs.declared.arguments.Supplied.{Supplied}
+use Rattle.hs_macros.specs.declared.budget.Budget.{Budget}
+use Rattle.hs_macros.specs.declared.call.Call.{Call}
+use Rattle.hs_macros.specs.declared.error.MacroError.{MacroError}
+use Rattle.hs_macros.specs.declared.error.MacroError.TheVariants.{ArgCount, NoMemory}
+use Rattle.hs_macros.specs.declared.expansion.Level.{Level}
+use Rattle.hs_macros.specs.declared.expansion.Suspended.{Suspended}
+use Rattle.hs_macros.specs.declared.pending.Pending.{Pending}
+
+-- one more invocation waits: it gets what the innermost comes to
+pub resumed-push : (macros : Definitions) (calls : List Suspended) (last : Suspended) (outcome : Outcome)
+    → resumed macros (calls ++ last ∷ []) outcome ≡ resumed macros calls (and_then outcome (after_argument macros last))
+resumed-push macros [] last outcome = refl
+resumed-push macros (first ∷ calls) last outcome =
+    ap (λ (inner : Outcome). and_then inner (after_argument macros first)) (resumed-push macros calls last outcome)
+
+-- a refusal comes to a refusal
+pub resumed-Err : (macros : Definitions) (calls : List Suspended) (error : MacroError) → resumed macros calls (Err error) ≡ Err error
+resumed-Err macros [] error = refl
+resumed-Err macros (first ∷ calls) error = ap (λ (inner : Outcome). and_then inner (after_argument macros first)) (resumed-Err macros calls error)
+
+pub weights-push : (calls : List Suspended) (last : Suspended) → weights (calls ++ last ∷ []) ≡ weights calls + weight_of last
+weights-push [] last = omega arith
+weights-push (first ∷ calls) last = omega (arith, weights-push calls last)
+
+-- no tokens in front change nothing
+front_none : (outcome : Outcome) → with_front [] outcome ≡ outcome
+front_none (Err error) = refl
+front_none (Ok expansion) = refl
+
+-- tokens in front of a sequence stand in front of what comes last
+front_then : (front : List Hidden) (first : Outcome) (next : Expansion → Outcome)
+    → with_front front (and_then first next) ≡ and_then first (λ between. with_front front (next between))
+front_then front (Err error) next = refl
+front_then front (Ok between) next = refl
+
+-- tokens in front of tokens
+pub front_front : (front more : List Hidden) (outcome : Outcome) → with_front (front ++ more) outcome ≡ with_front front (with_front more outcome)
+front_front front more (Err error) = refl
+front_front front more (Ok expansion) =
+    ap (λ (tokens : List Hidden). Ok (record { tokens = tokens; left = expansion.left })) (append_assoc front more expansion.tokens)
+
+-- the next argument is the last of those that wait
+waiting-push : (rest : List Supplied) (last : Supplied) → waiting (rest ++ last ∷ []) ≡ argument last ∷ waiting rest
+waiting-push rest last = ap (map argument) (reverse-append rest (last ∷ []))
+
+-- as many tokens as the list has
+length-ahead : (tokens : List Pending) → length (ahead tokens) ≡ length tokens
+length-ahead tokens = length-map (reverse tokens) hidden ∙ length-reverse tokens
+
+-- an argument that the macro uses, and the others
+used_first : (macros : Definitions) (call : Invocation) (ready' later : List Argument) (first : Argument) (left : Budget)
+    → is_used first.parameter call.body ≡ true
+    → called (expanded macros) call ready' (first ∷ later) left
+    ≡ and_then (expanded macros left first.tokens)
+    (λ done'. called (expanded macros) call (ready' ++ record { parameter = first.parameter; tokens = done'.tokens } ∷ []) later done'.left)
+used_first macros call ready' later first left used =
+    let expands : Outcome = and_then (expanded macros left first.tokens)
+    (λ done'. called (expanded macros) call (ready' ++ record { parameter = first.parameter; tokens = done'.tokens } ∷ []) later done'.left) in
+    let skips : Outcome = called (expanded macros) call (ready' ++ first ∷ []) later left in
+    ap (λ (answer : Bool). if answer then expands else skips) used
+
+-- the next argument is begun
+pub begins : (macros : Definitions) (calls more : List Suspended) (before tokens blank : Vec Pending Global) (call : Call) (rest : Vec Supplied Global)
+    (next : Supplied) (left : Budget) → call.waiting.items ≡ rest.items ++ next ∷ [] → is_used next.parameter.now call.body.now ≡ true
+    → blank.items ≡ [] → tokens.items ≡ reverse next.tokens.items
+    → more ≡ calls ++ record { before = before; call = record call { waiting = rest }; parameter = next.parameter } ∷ []
+    → resumed macros more (level_outcome macros (record { before = blank; tokens = tokens; left = left }))
+    ≡ resumed macros calls (call_outcome macros (done before.items) call left)
+begins macros calls more before tokens blank call rest next left popped used empty turned pushed =
+    let last : Suspended = record { before = before; call = record call { waiting = rest }; parameter = next.parameter } in
+    let tokens_ahead : ahead tokens.items ≡ done next.tokens.items =
+    ap ahead turned ∙ ap done (reverse-reverse next.tokens.items) in
+    let begun : level_outcome macros (record { before = blank; tokens = tokens; left = left }) ≡ expanded macros left (done next.tokens.items) =
+    ap (λ (front : List Pending). with_front (done front) (expanded macros left (ahead tokens.items))) empty
+    ∙ front_none (expanded macros left (ahead tokens.items))
+    ∙ ap (expanded macros left) tokens_ahead in
+    let later : Expansion → Outcome = λ done'. called (expanded macros) (invocation call)
+    (ready call.ready.items ++ record { parameter = next.parameter.now; tokens = done'.tokens } ∷ []) (waiting rest.items) done'.left in
+    let whole : call_outcome macros (done before.items) call left ≡ and_then (expanded macros left (done next.tokens.items)) (after_argument macros last) =
+    ap (λ (arguments : List Argument). with_front (done before.items) (called (expanded macros) (invocation call) (ready call.ready.items) arguments left))
+    (ap waiting popped ∙ waiting-push rest.items next)
+    ∙ ap (with_front (done before.items)) (used_first macros (invocation call) (ready call.ready.items) (waiting rest.items) (argument next) left used)
+    ∙ front_then (done before.items) (expanded macros left (done next.tokens.items)) later in
+    ap (λ (all : List Suspended). resumed macros all (level_outcome macros (record { before = blank; tokens = tokens; left = left }))) pushed
+    ∙ resumed-push macros calls last (level_outcome macros (record { before = blank; tokens = tokens; left = left }))
+    ∙ ap (resumed macros calls) (ap (λ (outcome : Outcome). and_then outcome (after_argument macros last)) begun ∙ sym whole)
+
+-- what an argument that is begun leaves to do
+pub begins_falls : (calls more : List Suspended) (before tokens blank : Vec Pending Global) (call : Call) (rest : Vec Supplied Global)
+    (next : Supplied) (left : Budget) → call.waiting.items ≡ rest.items ++ next ∷ [] → tokens.items ≡ reverse next.tokens.items
+    → more ≡ calls ++ record { before = before; call = record call { waiting = rest }; parameter = next.parameter } ∷ []
+    → weights more + weight (record { before = blank; tokens = tokens; left = left })
+    ≤ weights calls + load (waiting call.waiting.items) + length call.behind.items + left.tokens
+begins_falls calls more before tokens blank call rest next left popped turned pushed =
+    let last : Suspended = record { before = before; call = record call { waiting = rest }; parameter = next.parameter } in
+    let heavier : weights more ≡ weights calls + weight_of last = ap weights pushed ∙ weights-push calls last in
+    let held : load (waiting call.waiting.items) ≡ length (done next.tokens.items) + 1 + load (waiting rest.items) =
+    ap load (ap waiting popped ∙ waiting-push rest.items next) in
+    let many : length tokens.items ≡ length next.tokens.items = ap length turned ∙ length-reverse next.tokens.items in
+    omega (arith, heavier, held, many, length-map next.tokens.items hidden)
+
+-- no argument waits: the tokens are put in place
+last_placed : (macros : Definitions) (before : List Hidden) (call : Call) (left : Budget) (answer : Result Budget MacroError) → call.waiting.items ≡ []
+    → answer ≡ spent left (length (placed (invocation call) (ready call.ready.items)))
+    → call_outcome macros before call left
+    ≡ with_front before (placed_again (expanded macros) (invocation call) (placed (invocation call) (ready call.ready.items)) answer)
+last_placed macros before call left answer none is =
+    ap (λ (arguments : List Supplied). with_front before (called (expanded macros) (invocation call) (ready call.ready.items) (waiting arguments) left)) none
+    ∙ ap (λ (after : Result Budget MacroError). with_front before (placed_again (expanded macros) (invocation call) (placed (invocation call) (ready call.ready.items)) after)) (sym is)
+
+pub places : (macros : Definitions) (calls : List Suspended) (before tokens : Vec Pending Global) (call : Call) (left after : Budget)
+    → call.waiting.items ≡ [] → Ok after ≡ spent left (length (placed (invocation call) (ready call.ready.items)))
+    → ahead tokens.items ≡ placed (invocation call) (ready call.ready.items) ++ ahead call.behind.items
+    → resumed macros calls (level_outcome macros (record { before = before; tokens = tokens; left = after }))
+    ≡ resumed macros calls (call_outcome macros (done before.items) call left)
+places macros calls before tokens call left after none is put =
+    ap (resumed macros calls)
+    (ap (λ (tokens' : List Hidden). with_front (done before.items) (expanded macros after tokens')) put
+    ∙ sym (last_placed macros (done before.items) call left (Ok after) none is))
+
+pub places_falls : (tokens : Vec Pending Global) (call : Call) (left after : Budget)
+    → Ok after ≡ spent left (length (placed (invocation call) (ready call.ready.items)))
+    → ahead tokens.items ≡ placed (invocation call) (ready call.ready.items) ++ ahead call.behind.items
+    → length tokens.items + after.tokens ≡ length call.behind.items + left.tokens
+places_falls tokens call left after is put =
+    omega (
+      arith,
+      length-ahead tokens.items,
+      ap length put,
+      length-append (placed (invocation call) (ready call.ready.items)) (ahead call.behind.items),
+      length-ahead call.behind.items,
+      spent_tokens left after (length (placed (invocation call) (ready call.ready.items))) (sym is),
+    )
+
+-- or they pass a limit
+pub refuses : (macros : Definitions) (calls : List Suspended) (before : List Hidden) (call : Call) (left : Budget) (error : MacroError)
+    → call.waiting.items ≡ [] → Err error ≡ spent left (length (placed (invocation call) (ready call.ready.items)))
+    → resumed macros calls (call_outcome macros before call left) ≡ Err error
+refuses macros calls before call left error none is =
+    ap (resumed macros calls) (last_placed macros before call left (Err error) none is) ∙ resumed-Err macros calls error
+
+-- the same invocation with the same arguments waiting
+pub same_waiting : (macros : Definitions) (before : List Hidden) (call : Call) (rest : Vec Supplied Global) (left : Budget) → rest.items ≡ call.waiting.items
+    → call_outcome macros before (record call { waiting = rest }) left ≡ call_outcome macros before call left
+same_waiting macros before call rest left same =
+    ap (λ (arguments : List Supplied). with_front before (called (expanded macros) (invocation call) (ready call.ready.items) (waiting arguments) left)) same
+
+-- a token that stays is done
+pub stays_done : (macros : Definitions) (before more : List Pending) (token : Pending) (rest : List Hidden) (left : Budget)
+    → more ≡ before ++ token ∷ []
+    → with_front (done more) (expanded macros left rest) ≡ with_front (done before) (with_front (hidden token ∷ []) (expanded macros left rest))
+stays_done macros before more token rest left pushed =
+    ap (λ (front : List Hidden). with_front front (expanded macros left rest)) (ap done pushed ∙ map-append hidden before (token ∷ []))
+    ∙ front_front (done before) (hidden token ∷ []) (expanded macros left rest)
+
+-- what begins at the next token, with those behind it
+pub whole_at : (macros : Definitions) (before : List Hidden) (token : Pending) (rest : List Hidden) (left : Budget) (what : Found)
+    → found macros (hidden token) rest ≡ what
+    → with_front before (expanded macros left (hidden token ∷ rest)) ≡ with_front before (expanded_at (expanded macros) left (hidden token) rest what)
+whole_at macros before token rest left what is =
+    ap (with_front before) (expanded-token macros left (hidden token) rest
+    ∙ ap (λ (found' : Found). expanded_at (expanded macros) left (hidden token) rest found') is)
+
+-- no tokens are ahead: those that are done are all
+pub whole_done : (macros : Definitions) (before : List Hidden) (left : Budget)
+    → with_front before (expanded macros left []) ≡ Ok (record { tokens = before; left = left })
+whole_done macros before left =
+    ap (with_front before) (expanded-none macros left)
+    ∙ ap (λ (tokens : List Hidden). Ok (record { tokens = tokens; left = left })) (append-nil before)
+
+-- an argument that is expanded is ready
+pub ends : (macros : Definitions) (calls all : List Suspended) (before argument' : Vec Pending Global) (call : Call) (ready' : Vec Supplied Global)
+    (parameter : Bor (List ℕ)) (left : Budget)
+    → all ≡ calls ++ record { before = before; call = call; parameter = parameter } ∷ []
+    → ready'.items ≡ call.ready.items ++ record { parameter = parameter; tokens = argument' } ∷ []
+    → resumed macros calls (call_outcome macros (done before.items) (record call { ready = ready' }) left)
+    ≡ resumed macros all (with_front (done argument'.items) (expanded macros left []))
+ends macros calls all before argument' call ready' parameter left popped pushed =
+    let waits : Suspended = record { before = before; call = call; parameter = parameter } in
+    let arguments : ready ready'.items ≡ ready call.ready.items ++ record { parameter = parameter.now; tokens = done argument'.items } ∷ [] =
+    ap ready pushed ∙ map-append argument call.ready.items (record { parameter = parameter; tokens = argument' } ∷ []) in
+    sym (
+    ap (λ (calls' : List Suspended). resumed macros calls' (with_front (done argument'.items) (expanded macros left []))) popped
+    ∙ resumed-push macros calls waits (with_front (done argument'.items) (expanded macros left []))
+    ∙ ap (λ (outcome : Outcome). resumed macros calls (and_then outcome (after_argument macros waits))) (whole_done macros (done argument'.items) left)
+    ∙ ap (λ (all' : List Argument). resumed macros calls (with_front (done before.items) (called (expanded macros) (invocation call) all' (waiting call.waiting.items) left)))
+    (sym arguments))
+
+-- what comes to the same as the whole decides the whole
+pub step_of : (whole other : Outcome) (later : Level → Outcome) (result : Result Level MacroError) → whole ≡ other → IsStep whole later result → IsStep other later result
+step_of whole other later result same step = subst (λ (outcome : Outcome). IsStep outcome later result) same step
+
+-- the invocation that begins at the token
+pub whole_invoked : (macros : Definitions) (calls : List Suspended) (before : List Hidden) (token : Pending) (rest : List Hidden) (left : Budget) (call : Call)
+    → (found macros (hidden token) rest ≡ invoked (invocation call) (waiting call.waiting.items)) × (call.ready.items ≡ [])
+    → resumed macros calls (call_outcome macros before call left) ≡ resumed macros calls (with_front before (expanded macros left (hidden token ∷ rest)))
+whole_invoked macros calls before token rest left call (is, fresh) =
+    ap (resumed macros calls) (
+    ap (λ (arguments : List Supplied). with_front before (called (expanded macros) (invocation call) (ready arguments) (waiting call.waiting.items) left)) fresh
+    ∙ sym (whole_at macros before token rest left (invoked (invocation call) (waiting call.waiting.items)) is))
+
+-- a wrong one refuses the whole, at the token
+pub whole_refused : (macros : Definitions) (calls : List Suspended) (before : List Hidden) (token : Pending) (rest : List Hidden) (left : Budget) (error : MacroError)
+    → (error ≡ NoMemory) ⊎ ((found macros (hidden token) rest ≡ wrong) × (error ≡ ArgCount token.pos))
+    → (error ≡ NoMemory) ⊎ (resumed macros calls (with_front before (expanded macros left (hidden token ∷ rest))) ≡ Err error)
+whole_refused macros calls before token rest left error (inl refused) = inl refused
+whole_refused macros calls before token rest left error (inr (is, named)) = inr (
+    ap (resumed macros calls) (whole_at macros before token rest left wrong is)
+    ∙ resumed-Err macros calls (ArgCount token.pos)
+    ∙ ap (λ (error' : MacroError). Err error') (sym named))
+
+-- what an invocation holds stood behind its name
+pub held_behind : (macros : Definitions) (token : Pending) (tokens : List Pending) (call : Call)
+    → (found macros (hidden token) (ahead tokens) ≡ invoked (invocation call) (waiting call.waiting.items)) × (call.ready.items ≡ [])
+    → load (waiting call.waiting.items) + length call.behind.items ≤ length tokens
+held_behind macros token tokens call (is, fresh) =
+    omega (arith, held_of_found macros (hidden token) (ahead tokens) (invocation call) (waiting call.waiting.items) is, length-ahead call.behind.items, length-ahead tokens)
+
+-- no tokens are ahead of the level
+pub level_done : (macros : Definitions) (calls : List Suspended) (level : Level) → level.tokens.items ≡ []
+    → resumed macros calls (with_front (done level.before.items) (expanded macros level.left [])) ≡ resumed macros calls (level_outcome macros level)
+level_done macros calls level none =
+    ap (λ (tokens : List Pending). resumed macros calls (with_front (done level.before.items) (expanded macros level.left (ahead tokens)))) (sym none)
+
+-- the token stays, and the others are still ahead
+pub whole_stays : (macros : Definitions) (before : List Hidden) (token : Pending) (tokens rest : List Hidden) (left : Budget)
+    → (found macros (hidden token) rest ≡ stays) × (tokens ≡ rest)
+    → with_front before (with_front (hidden token ∷ []) (expanded macros left tokens)) ≡ with_front before (expanded macros left (hidden token ∷ rest))
+whole_stays macros before token tokens rest left (is, same) =
+    ap (λ (tokens' : List Hidden). with_front before (with_front (hidden token ∷ []) (expanded macros left tokens'))) same
+    ∙ sym (whole_at macros before token rest left stays is)
+
+-- nothing waits and nothing is ahead: what is done is all
+pub all_done : (macros : Definitions) (calls : List Suspended) (level : Level) → calls ≡ [] → level.tokens.items ≡ []
+    → resumed macros calls (level_outcome macros level) ≡ Ok (record { tokens = done level.before.items; left = level.left })
+all_done macros calls level none empty =
+    ap (λ (calls' : List Suspended). resumed macros calls' (level_outcome macros level)) none
+    ∙ ap (λ (tokens : List Pending). with_front (done level.before.items) (expanded macros level.left (ahead tokens))) empty
+    ∙ whole_done macros (done level.before.items) level.left

@@ -1,0 +1,15 @@
+use Rattle.std.proofs.Common.{◌≡◌, ◌+◌, ◌≤◌, [], map, length}
+use Rattle.hs_macros.specs.Arguments.{arguments_from}
+use Rattle.hs_macros.specs.Stacks.{ahead, done, collected}
+use Rattle.hs_macros.proofs.arguments.arguments_ahead.Given as goal
+
+-- the arguments so far, and those that the tokens ahead have, are all; each open parenthesis was a token
+abbrev pub invariant-tokens : goal.invariant-tokens
+invariant-tokens l = record {
+  same : collected (map (λ argument. done argument.items) l.given.items) (done l.argument.items) (arguments_from l.depth (ahead l.tokens.items))
+      ≡ collected [] [] (arguments_from 0 (ahead l.initial.tokens.items));
+  few : l.depth + length l.tokens.items ≤ length l.initial.tokens.items;
+}
+
+abbrev pub decreases-tokens : goal.decreases-tokens
+decreases-tokens l = length l.tokens.items

@@ -1,0 +1,65 @@
+use Rattle.std.proofs.Common.{◌≡◌, [], List, length, sym, ap, ◌∙◌, inr, arith}
+use Rattle.std.proofs.lemmas.List.{nil_from_length}
+use Rattle.std.proofs.lemmas.Result.{err_from_is_err_and}
+use Rattle.hs_macros.specs.Stacks.{done}
+use Rattle.hs_macros.specs.Levels.{call_outcome, resumed, weights}
+use Rattle.hs_macros.specs.declared.call.Call.{Call}
+use Rattle.hs_macros.specs.declared.expansion.Suspended.{Suspended}
+use Rattle.hs_macros.proofs.Steps.{begins, begins_falls, places, places_falls, refuses, same_waiting}
+use Rattle.hs_macros.proofs.expansion.proceed.Goals as goal
+
+-- the next argument is begun
+pub returns-then-is_used-clause-step : goal.returns-then-is_used-clause-step
+returns-then-is_used-clause-step c macros =
+    begins macros c.arguments.calls.items c.push.new.self.items c.args.before c.reverse.new.self c.new.result c.arguments.call c.pop.new.self
+    c.in-Some.argument c.args.left c.in-Some.ensures.items (sym c.is_used.ensures ∙ c.if-is_used.true) c.new.ensures.items c.reverse.ensures.items
+    c.in_ok-push.ensures.items
+    ∙ ap (λ (calls : List Suspended). resumed macros calls (call_outcome macros (done c.args.before.items) c.arguments.call c.args.left)) c.arguments.invariant.waits
+    ∙ ap (resumed macros c.args.calls.now.items) (c.arguments.invariant.same macros)
+
+-- with fewer arguments that wait
+pub returns-then-is_used-clause-falls : goal.returns-then-is_used-clause-falls
+returns-then-is_used-clause-falls c =
+    omega (
+      arith,
+      begins_falls c.arguments.calls.items c.push.new.self.items c.args.before c.reverse.new.self c.new.result c.arguments.call c.pop.new.self
+          c.in-Some.argument c.args.left c.in-Some.ensures.items c.reverse.ensures.items c.in_ok-push.ensures.items,
+      ap weights c.arguments.invariant.waits,
+      c.arguments.invariant.fewer,
+      ap length c.arguments.invariant.behind,
+    )
+
+-- the tokens pass a limit
+pub returns-in_err-left-clause-step : goal.returns-in_err-left-clause-step
+returns-in_err-left-clause-step c macros =
+    let exit = err_from_is_err_and c.from_residual-in_err-left.result c.from_residual-in_err-left.ensures.1 in
+    let last : Call = record c.arguments.call { waiting = c.pop.new.self } in
+    let none : c.pop.new.self.items ≡ [] = nil_from_length _ (omega (arith, c.pop.new.self.ok.0, c.in_default.ensures.cases.1)) in
+    let same : c.pop.new.self.items ≡ c.arguments.call.waiting.items =
+    none ∙ sym (nil_from_length _ (omega (arith, c.arguments.call.waiting.ok.0, c.in_default.ensures.cases.0))) in
+    rw (exit.1, exit.2) (inr (
+    ap (resumed macros c.args.calls.now.items) (sym (same_waiting macros (done c.args.before.items) c.arguments.call c.pop.new.self c.args.left same
+    ∙ c.arguments.invariant.same macros))
+    ∙ refuses macros c.args.calls.now.items (done c.args.before.items) last c.args.left _ none c.in_err-left.ensures))
+
+-- or they are put in place
+pub returns-clause-step : goal.returns-clause-step
+returns-clause-step c macros =
+    let last : Call = record c.arguments.call { waiting = c.pop.new.self } in
+    let none : c.pop.new.self.items ≡ [] = nil_from_length _ (omega (arith, c.pop.new.self.ok.0, c.in_default.ensures.cases.1)) in
+    let same : c.pop.new.self.items ≡ c.arguments.call.waiting.items =
+    none ∙ sym (nil_from_length _ (omega (arith, c.arguments.call.waiting.ok.0, c.in_default.ensures.cases.0))) in
+    places macros c.arguments.calls.items c.args.before c.in_ok-place.field-0 last c.args.left c.in_ok-left.left none c.in_ok-left.ensures c.in_ok-place.ensures
+    ∙ ap (λ (calls : List Suspended). resumed macros calls (call_outcome macros (done c.args.before.items) last c.args.left)) c.arguments.invariant.waits
+    ∙ ap (resumed macros c.args.calls.now.items) (same_waiting macros (done c.args.before.items) c.arguments.call c.pop.new.self c.args.left same
+    ∙ c.arguments.invariant.same macros)
+
+pub returns-clause-falls : goal.returns-clause-falls
+returns-clause-falls c =
+    let last : Call = record c.arguments.call { waiting = c.pop.new.self } in
+    omega (
+      arith,
+      places_falls c.in_ok-place.field-0 last c.args.left c.in_ok-left.left c.in_ok-left.ensures c.in_ok-place.ensures,
+      ap weights c.arguments.invariant.waits,
+      ap length c.arguments.invariant.behind,
+    )

@@ -1,0 +1,18 @@
+use Rattle.std.proofs.Common.{◌≡◌, ◌≤◌, length}
+use Rattle.hs_macros.specs.Definitions.{Definitions}
+use Rattle.hs_macros.specs.ExpandedLaws.{load}
+use Rattle.hs_macros.specs.Stacks.{done, waiting}
+use Rattle.hs_macros.specs.Levels.{call_outcome}
+use Rattle.hs_macros.proofs.expansion.proceed.Given as goal
+
+-- arguments that are not used change nothing of what comes of the invocation
+abbrev pub invariant-arguments : goal.invariant-arguments
+invariant-arguments l = record {
+  same : (macros : Definitions) → call_outcome macros (done l.before.items) l.call l.left ≡ call_outcome macros (done l.before.items) l.fn.call l.left;
+  fewer : load (waiting l.call.waiting.items) ≤ load (waiting l.fn.call.waiting.items);
+  behind : l.call.behind.items ≡ l.fn.call.behind.items;
+  waits : l.calls.items ≡ l.initial.calls.items;
+}
+
+abbrev pub decreases-arguments : goal.decreases-arguments
+decreases-arguments l = length l.call.waiting.items

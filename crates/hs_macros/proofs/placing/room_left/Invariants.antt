@@ -1,0 +1,12 @@
+use Rattle.std.proofs.Common.{◌≡◌, ◌+◌, length, take}
+use Rattle.std.specs.List.{flat_map}
+use Rattle.hs_base.specs.declared.pos.Pos.{Pos}
+use Rattle.hs_macros.specs.HideSets.{HideSet}
+use Rattle.hs_macros.specs.Replacement.{placed_at}
+use Rattle.hs_macros.specs.Stacks.{ready}
+use Rattle.hs_macros.proofs.placing.room_left.Given as goal
+
+-- the tokens so far took what is gone
+abbrev pub invariant-loop-token : goal.invariant-loop-token
+invariant-loop-token l = (pos : Pos) (hides : HideSet)
+    → l.room + length (flat_map (placed_at pos hides (ready l.arguments)) (take l.token-index l.body)) ≡ l.initial.room

@@ -1,0 +1,58 @@
+-- Where the code stands, in the words of the definition. It keeps its own stack: an invocation waits there while one of its
+-- arguments is expanded.
+--     level_outcome macros level          what comes of the tokens done and those ahead
+--     call_outcome macros before call left    what comes of an invocation behind those
+--     resumed macros calls outcome        what comes of all, where that comes of the innermost
+--     IsStep whole later result           the result decides what the whole comes to
+--     weights calls, weight level         how many steps are left at most
+use Rattle.std.specs.Prelude.{◌≡◌, ℕ, ◌+◌, ◌⊎◌, List, [], ◌∷◌, ◌++◌, length, Result, Ok, Err}
+use Rattle.hs_macros.specs.Arguments.{Hidden}
+use Rattle.hs_macros.specs.Definitions.{Definitions}
+use Rattle.hs_macros.specs.Replacement.{Expansion, Outcome, with_front, and_then, called, expanded}
+use Rattle.hs_macros.specs.ExpandedLaws.{load}
+use Rattle.hs_macros.specs.Stacks.{done, ahead, ready, waiting, invocation}
+use Rattle.hs_macros.specs.declared.budget.Budget.{Budget}
+use Rattle.hs_macros.specs.declared.call.Call.{Call}
+use Rattle.hs_macros.specs.declared.error.MacroError.{MacroError}
+use Rattle.hs_macros.specs.declared.error.MacroError.TheVariants.{NoMemory}
+use Rattle.hs_macros.specs.declared.expansion.Level.{Level}
+use Rattle.hs_macros.specs.declared.expansion.Suspended.{Suspended}
+
+-- the tokens that are done, and what comes of those ahead
+abbrev pub level_outcome : Definitions → Level → Outcome
+level_outcome macros level = with_front (done level.before.items) (expanded macros level.left (ahead level.tokens.items))
+
+-- the tokens before an invocation, and what comes of it
+abbrev pub call_outcome : Definitions → List Hidden → Call → Budget → Outcome
+call_outcome macros before call left =
+    with_front before (called (expanded macros) (invocation call) (ready call.ready.items) (waiting call.waiting.items) left)
+
+-- what comes of an invocation when the argument for which it waits is expanded
+abbrev pub after_argument : Definitions → Suspended → Expansion → Outcome
+after_argument macros suspended argument =
+    with_front (done suspended.before.items) (called (expanded macros) (invocation suspended.call)
+    (ready suspended.call.ready.items ++ record { parameter = suspended.parameter.now; tokens = argument.tokens } ∷ [])
+    (waiting suspended.call.waiting.items) argument.left)
+
+-- the invocations that wait, the innermost last
+abbrev pub resumed : Definitions → List Suspended → Outcome → Outcome
+resumed macros [] outcome = outcome
+resumed macros (suspended ∷ calls) outcome = and_then (resumed macros calls outcome) (after_argument macros suspended)
+
+-- A step goes on to what comes to the same, or it gives the refusal that all comes to. Want of memory alone is free.
+abbrev pub IsStep : Outcome → (Level → Outcome) → Result Level MacroError → Type 0
+IsStep whole later (Ok level) = later level ≡ whole
+IsStep whole later (Err error) = (error ≡ NoMemory) ⊎ (whole ≡ Err error)
+
+-- what an invocation that waits holds, and itself
+abbrev pub weight_of : Suspended → ℕ
+weight_of suspended = load (waiting suspended.call.waiting.items) + length suspended.call.behind.items + 1
+
+-- all of them
+abbrev pub weights : List Suspended → ℕ
+weights [] = 0
+weights (suspended ∷ calls) = weight_of suspended + weights calls
+
+-- the tokens ahead, and those that may still be put in place
+abbrev pub weight : Level → ℕ
+weight level = length level.tokens.items + level.left.tokens

@@ -1,0 +1,9 @@
+pub mod Arguments
+pub mod Definitions
+pub mod ExpandedLaws
+pub mod HideSets
+pub mod Levels
+pub mod Lines
+pub mod Marks
+pub mod Replacement
+pub mod Stacks

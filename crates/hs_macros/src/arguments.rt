@@ -1,0 +1,126 @@
+ghost use Rattle.std.specs.Prelude.{◌≡◌, ◌<◌, ◌^◌, [], map, IfOk};
+ghost use Rattle.hs_macros.specs.Arguments.{role_of, arguments_from, paired, bound};
+ghost use Rattle.hs_macros.specs.Stacks.{ahead, done, collected, seen, seen_waiting};
+
+use crate::lists::Names;
+use crate::marks::is_mark;
+use crate::pending::Pending;
+use hs_base::Bytes;
+use hs_tokens::Token;
+use std::alloc::{AllocError, Global};
+use std::mem;
+
+/// What stands between the parentheses of an invocation: its arguments, and the closing parenthesis.
+#[derive(Drop)]
+pub(crate) struct Between<'a> {
+    pub(crate) given: Vec<Vec<Pending<'a>>>,
+    pub(crate) close: Pending<'a>,
+}
+
+/// An argument, and the parameter that it is for.
+#[derive(Drop)]
+pub(crate) struct Supplied<'a> {
+    pub(crate) parameter: &'a [u8],
+    pub(crate) tokens: Vec<Pending<'a>>,
+}
+
+/// What a token does among the arguments of an invocation (X3.159-1989 3.8.3).
+#[derive(Clone, Copy)]
+pub(crate) enum Role {
+    /// The parenthesis that closes the invocation.
+    Ends,
+    /// A comma between two arguments.
+    Separates,
+    /// A token of an argument; so many parentheses are open behind it, beside that of the invocation.
+    Inside(usize),
+}
+
+/// What the token does, where so many parentheses are open before it.
+fn role_of(depth: usize, token: &Token) -> Role
+    requires { depth < 2 ^ 63 }
+    ensures { result ≡ role_of depth token.now }
+{
+    if is_mark(b"(", token) {
+        Role::Inside(depth + 1)
+    } else if is_mark(b")", token) {
+        if depth == 0 {
+            Role::Ends
+        } else {
+            Role::Inside(depth - 1)
+        }
+    } else if is_mark(b",", token) && depth == 0 {
+        Role::Separates
+    } else {
+        Role::Inside(depth)
+    }
+}
+
+/// Takes the arguments of an invocation, behind its opening parenthesis, or nothing where no parenthesis closes it
+/// (X3.159-1989 3.8.3).
+pub(crate) fn arguments_ahead<'a>(
+    alloc: Global,
+    tokens: &mut Vec<Pending<'a>>,
+) -> Result<Option<Between<'a>>, AllocError>
+    ensures { IfOk result (λ found. seen found (ahead tokens.new.items) ≡ collected [] [] (arguments_from 0 (ahead tokens.old.items))) }
+{
+    let mut given = Vec::new(alloc);
+    let mut argument = Vec::new(alloc);
+    let mut depth: usize = 0;
+    'tokens: while let Some(token) = tokens.pop() {
+        match role_of(depth, token.token) {
+            Role::Ends => {
+                given.push(argument)?;
+                let close = token;
+                return Ok(Some(Between { given, close }));
+            }
+            Role::Separates => {
+                given.push(mem::replace(&mut argument, Vec::new(alloc)))?;
+                depth = 0;
+            }
+            Role::Inside(behind) => {
+                argument.push(token)?;
+                depth = behind;
+            }
+        }
+    }
+    Ok(None)
+}
+
+/// As many arguments as parameters, the first one last; or nothing.
+fn paired<'a>(
+    alloc: Global,
+    names: &'a [Bytes],
+    given: Vec<Vec<Pending<'a>>>,
+) -> Result<Option<Vec<Supplied<'a>>>, AllocError>
+    ensures { IfOk result (λ arguments. seen_waiting arguments ≡ paired names.now (map (λ tokens. done tokens.items) given.entry.items)) }
+{
+    let mut names = names;
+    let mut given = given;
+    let mut waiting = Vec::new(alloc);
+    'names: while let Some((name, others)) = names.split_last() {
+        let Some(tokens) = given.pop() else {
+            return Ok(None);
+        };
+        waiting.push(Supplied {
+            parameter: name.items(),
+            tokens,
+        })?;
+        names = others;
+    }
+    Ok(given.is_empty().then_some(waiting))
+}
+
+/// The arguments with their parameters, where there are as many. No parameters take nothing between the parentheses
+/// (X3.159-1989 3.8.3).
+pub(crate) fn bound<'a>(
+    alloc: Global,
+    names: &'a Names,
+    given: Vec<Vec<Pending<'a>>>,
+) -> Result<Option<Vec<Supplied<'a>>>, AllocError>
+    ensures { IfOk result (λ arguments. seen_waiting arguments ≡ bound names.now (map (λ tokens. done tokens.items) given.entry.items)) }
+{
+    if names.items().is_empty() && given.len() == 1 && given[0].is_empty() {
+        return Ok(Some(Vec::new(alloc)));
+    }
+    paired(alloc, names.items(), given)
+}

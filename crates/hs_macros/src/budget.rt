@@ -1,0 +1,8 @@
+/// What is left of two limits.
+#[derive(Clone, Copy, Debug, PartialEq, Eq)]
+pub struct Budget {
+    /// Replacements that may still be done.
+    pub replacements: u64,
+    /// Tokens that they may still put in place.
+    pub tokens: u64,
+}

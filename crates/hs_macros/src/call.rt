@@ -1,0 +1,134 @@
+ghost use Rattle.std.specs.Prelude.{◌≡◌, [], IfOk};
+ghost use Rattle.hs_macros.specs.Replacement.{object, found_call, found_form, found};
+ghost use Rattle.hs_macros.specs.Arguments.{arguments_from};
+ghost use Rattle.hs_macros.specs.Stacks.{hidden, ahead, invocation, IsFound, IsCalled};
+
+use crate::arguments::{Between, Supplied, arguments_ahead, bound};
+use crate::error::MacroError;
+use crate::hide_set::HideSet;
+use crate::lists::Names;
+use crate::macros::Macros;
+use crate::marks::{is_identifier, is_mark};
+use crate::pending::Pending;
+use hs_base::Pos;
+use hs_tokens::Token;
+use std::alloc::{AllocError, Global};
+use std::rc::Rc;
+
+/// An invocation of a macro, whose arguments are expanded before its tokens are put in place.
+#[derive(Drop)]
+pub(crate) struct Call<'a> {
+    /// The macro's tokens.
+    pub(crate) body: &'a [Token],
+    /// Where they will stand.
+    pub(crate) pos: Pos,
+    /// What they will hide.
+    pub(crate) hides: Rc<HideSet<'a>>,
+    /// The arguments that are ready, in order.
+    pub(crate) ready: Vec<Supplied<'a>>,
+    /// Those that wait, the next one last.
+    pub(crate) waiting: Vec<Supplied<'a>>,
+    /// The tokens behind the invocation, the next one last.
+    pub(crate) behind: Vec<Pending<'a>>,
+}
+
+/// What begins at a token.
+#[derive(Drop)]
+pub(crate) enum Found<'a> {
+    /// The token stays. Behind it are these, the next one last.
+    Stays(Vec<Pending<'a>>),
+    /// An invocation.
+    Invoked(Call<'a>),
+}
+
+/// The bytes of the name.
+fn name_of<'a>(name: &Pending<'a>) -> &'a [u8]
+    ensures { result.now ≡ (hidden name.now).token.text }
+{
+    let token: &'a Token = name.token;
+    token.text.items()
+}
+
+/// The invocation of an object-like macro (X3.159-1989 3.8.3).
+fn object_call<'a>(
+    alloc: Global,
+    name: &Pending<'a>,
+    body: &'a [Token],
+    behind: Vec<Pending<'a>>,
+) -> Result<Call<'a>, AllocError>
+    ensures call { IfOk result (λ call. invocation call ≡ object (hidden name.now) body.now (ahead behind.entry.items)) }
+    ensures ready { IfOk result (λ call. call.ready.items ≡ []) }
+    ensures waiting { IfOk result (λ call. call.waiting.items ≡ []) }
+{
+    let hides = name.hides.object_hides(name_of(name))?;
+    Ok(Call {
+        body,
+        pos: name.pos,
+        hides: Rc::new(alloc, hides)?,
+        ready: Vec::new(alloc),
+        waiting: Vec::new(alloc),
+        behind,
+    })
+}
+
+/// The invocation of a function-like macro, whose opening parenthesis stands before the tokens (X3.159-1989 3.8.3).
+fn function_call<'a>(
+    alloc: Global,
+    name: &Pending<'a>,
+    body: &'a [Token],
+    parameters: &'a Names,
+    tokens: Vec<Pending<'a>>,
+) -> Result<Call<'a>, MacroError>
+    ensures { IsCalled (found_call (hidden name.now) body.now parameters.now (arguments_from 0 (ahead tokens.entry.items))) name.now.pos result }
+{
+    let mut behind = tokens;
+    let Some(between) = arguments_ahead(alloc, &mut behind)? else {
+        return Err(MacroError::ArgCount(name.pos));
+    };
+    let Between { given, close } = between;
+    let Some(waiting) = bound(alloc, parameters, given)? else {
+        return Err(MacroError::ArgCount(name.pos));
+    };
+    let hides = name.hides.call_hides(&close.hides, name_of(name))?;
+    Ok(Call {
+        body,
+        pos: name.pos,
+        hides: Rc::new(alloc, hides)?,
+        ready: Vec::new(alloc),
+        waiting,
+        behind,
+    })
+}
+
+/// What begins at a token with these behind it, the next one last (X3.159-1989 3.8.3). A token that hides its own name
+/// stays, and so does the name of a function-like macro that no parenthesis follows.
+pub(crate) fn invocation_at<'a>(
+    alloc: Global,
+    macros: &'a Macros,
+    token: &Pending<'a>,
+    tokens: Vec<Pending<'a>>,
+) -> Result<Found<'a>, MacroError>
+    ensures { IsFound (found macros.now (hidden token.now) (ahead tokens.entry.items)) token.now.pos (ahead tokens.entry.items) result }
+{
+    let name = name_of(token);
+    if !is_identifier(token.token) || token.hides.contains(name) {
+        return Ok(Found::Stays(tokens));
+    }
+    let Some(definition) = macros.definition(name) else {
+        return Ok(Found::Stays(tokens));
+    };
+    let body = definition.body.items();
+    let Some(parameters) = &definition.parameters else {
+        return Ok(Found::Invoked(object_call(alloc, token, body, tokens)?));
+    };
+    let mut behind = tokens;
+    let Some(next) = behind.pop() else {
+        return Ok(Found::Stays(behind));
+    };
+    if is_mark(b"(", next.token) {
+        let call = function_call(alloc, token, body, parameters, behind)?;
+        return Ok(Found::Invoked(call));
+    }
+    behind.push(next)?;
+    Ok(Found::Stays(behind))
+}

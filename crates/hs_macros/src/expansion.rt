@@ -1,0 +1,160 @@
+ghost use Rattle.std.specs.Prelude.{◌≡◌, ◌≤◌, ◌<◌, ◌+◌, ◌⊎◌, [], ◌∷◌, ◌++◌, length, OnOk, IfOk, IfErr, Ok, Err};
+ghost use Rattle.hs_macros.specs.Definitions.{Definitions};
+ghost use Rattle.hs_macros.specs.Replacement.{with_front, expanded};
+ghost use Rattle.hs_macros.specs.ExpandedLaws.{load};
+ghost use Rattle.hs_macros.specs.Stacks.{hidden, done, ahead, waiting};
+ghost use Rattle.hs_macros.specs.Levels.{level_outcome, call_outcome, after_argument, resumed, IsStep, weight_of, weights, weight};
+
+use crate::arguments::Supplied;
+use crate::budget::Budget;
+use crate::call::{Call, Found, invocation_at};
+use crate::error::MacroError;
+use crate::macros::Macros;
+use crate::pending::Pending;
+use crate::placing::is_used;
+use std::alloc::Global;
+
+/// How far the expansion of a list of tokens has come.
+#[derive(Drop)]
+pub(crate) struct Level<'a> {
+    /// The tokens that are done, in order.
+    pub(crate) before: Vec<Pending<'a>>,
+    /// Those ahead, the next one last.
+    pub(crate) tokens: Vec<Pending<'a>>,
+    pub(crate) left: Budget,
+}
+
+/// An invocation that waits for one of its arguments to be expanded.
+#[derive(Drop)]
+pub(crate) struct Suspended<'a> {
+    /// The tokens before the invocation, done.
+    pub(crate) before: Vec<Pending<'a>>,
+    pub(crate) call: Call<'a>,
+    /// The parameter whose argument is expanded.
+    pub(crate) parameter: &'a [u8],
+}
+
+/// Begins the next argument that the macro uses, or puts its tokens in place where none waits.
+fn proceed<'a>(
+    alloc: Global,
+    calls: &mut Vec<Suspended<'a>>,
+    before: Vec<Pending<'a>>,
+    call: Call<'a>,
+    left: Budget,
+) -> Result<Level<'a>, MacroError>
+    ensures step { (macros : Definitions) → IsStep (resumed macros calls.old.items (call_outcome macros (done before.entry.items) call.entry left))
+        (λ level. resumed macros calls.new.items (level_outcome macros level)) result }
+    ensures falls { IfOk result (λ level. weights calls.new.items + weight level
+        ≤ weights calls.old.items + load (waiting call.entry.waiting.items) + length call.entry.behind.items + left.tokens) }
+{
+    let mut call = call;
+    'arguments: while let Some(argument) = call.waiting.pop() {
+        if is_used(argument.parameter, call.body) {
+            let Supplied { parameter, tokens } = argument;
+            let mut tokens = tokens;
+            tokens.reverse();
+            calls.push(Suspended {
+                before,
+                call,
+                parameter,
+            })?;
+            return Ok(Level {
+                before: Vec::new(alloc),
+                tokens,
+                left,
+            });
+        }
+        call.ready.push(argument)?;
+    }
+    let left = call.spent(left)?;
+    Ok(Level {
+        before,
+        tokens: call.place(alloc)?,
+        left,
+    })
+}
+
+/// Takes the next token, with the level's tokens behind it: it stays, or the invocation that it begins is begun.
+fn take_token<'a>(
+    alloc: Global,
+    macros: &'a Macros,
+    calls: &mut Vec<Suspended<'a>>,
+    level: Level<'a>,
+    token: Pending<'a>,
+) -> Result<Level<'a>, MacroError>
+    ensures step { IsStep (resumed macros.now calls.old.items (with_front (done level.entry.before.items)
+        (expanded macros.now level.entry.left (hidden token.entry ∷ ahead level.entry.tokens.items))))
+        (λ level. resumed macros.now calls.new.items (level_outcome macros.now level)) result }
+    ensures falls { IfOk result (λ next. weights calls.new.items + weight next ≤ weights calls.old.items + weight level.entry) }
+{
+    let Level {
+        before,
+        tokens,
+        left,
+    } = level;
+    match invocation_at(alloc, macros, &token, tokens)? {
+        Found::Stays(tokens) => {
+            let mut before = before;
+            before.push(token)?;
+            Ok(Level {
+                before,
+                tokens,
+                left,
+            })
+        }
+        Found::Invoked(call) => proceed(alloc, calls, before, call, left),
+    }
+}
+
+/// Takes up the invocation that waited for the level's tokens, which are done.
+fn take_up<'a>(
+    alloc: Global,
+    calls: &mut Vec<Suspended<'a>>,
+    suspended: Suspended<'a>,
+    level: Level<'a>,
+) -> Result<Level<'a>, MacroError>
+    requires { level.tokens.items ≡ [] }
+    ensures step { (macros : Definitions) → IsStep (resumed macros (calls.old.items ++ suspended.entry ∷ []) (level_outcome macros level.entry))
+        (λ level. resumed macros calls.new.items (level_outcome macros level)) result }
+    ensures falls { IfOk result (λ next. weights calls.new.items + weight next < weights calls.old.items + weight_of suspended.entry + weight level.entry) }
+{
+    let Suspended {
+        before,
+        call,
+        parameter,
+    } = suspended;
+    let mut call = call;
+    call.ready.push(Supplied {
+        parameter,
+        tokens: level.before,
+    })?;
+    proceed(alloc, calls, before, call, level.left)
+}
+
+/// Expands the tokens ahead, the next one last (X3.159-1989 3.8.3).
+pub(crate) fn expanded<'a>(
+    alloc: Global,
+    macros: &'a Macros,
+    tokens: Vec<Pending<'a>>,
+    left: Budget,
+) -> Result<Level<'a>, MacroError>
+    ensures expanded { IfOk result (λ level. expanded macros.now left (ahead tokens.entry.items)
+        ≡ Ok (record { tokens = done level.before.items; left = level.left })) }
+    ensures refused { IfErr result (λ error. (error ≡ MacroError.NoMemory) ⊎ (expanded macros.now left (ahead tokens.entry.items) ≡ Err error)) }
+{
+    let mut calls = Vec::new(alloc);
+    let mut level = Level {
+        before: Vec::new(alloc),
+        tokens,
+        left,
+    };
+    'steps: loop {
+        if let Some(token) = level.tokens.pop() {
+            level = take_token(alloc, macros, &mut calls, level, token)?;
+        } else if let Some(suspended) = calls.pop() {
+            level = take_up(alloc, &mut calls, suspended, level)?;
+        } else {
+            return Ok(level);
+        }
+    }
+}

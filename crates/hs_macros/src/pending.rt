@@ -1,0 +1,79 @@
+ghost use Rattle.std.specs.Prelude.{◌≡◌, IfOk, map};
+ghost use Rattle.hs_macros.specs.Replacement.{plain, source_of};
+ghost use Rattle.hs_macros.specs.Stacks.{done, ahead};
+
+use crate::hide_set::HideSet;
+use crate::tokens::copied;
+use hs_base::Pos;
+use hs_tokens::{Origin, SourceToken, Token};
+use std::alloc::{AllocError, Global};
+use std::rc::Rc;
+
+/// A token on its way through replacement.
+#[derive(Drop)]
+pub(crate) struct Pending<'a> {
+    /// The token as it stands in a source or in a macro's definition.
+    pub(crate) token: &'a Token,
+    /// Where it counts as standing.
+    pub(crate) pos: Pos,
+    pub(crate) origin: Origin,
+    /// The names that it is not replaced by.
+    pub(crate) hides: Rc<HideSet<'a>>,
+}
+
+impl<'a> Pending<'a> {
+    ghost use Rattle.hs_macros.specs.Stacks.{hidden};
+
+    /// A token of a source, which hides the given set: that of no names.
+    pub(crate) fn plain(
+        token: &'a Token,
+        hides: &Rc<HideSet<'a>>,
+    ) -> Result<Pending<'a>, AllocError>
+        ensures { IfOk result (λ pending. hidden pending ≡ record (plain token.now) { hides = hides.now.value }) }
+    {
+        Ok(Pending {
+            token,
+            pos: token.pos,
+            origin: Origin::Plain,
+            hides: hides.clone()?,
+        })
+    }
+
+    /// The token without what it hides.
+    pub(crate) fn source(&self, alloc: Global) -> Result<SourceToken, AllocError>
+        ensures { IfOk result (λ source. source ≡ source_of (hidden self.now)) }
+    {
+        let mut token = copied(alloc, self.token)?;
+        token.pos = self.pos;
+        Ok(SourceToken {
+            token,
+            origin: self.origin,
+        })
+    }
+}
+
+/// The tokens of a run of a source, the next one last. They hide nothing, and share the set of no names.
+pub(crate) fn tokens_ahead<'a>(
+    alloc: Global,
+    run: &'a [Token],
+) -> Result<Vec<Pending<'a>>, AllocError>
+    ensures { IfOk result (λ tokens. ahead tokens.items ≡ map plain run.now) }
+{
+    let none = Rc::new(alloc, HideSet::new(alloc))?;
+    let mut tokens = Vec::with_capacity(alloc, run.len())?;
+    for token in run.iter().rev() {
+        tokens.push(Pending::plain(token, &none)?)?;
+    }
+    Ok(tokens)
+}
+
+/// The tokens without what they hide.
+pub(crate) fn sources(alloc: Global, tokens: &[Pending<'_>]) -> Result<Vec<SourceToken>, AllocError>
+    ensures { IfOk result (λ sources. sources.items ≡ map source_of (done tokens.now)) }
+{
+    let mut sources = Vec::with_capacity(alloc, tokens.len())?;
+    for pending in tokens {
+        sources.push(pending.source(alloc)?)?;
+    }
+    Ok(sources)
+}

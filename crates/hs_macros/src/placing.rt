@@ -1,0 +1,182 @@
+ghost use Rattle.std.specs.Prelude.{◌≡◌, ◌++◌, IfOk, OnOk, length, map};
+ghost use Rattle.std.specs.FinSet as set;
+ghost use Rattle.std.specs.List.{flat_map};
+ghost use Rattle.hs_base.specs.declared.pos.Pos.{Pos};
+ghost use Rattle.hs_macros.specs.HideSets.{HideSet};
+ghost use Rattle.hs_macros.specs.Replacement.{is_named, is_used, argument_of, argument_for, from_body, from_argument, placed_at, placed, spent};
+ghost use Rattle.hs_macros.specs.Stacks.{hidden, done, ahead, ready, invocation, seen_argument, room_after};
+
+use crate::arguments::Supplied;
+use crate::budget::Budget;
+use crate::call::Call;
+use crate::error::MacroError;
+use crate::hide_set::HideSet;
+use crate::marks::is_identifier;
+use crate::pending::Pending;
+use hs_base::{LimitKind, Pos};
+use hs_tokens::{Origin, Token};
+use std::alloc::{AllocError, Global};
+use std::rc::Rc;
+
+/// Whether the token names the parameter.
+fn is_named(parameter: &[u8], token: &Token) -> bool
+    ensures { result ≡ is_named parameter.now token.now }
+{
+    is_identifier(token) && token.text.items() == parameter
+}
+
+/// Whether some token of the macro names the parameter.
+pub(crate) fn is_used(parameter: &[u8], body: &[Token]) -> bool
+    ensures { result ≡ is_used parameter.now body.now }
+{
+    body.iter().any(|token| is_named(parameter, token))
+}
+
+/// The argument of this parameter.
+fn argument_of<'b, 'a>(name: &[u8], arguments: &'b [Supplied<'a>]) -> Option<&'b [Pending<'a>]>
+    ensures { seen_argument result ≡ argument_of name.now (ready arguments.now) }
+{
+    for supplied in arguments {
+        if name == supplied.parameter {
+            return Some(supplied.tokens.as_slice());
+        }
+    }
+    None
+}
+
+/// The argument that a token of the macro stands for, if it is a parameter.
+fn argument_for<'b, 'a>(token: &Token, arguments: &'b [Supplied<'a>]) -> Option<&'b [Pending<'a>]>
+    ensures { seen_argument result ≡ argument_for token.now (ready arguments.now) }
+{
+    if is_identifier(token) {
+        argument_of(token.text.items(), arguments)
+    } else {
+        None
+    }
+}
+
+/// A token of the macro in place.
+fn from_body<'a>(
+    pos: Pos,
+    hides: &Rc<HideSet<'a>>,
+    token: &'a Token,
+) -> Result<Pending<'a>, AllocError>
+    ensures { IfOk result (λ pending. hidden pending ≡ from_body pos hides.now.value token.now) }
+{
+    Ok(Pending {
+        token,
+        pos,
+        origin: Origin::Macro,
+        hides: hides.clone()?,
+    })
+}
+
+/// What a token of an argument hides in place. A set that adds nothing is not copied.
+#[tactic(auto, using(crate::proofs::Names::union_within))]
+fn union_of<'a>(
+    alloc: Global,
+    own: &HideSet<'a>,
+    hides: &Rc<HideSet<'a>>,
+) -> Result<Rc<HideSet<'a>>, AllocError>
+    ensures { IfOk result (λ both. both.value ≡ set.union own.now hides.now.value) }
+{
+    if own.is_subset(hides) {
+        return hides.clone();
+    }
+    Ok(Rc::new(alloc, own.union(hides)?)?)
+}
+
+/// A token of an argument in place: it goes on hiding what it hid.
+fn from_argument<'a>(
+    alloc: Global,
+    pos: Pos,
+    hides: &Rc<HideSet<'a>>,
+    pending: &Pending<'a>,
+) -> Result<Pending<'a>, AllocError>
+    ensures { IfOk result (λ placed. hidden placed ≡ from_argument pos hides.now.value (hidden pending.now)) }
+{
+    Ok(Pending {
+        token: pending.token,
+        pos,
+        origin: Origin::Macro,
+        hides: union_of(alloc, &pending.hides, hides)?,
+    })
+}
+
+/// Puts the tokens of an argument in front of those ahead.
+fn put_argument<'a>(
+    alloc: Global,
+    pos: Pos,
+    hides: &Rc<HideSet<'a>>,
+    argument: &[Pending<'a>],
+    tokens: &mut Vec<Pending<'a>>,
+) -> Result<(), AllocError>
+    ensures { OnOk result (ahead tokens.new.items ≡ map (from_argument pos hides.now.value) (done argument.now) ++ ahead tokens.old.items) }
+{
+    for pending in argument.iter().rev() {
+        tokens.push(from_argument(alloc, pos, hides, pending)?)?;
+    }
+    Ok(())
+}
+
+/// How many tokens stand for a token of the macro.
+fn placed_len(token: &Token, arguments: &[Supplied]) -> usize
+    ensures len { (pos : Pos) (hides : HideSet) → result ≡ length (placed_at pos hides (ready arguments.now) token.now) }
+{
+    match argument_for(token, arguments) {
+        None => 1,
+        Some(argument) => argument.len(),
+    }
+}
+
+/// What is left of the room for tokens after those that the macro puts in place, or nothing where they pass it. Counting
+/// stops there, so no sum grows past the room.
+fn room_left(room: u64, body: &[Token], arguments: &[Supplied]) -> Option<u64>
+    ensures { (pos : Pos) (hides : HideSet) → result ≡ room_after room (length (flat_map (placed_at pos hides (ready arguments.now)) body.now)) }
+{
+    let mut room = room;
+    for token in body {
+        room = room.checked_sub(placed_len(token, arguments) as u64)?;
+    }
+    Some(room)
+}
+
+impl<'a> Call<'a> {
+    /// What is left after the replacement, or the limit that it passes.
+    pub(crate) fn spent(&self, left: Budget) -> Result<Budget, MacroError>
+        ensures { result ≡ spent left (length (placed (invocation self.now) (ready self.now.ready.items))) }
+    {
+        if left.replacements == 0 {
+            return Err(MacroError::Limit(LimitKind::Replacements.passed()));
+        }
+        let Some(tokens) = room_left(left.tokens, self.body, self.ready.as_slice()) else {
+            return Err(MacroError::Limit(LimitKind::Tokens.passed()));
+        };
+        Ok(Budget {
+            replacements: left.replacements - 1,
+            tokens,
+        })
+    }
+
+    /// Puts the macro's tokens in place, before those behind the invocation.
+    pub(crate) fn place(self, alloc: Global) -> Result<Vec<Pending<'a>>, AllocError>
+        ensures { IfOk result (λ tokens. ahead tokens.items ≡ placed (invocation self.entry) (ready self.entry.ready.items) ++ ahead self.entry.behind.items) }
+    {
+        let Call {
+            body,
+            pos,
+            hides,
+            ready,
+            waiting: _,
+            behind,
+        } = self;
+        let mut tokens = behind;
+        for token in body.iter().rev() {
+            match argument_for(token, ready.as_slice()) {
+                Some(argument) => put_argument(alloc, pos, &hides, argument, &mut tokens)?,
+                None => tokens.push(from_body(pos, &hides, token)?)?,
+            }
+        }
+        Ok(tokens)
+    }
+}
