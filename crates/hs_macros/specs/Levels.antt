@@ -5,16 +5,16 @@
 --     resumed macros calls outcome        what comes of all, where that comes of the innermost
 --     IsStep whole later result           the result decides what the whole comes to
 --     weights calls, weight level         how many steps are left at most
-use Rattle.std.specs.Prelude.{◌≡◌, ℕ, ◌+◌, ◌⊎◌, List, [], ◌∷◌, ◌++◌, length, Result, Ok, Err}
+use Rattle.std.specs.Prelude.{◌≡◌, ℕ, ◌+◌, List, [], ◌∷◌, ◌++◌, length, Result, Ok, Err}
 use Rattle.hs_macros.specs.Arguments.{Hidden}
 use Rattle.hs_macros.specs.Definitions.{Definitions}
+use Rattle.hs_macros.specs.Refusals.{IsRefusal}
 use Rattle.hs_macros.specs.Replacement.{Expansion, Outcome, with_front, and_then, called, expanded}
 use Rattle.hs_macros.specs.ExpandedLaws.{load}
 use Rattle.hs_macros.specs.Stacks.{done, ahead, ready, waiting, invocation}
 use Rattle.hs_macros.specs.declared.budget.Budget.{Budget}
 use Rattle.hs_macros.specs.declared.call.Call.{Call}
 use Rattle.hs_macros.specs.declared.error.MacroError.{MacroError}
-use Rattle.hs_macros.specs.declared.error.MacroError.TheVariants.{NoMemory}
 use Rattle.hs_macros.specs.declared.expansion.Level.{Level}
 use Rattle.hs_macros.specs.declared.expansion.Suspended.{Suspended}
 
@@ -42,7 +42,7 @@ resumed macros (suspended ∷ calls) outcome = and_then (resumed macros calls ou
 -- A step goes on to what comes to the same, or it gives the refusal that all comes to. Want of memory alone is free.
 abbrev pub IsStep : Outcome → (Level → Outcome) → Result Level MacroError → Type 0
 IsStep whole later (Ok level) = later level ≡ whole
-IsStep whole later (Err error) = (error ≡ NoMemory) ⊎ (whole ≡ Err error)
+IsStep whole later (Err error) = IsRefusal whole error
 
 -- what an invocation that waits holds, and itself
 abbrev pub weight_of : Suspended → ℕ

@@ -5,5 +5,6 @@ pub mod HideSets
 pub mod Levels
 pub mod Lines
 pub mod Marks
+pub mod Refusals
 pub mod Replacement
 pub mod Stacks

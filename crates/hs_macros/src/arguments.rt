@@ -61,7 +61,8 @@ pub(crate) fn arguments_ahead<'a>(
     alloc: Global,
     tokens: &mut Vec<Pending<'a>>,
 ) -> Result<Option<Between<'a>>, AllocError>
-    ensures { IfOk result (λ found. seen found (ahead tokens.new.items) ≡ collected [] [] (arguments_from 0 (ahead tokens.old.items))) }
+    ensures { IfOk result (λ found. seen found (ahead tokens.new.items)
+        ≡ collected [] [] (arguments_from 0 (ahead tokens.old.items))) }
 {
     let mut given = Vec::new(alloc);
     let mut argument = Vec::new(alloc);
@@ -92,7 +93,8 @@ fn paired<'a>(
     names: &'a [Bytes],
     given: Vec<Vec<Pending<'a>>>,
 ) -> Result<Option<Vec<Supplied<'a>>>, AllocError>
-    ensures { IfOk result (λ arguments. seen_waiting arguments ≡ paired names.now (map (λ tokens. done tokens.items) given.entry.items)) }
+    ensures { IfOk result (λ arguments. seen_waiting arguments
+        ≡ paired names.now (map (λ tokens. done tokens.items) given.entry.items)) }
 {
     let mut names = names;
     let mut given = given;
@@ -117,7 +119,8 @@ pub(crate) fn bound<'a>(
     names: &'a Names,
     given: Vec<Vec<Pending<'a>>>,
 ) -> Result<Option<Vec<Supplied<'a>>>, AllocError>
-    ensures { IfOk result (λ arguments. seen_waiting arguments ≡ bound names.now (map (λ tokens. done tokens.items) given.entry.items)) }
+    ensures { IfOk result (λ arguments. seen_waiting arguments
+        ≡ bound names.now (map (λ tokens. done tokens.items) given.entry.items)) }
 {
     if names.items().is_empty() && given.len() == 1 && given[0].is_empty() {
         return Ok(Some(Vec::new(alloc)));

@@ -56,7 +56,8 @@ fn object_call<'a>(
     body: &'a [Token],
     behind: Vec<Pending<'a>>,
 ) -> Result<Call<'a>, AllocError>
-    ensures call { IfOk result (λ call. invocation call ≡ object (hidden name.now) body.now (ahead behind.entry.items)) }
+    ensures call { IfOk result (λ call. invocation call
+        ≡ object (hidden name.now) body.now (ahead behind.entry.items)) }
     ensures ready { IfOk result (λ call. call.ready.items ≡ []) }
     ensures waiting { IfOk result (λ call. call.waiting.items ≡ []) }
 {
@@ -79,7 +80,9 @@ fn function_call<'a>(
     parameters: &'a Names,
     tokens: Vec<Pending<'a>>,
 ) -> Result<Call<'a>, MacroError>
-    ensures { IsCalled (found_call (hidden name.now) body.now parameters.now (arguments_from 0 (ahead tokens.entry.items))) name.now.pos result }
+    ensures { IsCalled
+        (found_call (hidden name.now) body.now parameters.now (arguments_from 0 (ahead tokens.entry.items)))
+        name.now.pos result }
 {
     let mut behind = tokens;
     let Some(between) = arguments_ahead(alloc, &mut behind)? else {
@@ -108,7 +111,8 @@ pub(crate) fn invocation_at<'a>(
     token: &Pending<'a>,
     tokens: Vec<Pending<'a>>,
 ) -> Result<Found<'a>, MacroError>
-    ensures { IsFound (found macros.now (hidden token.now) (ahead tokens.entry.items)) token.now.pos (ahead tokens.entry.items) result }
+    ensures { IsFound (found macros.now (hidden token.now) (ahead tokens.entry.items)) token.now.pos
+        (ahead tokens.entry.items) result }
 {
     let name = name_of(token);
     if !is_identifier(token.token) || token.hides.contains(name) {

@@ -1,5 +1,6 @@
 ghost use Rattle.std.specs.Prelude.{◌≡◌, ◌≤◌, ◌<◌, ◌+◌, ◌⊎◌, [], ◌∷◌, ◌++◌, length, OnOk, IfOk, IfErr, Ok, Err};
 ghost use Rattle.hs_macros.specs.Definitions.{Definitions};
+ghost use Rattle.hs_macros.specs.Refusals.{IsRefusal};
 ghost use Rattle.hs_macros.specs.Replacement.{with_front, expanded};
 ghost use Rattle.hs_macros.specs.ExpandedLaws.{load};
 ghost use Rattle.hs_macros.specs.Stacks.{hidden, done, ahead, waiting};
@@ -42,7 +43,8 @@ fn proceed<'a>(
     call: Call<'a>,
     left: Budget,
 ) -> Result<Level<'a>, MacroError>
-    ensures step { (macros : Definitions) → IsStep (resumed macros calls.old.items (call_outcome macros (done before.entry.items) call.entry left))
+    ensures step { (macros : Definitions)
+        → IsStep (resumed macros calls.old.items (call_outcome macros (done before.entry.items) call.entry left))
         (λ level. resumed macros calls.new.items (level_outcome macros level)) result }
     ensures falls { IfOk result (λ level. weights calls.new.items + weight level
         ≤ weights calls.old.items + load (waiting call.entry.waiting.items) + length call.entry.behind.items + left.tokens) }
@@ -82,10 +84,12 @@ fn take_token<'a>(
     level: Level<'a>,
     token: Pending<'a>,
 ) -> Result<Level<'a>, MacroError>
-    ensures step { IsStep (resumed macros.now calls.old.items (with_front (done level.entry.before.items)
+    ensures step { IsStep
+        (resumed macros.now calls.old.items (with_front (done level.entry.before.items)
         (expanded macros.now level.entry.left (hidden token.entry ∷ ahead level.entry.tokens.items))))
         (λ level. resumed macros.now calls.new.items (level_outcome macros.now level)) result }
-    ensures falls { IfOk result (λ next. weights calls.new.items + weight next ≤ weights calls.old.items + weight level.entry) }
+    ensures falls { IfOk result (λ next. weights calls.new.items + weight next
+        ≤ weights calls.old.items + weight level.entry) }
 {
     let Level {
         before,
@@ -114,9 +118,11 @@ fn take_up<'a>(
     level: Level<'a>,
 ) -> Result<Level<'a>, MacroError>
     requires { level.tokens.items ≡ [] }
-    ensures step { (macros : Definitions) → IsStep (resumed macros (calls.old.items ++ suspended.entry ∷ []) (level_outcome macros level.entry))
+    ensures step { (macros : Definitions)
+        → IsStep (resumed macros (calls.old.items ++ suspended.entry ∷ []) (level_outcome macros level.entry))
         (λ level. resumed macros calls.new.items (level_outcome macros level)) result }
-    ensures falls { IfOk result (λ next. weights calls.new.items + weight next < weights calls.old.items + weight_of suspended.entry + weight level.entry) }
+    ensures falls { IfOk result (λ next. weights calls.new.items + weight next
+        < weights calls.old.items + weight_of suspended.entry + weight level.entry) }
 {
     let Suspended {
         before,
@@ -140,7 +146,7 @@ pub(crate) fn expanded<'a>(
 ) -> Result<Level<'a>, MacroError>
     ensures expanded { IfOk result (λ level. expanded macros.now left (ahead tokens.entry.items)
         ≡ Ok (record { tokens = done level.before.items; left = level.left })) }
-    ensures refused { IfErr result (λ error. (error ≡ MacroError.NoMemory) ⊎ (expanded macros.now left (ahead tokens.entry.items) ≡ Err error)) }
+    ensures refused { IfErr result (IsRefusal (expanded macros.now left (ahead tokens.entry.items))) }
 {
     let mut calls = Vec::new(alloc);
     let mut level = Level {

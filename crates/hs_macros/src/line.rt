@@ -107,7 +107,8 @@ fn with_body<'a>(
     parameters: Option<Vec<&'a [u8]>>,
     body: &'a [Token],
 ) -> Option<Line<'a>>
-    ensures { Gives named result (with_definition name.now (with_body (form_of parameters.entry) body.now)) }
+    ensures { Gives named result
+        (with_definition name.now (with_body (form_of parameters.entry) body.now)) }
 {
     if has_operator(body) {
         return None;
@@ -125,7 +126,8 @@ fn definition_from<'a>(
     name: &'a [u8],
     line: &'a [Token],
 ) -> Result<Option<Line<'a>>, AllocError>
-    ensures { IfOk result (λ read. Gives named read (with_definition name.now (definition_from line.now))) }
+    ensures { IfOk result (λ read. Gives named read
+        (with_definition name.now (definition_from line.now))) }
 {
     match line {
         [token, rest @ ..] if is_mark(b"(", token) && !token.spaced => {

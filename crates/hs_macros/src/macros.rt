@@ -2,6 +2,7 @@ ghost use Rattle.std.specs.Prelude.{◌≡◌, ◌⊎◌, IfOk, OnOk, IfErr, OnE
 ghost use Rattle.std.specs.FinMap as map;
 ghost use Rattle.hs_macros.specs.Definitions.{defined};
 ghost use Rattle.hs_macros.specs.Lines.{defined_by};
+ghost use Rattle.hs_macros.specs.Refusals.{IsRefusal};
 ghost use Rattle.hs_macros.specs.Replacement.{replaced};
 
 use crate::budget::Budget;
@@ -71,7 +72,7 @@ impl Macros {
     /// Takes the definition that the tokens behind `define` are (X3.159-1989 3.8.3).
     pub fn define(&mut self, line: &[Token]) -> Result<(), MacroError>
         ensures defined { OnOk result (defined self.old line.now ≡ Ok self.new) }
-        ensures refused { IfErr result (λ error. (error ≡ MacroError.NoMemory) ⊎ (defined self.old line.now ≡ Err error)) }
+        ensures refused { IfErr result (IsRefusal (defined self.old line.now)) }
         ensures unchanged { OnErr result (self.new ≡ self.old) }
     {
         let alloc = *self.definitions.allocator();
@@ -92,8 +93,9 @@ impl Macros {
     /// the end of the run is refused, and so is one with the wrong number of arguments. `left` counts the replacements and the
     /// tokens that they put in place, and not the tokens of the result.
     pub fn expand(&self, run: &[Token], left: &mut Budget) -> Result<Vec<SourceToken>, MacroError>
-        ensures replaced { IfOk result (λ tokens. replaced self.now left.old run.now ≡ Ok (record { tokens = tokens.items; left = left.new })) }
-        ensures refused { IfErr result (λ error. (error ≡ MacroError.NoMemory) ⊎ (replaced self.now left.old run.now ≡ Err error)) }
+        ensures replaced { IfOk result (λ tokens. replaced self.now left.old run.now
+            ≡ Ok (record { tokens = tokens.items; left = left.new })) }
+        ensures refused { IfErr result (IsRefusal (replaced self.now left.old run.now)) }
         ensures unchanged { OnErr result (left.new ≡ left.old) }
     {
         let alloc = *self.definitions.allocator();

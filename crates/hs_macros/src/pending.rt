@@ -29,7 +29,8 @@ impl<'a> Pending<'a> {
         token: &'a Token,
         hides: &Rc<HideSet<'a>>,
     ) -> Result<Pending<'a>, AllocError>
-        ensures { IfOk result (λ pending. hidden pending ≡ record (plain token.now) { hides = hides.now.value }) }
+        ensures { IfOk result (λ pending. hidden pending
+            ≡ record (plain token.now) { hides = hides.now.value }) }
     {
         Ok(Pending {
             token,

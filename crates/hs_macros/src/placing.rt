@@ -93,7 +93,8 @@ fn from_argument<'a>(
     hides: &Rc<HideSet<'a>>,
     pending: &Pending<'a>,
 ) -> Result<Pending<'a>, AllocError>
-    ensures { IfOk result (λ placed. hidden placed ≡ from_argument pos hides.now.value (hidden pending.now)) }
+    ensures { IfOk result (λ placed. hidden placed
+        ≡ from_argument pos hides.now.value (hidden pending.now)) }
 {
     Ok(Pending {
         token: pending.token,
@@ -111,7 +112,8 @@ fn put_argument<'a>(
     argument: &[Pending<'a>],
     tokens: &mut Vec<Pending<'a>>,
 ) -> Result<(), AllocError>
-    ensures { OnOk result (ahead tokens.new.items ≡ map (from_argument pos hides.now.value) (done argument.now) ++ ahead tokens.old.items) }
+    ensures { OnOk result (ahead tokens.new.items
+        ≡ map (from_argument pos hides.now.value) (done argument.now) ++ ahead tokens.old.items) }
 {
     for pending in argument.iter().rev() {
         tokens.push(from_argument(alloc, pos, hides, pending)?)?;
@@ -121,7 +123,8 @@ fn put_argument<'a>(
 
 /// How many tokens stand for a token of the macro.
 fn placed_len(token: &Token, arguments: &[Supplied]) -> usize
-    ensures len { (pos : Pos) (hides : HideSet) → result ≡ length (placed_at pos hides (ready arguments.now) token.now) }
+    ensures { (pos : Pos) (hides : HideSet)
+        → result ≡ length (placed_at pos hides (ready arguments.now) token.now) }
 {
     match argument_for(token, arguments) {
         None => 1,
@@ -132,7 +135,8 @@ fn placed_len(token: &Token, arguments: &[Supplied]) -> usize
 /// What is left of the room for tokens after those that the macro puts in place, or nothing where they pass it. Counting
 /// stops there, so no sum grows past the room.
 fn room_left(room: u64, body: &[Token], arguments: &[Supplied]) -> Option<u64>
-    ensures { (pos : Pos) (hides : HideSet) → result ≡ room_after room (length (flat_map (placed_at pos hides (ready arguments.now)) body.now)) }
+    ensures { (pos : Pos) (hides : HideSet)
+        → result ≡ room_after room (length (flat_map (placed_at pos hides (ready arguments.now)) body.now)) }
 {
     let mut room = room;
     for token in body {
@@ -144,7 +148,8 @@ fn room_left(room: u64, body: &[Token], arguments: &[Supplied]) -> Option<u64>
 impl<'a> Call<'a> {
     /// What is left after the replacement, or the limit that it passes.
     pub(crate) fn spent(&self, left: Budget) -> Result<Budget, MacroError>
-        ensures { result ≡ spent left (length (placed (invocation self.now) (ready self.now.ready.items))) }
+        ensures { result
+            ≡ spent left (length (placed (invocation self.now) (ready self.now.ready.items))) }
     {
         if left.replacements == 0 {
             return Err(MacroError::Limit(LimitKind::Replacements.passed()));
@@ -160,7 +165,8 @@ impl<'a> Call<'a> {
 
     /// Puts the macro's tokens in place, before those behind the invocation.
     pub(crate) fn place(self, alloc: Global) -> Result<Vec<Pending<'a>>, AllocError>
-        ensures { IfOk result (λ tokens. ahead tokens.items ≡ placed (invocation self.entry) (ready self.entry.ready.items) ++ ahead self.entry.behind.items) }
+        ensures { IfOk result (λ tokens. ahead tokens.items
+            ≡ placed (invocation self.entry) (ready self.entry.ready.items) ++ ahead self.entry.behind.items) }
     {
         let Call {
             body,

@@ -8,7 +8,7 @@ use Rattle.hs_macros.proofs.placing.room_left.Goals as goal
 pub returns-in_err-room : goal.returns-in_err-room
 returns-in_err-room c pos hides =
     let put = placed_at pos hides (ready c.args.arguments.now) in
-    let over : c.loop-token.room < length (put c.token-item.result) = omega (arith, c.in_err-room.ensures, c.placed_len.ensures.len pos hides) in
+    let over : c.loop-token.room < length (put c.token-item.result) = omega (arith, c.in_err-room.ensures, c.placed_len.ensures pos hides) in
     c.from_residual.ensures
     ∙ sym (too_many put c.args.body.now c.loop-token.token-index c.args.room c.loop-token.room
     c.token-item.result c.loop-token-test.true c.token-item.is (c.loop-token.invariant pos hides) over)
