@@ -4,7 +4,7 @@
 use Rattle.std.proofs.Common.{◌≡◌, ℕ, ◌+◌, ◌-◌, ◌≤◌, Bool, true, false, List, [], ◌∷◌, ◌++◌, map, Option, Some, None, Vec, Global, refl, sym, ap, ◌∙◌, append_assoc, if◌then◌else◌, arith}
 use Rattle.std.specs.Prelude.{◌==◌, ◌&&◌, codes}
 use Rattle.std.proofs.lemmas.List.{append-nil, map-append, reverse-append}
-use Rattle.hs_macros.specs.Marks.{is_mark}
+use Rattle.hs_tokens.specs.Marks.{is_mark}
 use Rattle.hs_tokens.specs.declared.token.Token.{Token}
 use Rattle.hs_macros.specs.Arguments.{Hidden, Arguments, with_token, with_comma, closed, role_of, arguments_at, arguments_from, Argument, with_argument, paired}
 use Rattle.hs_macros.specs.Stacks.{Collected, collected, hidden, ahead, done, argument, waiting, with_later}

@@ -6,7 +6,7 @@
 use Rattle.std.specs.Prelude.{ℕ, ◌+◌, ◌-◌, ◌==◌, ◌&&◌, List, [], ◌∷◌, Option, Some, None, if◌then◌else◌, codes}
 use Rattle.hs_tokens.specs.declared.token.Token.{Token}
 use Rattle.hs_tokens.specs.declared.token.Origin.{Origin}
-use Rattle.hs_macros.specs.Marks.{is_mark}
+use Rattle.hs_tokens.specs.Marks.{is_mark}
 use Rattle.hs_macros.specs.HideSets.{HideSet}
 use Rattle.hs_macros.specs.declared.arguments.Role.{Role}
 use Rattle.hs_macros.specs.declared.arguments.Role.TheVariants.{Ends, Separates, Inside}

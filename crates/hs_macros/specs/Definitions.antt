@@ -10,7 +10,7 @@ use Rattle.std.specs.Cmp.Lexicographic.{slice_cmp, pointwise}
 use Rattle.std.specs.Str.{bytes_eq}
 use Rattle.std.specs.FinMap as map
 use Rattle.hs_tokens.specs.declared.token.Token.{Token}
-use Rattle.hs_macros.specs.Marks.{is_same_kind, is_identifier, is_mark}
+use Rattle.hs_tokens.specs.Marks.{is_same_kind, is_identifier, is_mark}
 use Rattle.hs_macros.specs.declared.definition.Definition.{Definition}
 use Rattle.hs_macros.specs.declared.error.MacroError.{MacroError}
 use Rattle.hs_macros.specs.declared.error.MacroError.TheVariants.{BadMacro}

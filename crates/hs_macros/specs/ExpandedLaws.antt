@@ -8,7 +8,7 @@ use Rattle.std.proofs.lemmas.Bool.Decides.{nat_tests}
 use Rattle.std.specs.FinMap as finite
 use Rattle.hs_base.specs.declared.limit.LimitKind.TheVariants.{Replacements, Tokens}
 use Rattle.hs_tokens.specs.declared.token.Token.{Token}
-use Rattle.hs_macros.specs.Marks.{is_mark}
+use Rattle.hs_tokens.specs.Marks.{is_mark}
 use Rattle.hs_macros.specs.Definitions.{Definitions}
 use Rattle.hs_macros.specs.Arguments.{Hidden, Arguments, with_token, with_comma, closed, role_of, arguments_at, arguments_from, Argument, with_argument, paired, bound}
 use Rattle.hs_macros.specs.Replacement.{Invocation, Found, stays, wrong, invoked, object, call, found_bound, found_call, found_form, found_defined, found, is_used, placed, spent, passed, Expansion, Outcome, with_front, and_then, placed_again, called, expanded_at, expanded_within, expanded}

@@ -4,7 +4,6 @@ pub mod ExpandedLaws
 pub mod HideSets
 pub mod Levels
 pub mod Lines
-pub mod Marks
 pub mod Refusals
 pub mod Replacement
 pub mod Stacks

@@ -18,7 +18,7 @@ use Rattle.hs_tokens.specs.declared.token.Token.{Token}
 use Rattle.hs_tokens.specs.declared.token.SourceToken.{SourceToken}
 use Rattle.hs_tokens.specs.declared.token.Origin.TheVariants.{Plain, Macro}
 use Rattle.hs_macros.specs.HideSets.{HideSet, object_hides, call_hides}
-use Rattle.hs_macros.specs.Marks.{is_identifier, is_mark}
+use Rattle.hs_tokens.specs.Marks.{is_identifier, is_mark}
 use Rattle.hs_macros.specs.Definitions.{Definitions}
 use Rattle.hs_macros.specs.Arguments.{Hidden, Arguments, arguments_from, Argument, bound}
 use Rattle.hs_macros.specs.declared.definition.Definition.{Definition}

@@ -3,10 +3,9 @@ ghost use Rattle.hs_macros.specs.Arguments.{role_of, arguments_from, paired, bou
 ghost use Rattle.hs_macros.specs.Stacks.{ahead, done, collected, seen, seen_waiting};
 
 use crate::lists::Names;
-use crate::marks::is_mark;
 use crate::pending::Pending;
 use hs_base::Bytes;
-use hs_tokens::Token;
+use hs_tokens::{Token, is_mark};
 use std::alloc::{AllocError, Global};
 use std::mem;
 

@@ -8,10 +8,9 @@ use crate::error::MacroError;
 use crate::hide_set::HideSet;
 use crate::lists::Names;
 use crate::macros::Macros;
-use crate::marks::{is_identifier, is_mark};
 use crate::pending::Pending;
 use hs_base::Pos;
-use hs_tokens::Token;
+use hs_tokens::{Token, is_identifier, is_mark};
 use std::alloc::{AllocError, Global};
 use std::rc::Rc;
 

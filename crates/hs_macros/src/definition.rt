@@ -7,10 +7,9 @@ ghost use Rattle.hs_macros.specs.Lines.{names_of, form_of, named};
 
 use crate::line::Line;
 use crate::lists::{Names, Tokens};
-use crate::marks::is_same_kind;
 use crate::tokens::all_copied;
 use hs_base::Bytes;
-use hs_tokens::Token;
+use hs_tokens::{Token, is_same_kind};
 use std::alloc::{AllocError, Global};
 
 /// What stands for a macro.

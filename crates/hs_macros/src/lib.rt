@@ -12,7 +12,6 @@ mod hide_set;
 mod line;
 mod lists;
 mod macros;
-mod marks;
 mod pending;
 mod placing;
 mod tokens;

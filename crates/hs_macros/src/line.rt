@@ -3,8 +3,7 @@ ghost use Rattle.std.specs.List.{list_any};
 ghost use Rattle.hs_macros.specs.Definitions.{is_distinct, names_from, parameters_from, is_operator, with_body, with_definition, definition_from, definition_of};
 ghost use Rattle.hs_macros.specs.Lines.{names_of, form_of, parameters_of, named, Gives};
 
-use crate::marks::{is_identifier, is_mark};
-use hs_tokens::Token;
+use hs_tokens::{Token, is_identifier, is_mark};
 use std::alloc::{AllocError, Global};
 use std::collections::HashSet;
 

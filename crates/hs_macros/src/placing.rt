@@ -11,10 +11,9 @@ use crate::budget::Budget;
 use crate::call::Call;
 use crate::error::MacroError;
 use crate::hide_set::HideSet;
-use crate::marks::is_identifier;
 use crate::pending::Pending;
 use hs_base::{LimitKind, Pos};
-use hs_tokens::{Origin, Token};
+use hs_tokens::{Origin, Token, is_identifier};
 use std::alloc::{AllocError, Global};
 use std::rc::Rc;
 

@@ -4,4 +4,5 @@ pub mod Cursor
 pub mod Forms
 pub mod Lines
 pub mod Literals
+pub mod Marks
 pub mod Scan

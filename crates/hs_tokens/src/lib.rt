@@ -6,12 +6,14 @@ mod characters;
 mod cursor;
 mod forms;
 mod literals;
+mod marks;
 mod scan_error;
 mod scanner;
 #[cfg(test)]
 mod tests;
 mod token;
 
+pub use marks::{is_identifier, is_mark, is_same_kind};
 pub use scan_error::ScanError;
 pub use scanner::scan;
 pub use token::{Origin, SourceToken, Token, TokenKind};

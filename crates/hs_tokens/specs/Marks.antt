@@ -1,4 +1,4 @@
--- The tokens that a definition and an invocation are told by (X3.159-1989 3.8.3).
+-- The kinds of tokens that directives and macros look for (X3.159-1989 3.8).
 --     is_identifier token      an identifier, or a keyword: they are alike before the grammar (3.1.1, 3.1.2)
 --     is_mark mark token       this punctuator
 use Rattle.std.specs.Prelude.{ℕ, List, Bool, true, false, ◌&&◌}

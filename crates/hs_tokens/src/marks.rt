@@ -1,10 +1,10 @@
 ghost use Rattle.std.specs.Prelude.{◌≡◌};
-ghost use Rattle.hs_macros.specs.Marks.{is_same_kind, is_identifier, is_mark};
+ghost use Rattle.hs_tokens.specs.Marks.{is_same_kind, is_identifier, is_mark};
 
-use hs_tokens::{Token, TokenKind};
+use crate::token::{Token, TokenKind};
 
 /// Whether the two kinds are one.
-pub(crate) fn is_same_kind(first: TokenKind, second: TokenKind) -> bool
+pub fn is_same_kind(first: TokenKind, second: TokenKind) -> bool
     ensures { result ≡ is_same_kind first second }
 {
     matches!(
@@ -18,14 +18,14 @@ pub(crate) fn is_same_kind(first: TokenKind, second: TokenKind) -> bool
 }
 
 /// Whether the token is an identifier or a keyword.
-pub(crate) fn is_identifier(token: &Token) -> bool
+pub fn is_identifier(token: &Token) -> bool
     ensures { result ≡ is_identifier token.now }
 {
     is_same_kind(token.kind, TokenKind::Identifier)
 }
 
 /// Whether the token is the punctuator of these bytes.
-pub(crate) fn is_mark(mark: &[u8], token: &Token) -> bool
+pub fn is_mark(mark: &[u8], token: &Token) -> bool
     ensures { result ≡ is_mark mark.now token.now }
 {
     is_same_kind(token.kind, TokenKind::Punctuator) && token.text.items() == mark

@@ -1,0 +1,4 @@
+pub mod Arithmetic
+pub mod Characters
+pub mod Conditions
+pub mod Numbers
