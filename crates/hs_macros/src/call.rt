@@ -91,6 +91,10 @@ fn function_call<'a>(
     let Some(waiting) = bound(alloc, parameters, given)? else {
         return Err(MacroError::ArgCount(name.pos));
     };
+    // What was taken leaves room behind, which would stay while the arguments are expanded.
+    if behind.len() < behind.capacity() / 2 {
+        behind.shrink_to_fit();
+    }
     let hides = name.hides.call_hides(&close.hides, name_of(name))?;
     Ok(Call {
         body,

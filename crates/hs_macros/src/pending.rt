@@ -3,7 +3,6 @@ ghost use Rattle.hs_macros.specs.Replacement.{plain, source_of};
 ghost use Rattle.hs_macros.specs.Stacks.{done, ahead};
 
 use crate::hide_set::HideSet;
-use crate::tokens::copied;
 use hs_base::Pos;
 use hs_tokens::{Origin, SourceToken, Token};
 use std::alloc::{AllocError, Global};
@@ -44,7 +43,7 @@ impl<'a> Pending<'a> {
     pub(crate) fn source(&self, alloc: Global) -> Result<SourceToken, AllocError>
         ensures { IfOk result (λ source. source ≡ source_of (hidden self.now)) }
     {
-        let mut token = copied(alloc, self.token)?;
+        let mut token = self.token.copied(alloc)?;
         token.pos = self.pos;
         Ok(SourceToken {
             token,

@@ -1,4 +1,7 @@
+ghost use Rattle.std.specs.Prelude.{◌≡◌, IfOk};
+
 use hs_base::{Bytes, Pos};
+use std::alloc::{AllocError, Global};
 
 /// What a token is (X3.159-1989 3.1). A keyword is an identifier here.
 #[derive(Clone, Copy, Debug, PartialEq, Eq)]
@@ -27,6 +30,21 @@ pub struct Token {
     pub first: bool,
     /// White space, a comment or a line's end stands directly before it.
     pub spaced: bool,
+}
+
+impl Token {
+    /// A token with the same fields.
+    pub fn copied(&self, alloc: Global) -> Result<Token, AllocError>
+        ensures { IfOk result (λ copy. copy ≡ self.now) }
+    {
+        Ok(Token {
+            kind: self.kind,
+            text: Bytes::from_vec(self.text.items().to_vec(alloc)?),
+            pos: self.pos,
+            first: self.first,
+            spaced: self.spaced,
+        })
+    }
 }
 
 /// Whether a token stands in a source as it is, or comes from a macro.
