@@ -1,9 +1,19 @@
 //! The values of constants, and of the constant expressions that conditions are (X3.159-1989 3.1.3, 3.4 and 3.8.1).
 #![tactic(auto)]
 
+mod arithmetic;
+mod characters;
+mod condition;
+mod constant;
+mod digits;
 mod number;
 mod operator;
+#[cfg(test)]
+mod tests;
 mod value;
+mod waiting;
 
-pub use number::Number;
+pub use characters::character_value;
+pub use condition::condition_value;
+pub use number::{Number, number_value};
 pub use value::Value;

@@ -1,7 +1,10 @@
 pub mod Bodies
 pub mod Collecting
 pub mod Entries
+pub mod Found
 pub mod Names
 pub mod Pairs
 pub mod ParameterNames
+pub mod Rows
 pub mod Steps
+pub mod Subsets

@@ -2,14 +2,18 @@
 --     resumed-push, resumed-Err       one more invocation waits;  a refusal comes to a refusal
 --     begins, places, refuses         an argument is begun;  the tokens are put in place, or pass a limit
 --     ends                            an argument is expanded
+--     next_ahead, refused_all         the next token;  what refuses what is left
+--     all_done                        nothing is left
 use Rattle.std.proofs.Common.{◌≡◌, ℕ, ◌+◌, ◌≤◌, Bool, true, List, [], ◌∷◌, ◌++◌, map, reverse, length, Result, Ok, Err, Vec, Global, Bor, refl, sym, ap, subst, ◌∙◌, inl, inr, ◌⊎◌, append_assoc, arith, length-append, if◌then◌else◌}
 use Rattle.std.proofs.lemmas.List.{append-nil, map-append, reverse-append, reverse-reverse, length-map, length-reverse}
+use Rattle.hs_tokens.specs.declared.token.SourceToken.{SourceToken}
 use Rattle.hs_macros.specs.Arguments.{Hidden, Argument}
 use Rattle.hs_macros.specs.Definitions.{Definitions}
-use Rattle.hs_macros.specs.Replacement.{Invocation, Found, stays, wrong, invoked, found, is_used, placed, spent, Expansion, Outcome, with_front, and_then, placed_again, called, expanded_at, expanded}
+use Rattle.hs_macros.specs.Refusals.{IsRefusal}
+use Rattle.hs_macros.specs.Replacement.{Invocation, Found, stays, wrong, invoked, found, is_used, placed, spent, Expansion, Outcome, with_front, and_then, placed_again, called, expanded_at, expanded, Replaced, replaced_by}
 use Rattle.hs_macros.specs.ExpandedLaws.{load, spent_tokens, held_of_found, expanded-none, expanded-token}
 use Rattle.hs_macros.specs.Stacks.{hidden, done, ahead, argument, ready, waiting, invocation}
-use Rattle.hs_macros.specs.Levels.{level_outcome, call_outcome, after_argument, resumed, IsStep, weight_of, weights, weight}
+use Rattle.hs_macros.specs.Levels.{level_outcome, call_outcome, after_argument, resumed, with_sources, IsStep, weight_of, weights, weight}
 use Rattle.hs_macros.specs.declared.arguments.Supplied.{Supplied}
 use Rattle.hs_macros.specs.declared.budget.Budget.{Budget}
 use Rattle.hs_macros.specs.declared.call.Call.{Call}
@@ -31,6 +35,7 @@ pub resumed-Err : (macros : Definitions) (calls : List Suspended) (error : Macro
 resumed-Err macros [] error = refl
 resumed-Err macros (first ∷ calls) error = ap (λ (inner : Outcome). and_then inner (after_argument macros first)) (resumed-Err macros calls error)
 
+-- one more invocation that waits weighs more by itself
 pub weights-push : (calls : List Suspended) (last : Suspended) → weights (calls ++ last ∷ []) ≡ weights calls + weight_of last
 weights-push [] last = omega arith
 weights-push (first ∷ calls) last = omega (arith, weights-push calls last)
@@ -121,6 +126,7 @@ last_placed macros before call left answer none is =
     ap (λ (arguments : List Supplied). with_front before (called (expanded macros) (invocation call) (ready call.ready.items) (waiting arguments) left)) none
     ∙ ap (λ (after : Result Budget MacroError). with_front before (placed_again (expanded macros) (invocation call) (placed (invocation call) (ready call.ready.items)) after)) (sym is)
 
+-- what the macro puts in place comes to what comes of the invocation
 pub places : (macros : Definitions) (calls : List Suspended) (before tokens : Vec Pending Global) (call : Call) (left after : Budget)
     → call.waiting.items ≡ [] → Ok after ≡ spent left (length (placed (invocation call) (ready call.ready.items)))
     → ahead tokens.items ≡ placed (invocation call) (ready call.ready.items) ++ ahead call.behind.items
@@ -131,6 +137,7 @@ places macros calls before tokens call left after none is put =
     (ap (λ (tokens' : List Hidden). with_front (done before.items) (expanded macros after tokens')) put
     ∙ sym (last_placed macros (done before.items) call left (Ok after) none is))
 
+-- with so much less that may be put in place
 pub places_falls : (tokens : Vec Pending Global) (call : Call) (left after : Budget)
     → Ok after ≡ spent left (length (placed (invocation call) (ready call.ready.items)))
     → ahead tokens.items ≡ placed (invocation call) (ready call.ready.items) ++ ahead call.behind.items
@@ -243,10 +250,29 @@ whole_stays macros before token tokens rest left (is, same) =
     ap (λ (tokens' : List Hidden). with_front before (with_front (hidden token ∷ []) (expanded macros left tokens'))) same
     ∙ sym (whole_at macros before token rest left stays is)
 
--- nothing waits and nothing is ahead: what is done is all
-pub all_done : (macros : Definitions) (calls : List Suspended) (level : Level) → calls ≡ [] → level.tokens.items ≡ []
-    → resumed macros calls (level_outcome macros level) ≡ Ok (record { tokens = done level.before.items; left = level.left })
-all_done macros calls level none empty =
-    ap (λ (calls' : List Suspended). resumed macros calls' (level_outcome macros level)) none
-    ∙ ap (λ (tokens : List Pending). with_front (done level.before.items) (expanded macros level.left (ahead tokens))) empty
-    ∙ whole_done macros (done level.before.items) level.left
+-- nothing waits, and nothing is done or ahead: what all gave already is all
+pub all_done : (macros : Definitions) (sources : List SourceToken) (calls : List Suspended) (level : Level)
+    → calls ≡ [] → level.before.items ≡ [] → level.tokens.items ≡ []
+    → with_sources sources (replaced_by (resumed macros calls (level_outcome macros level))) ≡ Ok (record { tokens = sources; left = level.left })
+all_done macros sources calls level none given empty =
+    ap (λ (calls' : List Suspended). with_sources sources (replaced_by (resumed macros calls' (level_outcome macros level)))) none
+    ∙ ap (λ (front : List Pending). with_sources sources (replaced_by (with_front (done front) (expanded macros level.left (ahead level.tokens.items))))) given
+    ∙ ap (λ (tokens : List Pending). with_sources sources (replaced_by (with_front [] (expanded macros level.left (ahead tokens))))) empty
+    ∙ ap (λ (outcome : Outcome). with_sources sources (replaced_by outcome)) (whole_done macros [] level.left)
+    ∙ ap (λ (tokens : List SourceToken). Ok (record { tokens = tokens; left = level.left })) (append-nil sources)
+
+-- the next token, in front of those behind it
+pub next_ahead : (macros : Definitions) (sources : List SourceToken) (calls : List Suspended) (level : Level) (rest : List Pending) (token : Pending)
+    → level.tokens.items ≡ rest ++ token ∷ []
+    → with_sources sources (replaced_by (resumed macros calls (with_front (done level.before.items) (expanded macros level.left (hidden token ∷ ahead rest)))))
+    ≡ with_sources sources (replaced_by (resumed macros calls (level_outcome macros level)))
+next_ahead macros sources calls level rest token popped =
+    ap (λ (tokens : List Hidden). with_sources sources (replaced_by (resumed macros calls
+    (with_front (done level.before.items) (expanded macros level.left tokens)))))
+    (sym (ap ahead popped ∙ ap (map hidden) (reverse-append rest (token ∷ []))))
+
+-- what refuses what is left refuses all
+pub refused_all : (sources : List SourceToken) (outcome : Outcome) (all : Result Replaced MacroError) (error : MacroError)
+    → with_sources sources (replaced_by outcome) ≡ all → IsRefusal outcome error → IsRefusal all error
+refused_all sources outcome all error comes (inl memory) = inl memory
+refused_all sources outcome all error comes (inr refusal) = inr (sym comes ∙ ap (λ (outcome' : Outcome). with_sources sources (replaced_by outcome')) refusal)

@@ -3,13 +3,15 @@
 --     level_outcome macros level          what comes of the tokens done and those ahead
 --     call_outcome macros before call left    what comes of an invocation behind those
 --     resumed macros calls outcome        what comes of all, where that comes of the innermost
+--     with_sources front replaced         what comes behind the tokens that all gave already
 --     IsStep whole later result           the result decides what the whole comes to
 --     weights calls, weight level         how many steps are left at most
 use Rattle.std.specs.Prelude.{◌≡◌, ℕ, ◌+◌, List, [], ◌∷◌, ◌++◌, length, Result, Ok, Err}
+use Rattle.hs_tokens.specs.declared.token.SourceToken.{SourceToken}
 use Rattle.hs_macros.specs.Arguments.{Hidden}
 use Rattle.hs_macros.specs.Definitions.{Definitions}
 use Rattle.hs_macros.specs.Refusals.{IsRefusal}
-use Rattle.hs_macros.specs.Replacement.{Expansion, Outcome, with_front, and_then, called, expanded}
+use Rattle.hs_macros.specs.Replacement.{Expansion, Outcome, Replaced, with_front, and_then, called, expanded}
 use Rattle.hs_macros.specs.ExpandedLaws.{load}
 use Rattle.hs_macros.specs.Stacks.{done, ahead, ready, waiting, invocation}
 use Rattle.hs_macros.specs.declared.budget.Budget.{Budget}
@@ -38,6 +40,11 @@ after_argument macros suspended argument =
 abbrev pub resumed : Definitions → List Suspended → Outcome → Outcome
 resumed macros [] outcome = outcome
 resumed macros (suspended ∷ calls) outcome = and_then (resumed macros calls outcome) (after_argument macros suspended)
+
+-- the tokens that all gave already come first
+abbrev pub with_sources : List SourceToken → Result Replaced MacroError → Result Replaced MacroError
+with_sources front (Err error) = Err error
+with_sources front (Ok later) = Ok (record { tokens = front ++ later.tokens; left = later.left })
 
 -- A step goes on to what comes to the same, or it gives the refusal that all comes to. Want of memory alone is free.
 abbrev pub IsStep : Outcome → (Level → Outcome) → Result Level MacroError → Type 0

@@ -1,24 +1,25 @@
 ghost use Rattle.std.specs.Prelude.{◌≡◌, ◌≤◌, ◌<◌, ◌+◌, ◌⊎◌, [], ◌∷◌, ◌++◌, length, OnOk, IfOk, IfErr, Ok, Err};
 ghost use Rattle.hs_macros.specs.Definitions.{Definitions};
 ghost use Rattle.hs_macros.specs.Refusals.{IsRefusal};
-ghost use Rattle.hs_macros.specs.Replacement.{with_front, expanded};
+ghost use Rattle.hs_macros.specs.Replacement.{with_front, expanded, replaced_by, replaced};
 ghost use Rattle.hs_macros.specs.ExpandedLaws.{load};
 ghost use Rattle.hs_macros.specs.Stacks.{hidden, done, ahead, waiting};
-ghost use Rattle.hs_macros.specs.Levels.{level_outcome, call_outcome, after_argument, resumed, IsStep, weight_of, weights, weight};
+ghost use Rattle.hs_macros.specs.Levels.{level_outcome, call_outcome, after_argument, resumed, IsStep, with_sources, weight_of, weights, weight};
 
 use crate::arguments::Supplied;
 use crate::budget::Budget;
 use crate::call::{Call, Found, invocation_at};
 use crate::error::MacroError;
 use crate::macros::Macros;
-use crate::pending::Pending;
+use crate::pending::{Pending, put_sources, tokens_ahead};
 use crate::placing::is_used;
-use std::alloc::Global;
+use hs_tokens::{SourceToken, Token};
+use std::alloc::{AllocError, Global};
 
 /// How far the expansion of a list of tokens has come.
 #[derive(Drop)]
 pub(crate) struct Level<'a> {
-    /// The tokens that are done, in order.
+    /// The tokens that are done, in order; at the outermost level those that the sources do not have yet.
     pub(crate) before: Vec<Pending<'a>>,
     /// Those ahead, the next one last.
     pub(crate) tokens: Vec<Pending<'a>>,
@@ -33,6 +34,13 @@ pub(crate) struct Suspended<'a> {
     pub(crate) call: Call<'a>,
     /// The parameter whose argument is expanded.
     pub(crate) parameter: &'a [u8],
+}
+
+/// The tokens of a run, replaced, and what is left.
+#[derive(Drop)]
+pub(crate) struct Replaced {
+    pub(crate) tokens: Vec<SourceToken>,
+    pub(crate) left: Budget,
 }
 
 /// Begins the next argument that the macro uses, or puts its tokens in place where none waits.
@@ -137,30 +145,56 @@ fn take_up<'a>(
     proceed(alloc, calls, before, call, level.left)
 }
 
-/// Expands the tokens ahead, the next one last (X3.159-1989 3.8.3).
-pub(crate) fn expanded<'a>(
+/// Where no invocation waits, gives the level's tokens that are done to the sources: what they hide is of no use any more.
+fn give_done<'a>(
     alloc: Global,
-    macros: &'a Macros,
-    tokens: Vec<Pending<'a>>,
+    calls: &[Suspended<'a>],
+    level: &mut Level<'a>,
+    sources: &mut Vec<SourceToken>,
+) -> Result<(), AllocError>
+    ensures same { OnOk result ((macros : Definitions)
+        → with_sources sources.new.items (replaced_by (resumed macros calls.now (level_outcome macros level.new)))
+        ≡ with_sources sources.old.items (replaced_by (resumed macros calls.now (level_outcome macros level.old)))) }
+    ensures weight { OnOk result (weight level.new ≡ weight level.old) }
+    ensures given { OnOk result (calls.now ≡ [] → level.new.before.items ≡ []) }
+{
+    if calls.is_empty() {
+        put_sources(alloc, level.before.as_slice(), sources)?;
+        level.before.clear();
+    }
+    Ok(())
+}
+
+/// Replaces what the run invokes (X3.159-1989 3.8.3). Of the tokens that are done, only those that an invocation waits for
+/// keep what they hide.
+pub(crate) fn replaced_run(
+    alloc: Global,
+    macros: &Macros,
+    run: &[Token],
     left: Budget,
-) -> Result<Level<'a>, MacroError>
-    ensures expanded { IfOk result (λ level. expanded macros.now left (ahead tokens.entry.items)
-        ≡ Ok (record { tokens = done level.before.items; left = level.left })) }
-    ensures refused { IfErr result (IsRefusal (expanded macros.now left (ahead tokens.entry.items))) }
+) -> Result<Replaced, MacroError>
+    ensures replaced { IfOk result (λ done. replaced macros.now left run.now
+        ≡ Ok (record { tokens = done.tokens.items; left = done.left })) }
+    ensures refused { IfErr result (IsRefusal (replaced macros.now left run.now)) }
 {
     let mut calls = Vec::new(alloc);
+    let mut sources = Vec::new(alloc);
     let mut level = Level {
         before: Vec::new(alloc),
-        tokens,
+        tokens: tokens_ahead(alloc, run)?,
         left,
     };
     'steps: loop {
+        give_done(alloc, &calls, &mut level, &mut sources)?;
         if let Some(token) = level.tokens.pop() {
             level = take_token(alloc, macros, &mut calls, level, token)?;
         } else if let Some(suspended) = calls.pop() {
             level = take_up(alloc, &mut calls, suspended, level)?;
         } else {
-            return Ok(level);
+            return Ok(Replaced {
+                tokens: sources,
+                left: level.left,
+            });
         }
     }
 }

@@ -4,9 +4,10 @@ ghost use Rattle.hs_macros.specs.HideSets.{object_hides, call_hides};
 
 use smallvec::SmallVec;
 use std::alloc::{AllocError, Global};
+use std::cmp::Ordering;
 use std::marker::Model;
 
-/// The names that a token is not replaced by, in order of their bytes.
+/// The names that a token is not replaced by, each once, in order of their bytes.
 #[derive(Drop)]
 pub(crate) struct HideSet<'a> {
     names: SmallVec<&'a [u8], 4>,
@@ -15,9 +16,9 @@ pub(crate) struct HideSet<'a> {
 impl<'a> Model for HideSet<'a> {
     ghost use Rattle.std.specs.Prelude.{map, List, ℕ};
     ghost use Rattle.std.specs.FinSet as set;
-    ghost use Rattle.std.specs.Ordering.{nat_cmp, is_lt};
+    ghost use Rattle.std.specs.Ordering.{nat_cmp};
     ghost use Rattle.std.specs.Cmp.Lexicographic.{slice_cmp};
-    ghost use Rattle.std.specs.List.Sorted.{IsSortedBy};
+    ghost use Rattle.std.specs.List.Sorted.{IsStrictlySortedBy};
     ghost use Rattle.std.specs.Coded.{coded_list, coded_ℕ};
 
     ghost Value = { set.FinSet (slice_cmp nat_cmp) };
@@ -26,7 +27,7 @@ impl<'a> Model for HideSet<'a> {
 
     ghost view = { λ s. set.from_list (map (λ name. name.now) s.names.items) };
 
-    ghost invariant = { λ s. IsSortedBy (λ a b. is_lt (slice_cmp nat_cmp a.now b.now)) s.names.items };
+    ghost invariant = { λ s. IsStrictlySortedBy (slice_cmp nat_cmp) (map (λ name. name.now) s.names.items) };
 }
 
 impl<'a> HideSet<'a> {
@@ -72,10 +73,19 @@ impl<'a> HideSet<'a> {
     pub(crate) fn is_subset(&self, other: &HideSet<'a>) -> bool
         ensures { result ≡ set.is_subset self.now other.now }
     {
-        for name in self.names.as_slice() {
-            if !other.contains(name) {
+        // Both rows rise: a name that is less than the next one of the other row is not in it.
+        let mut own = self.names.as_slice();
+        let mut others = other.names.as_slice();
+        'rows: while let [name, own_rest @ ..] = own {
+            let [next, others_rest @ ..] = others else {
                 return false;
+            };
+            match name.cmp(next) {
+                Ordering::Less => return false,
+                Ordering::Equal => own = own_rest,
+                Ordering::Greater => {}
             }
+            others = others_rest;
         }
         true
     }
@@ -84,24 +94,56 @@ impl<'a> HideSet<'a> {
     pub(crate) fn intersection(&self, other: &HideSet<'a>) -> Result<HideSet<'a>, AllocError>
         ensures { IfOk result (λ both. both ≡ set.intersection self.now other.now) }
     {
-        let mut both = HideSet::new(*self.names.allocator());
-        for name in self.names.as_slice() {
-            if other.contains(name) {
-                both.insert(name)?;
+        let mut names = SmallVec::new(*self.names.allocator());
+        let mut own = self.names.as_slice();
+        let mut others = other.names.as_slice();
+        'rows: while let [name, own_rest @ ..] = own {
+            let [next, others_rest @ ..] = others else {
+                break;
+            };
+            match name.cmp(next) {
+                Ordering::Less => own = own_rest,
+                Ordering::Greater => others = others_rest,
+                Ordering::Equal => {
+                    names.push(*name)?;
+                    own = own_rest;
+                    others = others_rest;
+                }
             }
         }
-        Ok(both)
+        Ok(HideSet { names })
     }
 
     /// The names that one of them hides.
     pub(crate) fn union(&self, other: &HideSet<'a>) -> Result<HideSet<'a>, AllocError>
         ensures { IfOk result (λ either. either ≡ set.union self.now other.now) }
     {
-        let mut either = self.copy()?;
-        for name in other.names.as_slice() {
-            either.insert(name)?;
+        let mut names = SmallVec::new(*self.names.allocator());
+        let mut own = self.names.as_slice();
+        let mut others = other.names.as_slice();
+        'rows: while let [name, own_rest @ ..] = own {
+            let [next, others_rest @ ..] = others else {
+                break;
+            };
+            match name.cmp(next) {
+                Ordering::Less => {
+                    names.push(*name)?;
+                    own = own_rest;
+                }
+                Ordering::Greater => {
+                    names.push(*next)?;
+                    others = others_rest;
+                }
+                Ordering::Equal => {
+                    names.push(*name)?;
+                    own = own_rest;
+                    others = others_rest;
+                }
+            }
         }
-        Ok(either)
+        names.extend_from_slice(own)?;
+        names.extend_from_slice(others)?;
+        Ok(HideSet { names })
     }
 
     /// What the tokens of an object-like replacement of the name hide, where the name hid this.

@@ -1,4 +1,4 @@
-ghost use Rattle.std.specs.Prelude.{◌≡◌, ◌⊎◌, IfOk, OnOk, IfErr, OnErr, is_some, option_copied};
+ghost use Rattle.std.specs.Prelude.{◌≡◌, ◌⊎◌, Ok, IfOk, OnOk, IfErr, OnErr, is_some, option_copied};
 ghost use Rattle.std.specs.FinMap as map;
 ghost use Rattle.hs_macros.specs.Definitions.{defined};
 ghost use Rattle.hs_macros.specs.Lines.{defined_by};
@@ -8,9 +8,8 @@ ghost use Rattle.hs_macros.specs.Replacement.{replaced};
 use crate::budget::Budget;
 use crate::definition::Definition;
 use crate::error::MacroError;
-use crate::expansion::expanded;
+use crate::expansion::replaced_run;
 use crate::line::{Line, definition_of};
-use crate::pending::{sources, tokens_ahead};
 use hs_base::NoMemory;
 use hs_tokens::{SourceToken, Token};
 use indexmap::IndexMap;
@@ -41,7 +40,7 @@ impl Model for Macros {
 impl Macros {
     /// No macros. Takes no memory.
     pub fn new(alloc: Global) -> Result<Macros, NoMemory>
-        ensures { IfOk result (λ macros. macros ≡ map.empty) }
+        ensures { result ≡ Ok map.empty }
     {
         Ok(Macros {
             definitions: IndexMap::new(alloc),
@@ -99,11 +98,9 @@ impl Macros {
         ensures unchanged { OnErr result (left.new ≡ left.old) }
     {
         let alloc = *self.definitions.allocator();
-        let tokens = tokens_ahead(alloc, run)?;
-        let level = expanded(alloc, self, tokens, *left)?;
-        let sources = sources(alloc, &level.before)?;
-        *left = level.left;
-        Ok(sources)
+        let done = replaced_run(alloc, self, run, *left)?;
+        *left = done.left;
+        Ok(done.tokens)
     }
 
     /// Puts what the line defines at its name.

@@ -1,4 +1,4 @@
-ghost use Rattle.std.specs.Prelude.{◌≡◌, IfOk, map};
+ghost use Rattle.std.specs.Prelude.{◌≡◌, ◌++◌, IfOk, OnOk, map};
 ghost use Rattle.hs_macros.specs.Replacement.{plain, source_of};
 ghost use Rattle.hs_macros.specs.Stacks.{done, ahead};
 
@@ -67,13 +67,17 @@ pub(crate) fn tokens_ahead<'a>(
     Ok(tokens)
 }
 
-/// The tokens without what they hide.
-pub(crate) fn sources(alloc: Global, tokens: &[Pending<'_>]) -> Result<Vec<SourceToken>, AllocError>
-    ensures { IfOk result (λ sources. sources.items ≡ map source_of (done tokens.now)) }
+/// Puts the tokens behind the sources, without what they hide.
+pub(crate) fn put_sources(
+    alloc: Global,
+    tokens: &[Pending<'_>],
+    sources: &mut Vec<SourceToken>,
+) -> Result<(), AllocError>
+    ensures { OnOk result (sources.new.items
+        ≡ sources.old.items ++ map source_of (done tokens.now)) }
 {
-    let mut sources = Vec::with_capacity(alloc, tokens.len())?;
     for pending in tokens {
         sources.push(pending.source(alloc)?)?;
     }
-    Ok(sources)
+    Ok(())
 }

@@ -1,6 +1,6 @@
 use Rattle.std.proofs.Common.{◌≡◌, sym, ap, ◌∙◌}
 use Rattle.std.specs.FinSet as set
-use Rattle.hs_macros.proofs.Names.{set_of, IsRising, contains_found, place_of_search, IsRising-insert, set_of-insert, insert_held}
+use Rattle.hs_macros.proofs.Names.{set_of, bytes_of, IsRising, contains_found, place_of_search, IsRising-insert, set_of-insert, insert_held}
 use Rattle.hs_macros.proofs.hide_set.HideSet.insert.Goals as goal
 
 -- a name that the search finds is in the set already
@@ -13,7 +13,7 @@ returns-in-Ok-clause-inserted c =
 -- the name goes to its place, so the names stay in order
 pub invariant_of-self-in-Err : goal.invariant_of-self-in-Err
 invariant_of-self-in-Err c =
-    let rising : IsRising c.as_slice.result.now = rw c.as_slice.ensures c.self.invariant in
+    let rising : IsRising (bytes_of c.as_slice.result.now) = rw c.as_slice.ensures c.self.invariant in
     let around = place_of_search c.args.name c.as_slice.result.now c.in-Err.index c.in-Err.ensures.position rising in
     rw (c.in_ok-insert-in-Err.ensures.ok, ← c.as_slice.ensures)
     (IsRising-insert c.args.name c.as_slice.result.now c.in-Err.index c.in-Err.ensures.bound around rising)

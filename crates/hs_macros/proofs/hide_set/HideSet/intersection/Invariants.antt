@@ -1,8 +1,10 @@
-use Rattle.std.proofs.Common.{◌≡◌, take}
-use Rattle.std.specs.FinSet as set
-use Rattle.hs_macros.proofs.Names.{set_of}
+use Rattle.std.proofs.Common.{◌+◌, length}
+use Rattle.hs_macros.proofs.Found.{FindsBoth}
 use Rattle.hs_macros.proofs.hide_set.HideSet.intersection.Given as goal
 
--- of the names so far, those that the other hides
-abbrev pub invariant-loop-name : goal.invariant-loop-name
-invariant-loop-name l = l.both ≡ set.intersection (set_of (take l.name-index l.name-items)) l.other
+-- with what both rows still have, the names so far are all that both sets hold
+abbrev pub invariant-rows : goal.invariant-rows
+invariant-rows l = FindsBoth l.names.items l.own l.others l.self l.other
+
+abbrev pub decreases-rows : goal.decreases-rows
+decreases-rows l = length l.own + length l.others

@@ -1,20 +1,43 @@
 use Rattle.std.proofs.Common.{◌≡◌, sym, ap, ◌∙◌}
-use Rattle.hs_macros.proofs.Names.{set_of, no_name, contains_member, is_subset-empty, is_subset-take, is_subset_not}
+use Rattle.std.specs.FinSet as set
+use Rattle.hs_macros.proofs.Names.{set_of}
+use Rattle.hs_macros.proofs.Subsets.{Decides-Equal, Decides-Greater, Decides-Less, Decides-no_own, Decides-no_others}
 use Rattle.hs_macros.proofs.hide_set.HideSet.is_subset.Goals as goal
 
--- the set of no names is in every set
-pub loop-name-init : goal.loop-name-init
-loop-name-init c = is_subset-empty c.args.other.now
+-- both rows are whole
+pub rows-init : goal.rows-init
+rows-init c =
+    let own : set_of c.as_slice-own.result.now ≡ c.args.self.now = ap set_of c.as_slice-own.ensures ∙ c.self.view_is in
+    let others : set_of c.as_slice-others.result.now ≡ c.args.other.now = ap set_of c.as_slice-others.ensures ∙ c.other.view_is in
+    record {
+      own_rises = rw c.as_slice-own.ensures c.self.invariant;
+      others_rise = rw c.as_slice-others.ensures c.other.invariant;
+      same = λ i. set.is_subset (own i) (others i);
+    }
 
--- the name is in this set, and not in the other
-pub returns-then-not-contains : goal.returns-then-not-contains
-returns-then-not-contains c =
-    let seen : set_of c.as_slice-name-items.result.now ≡ c.args.self.now = ap set_of c.as_slice-name-items.ensures ∙ c.self.view_is in
-    let held = contains_member c.as_slice-name-items.result.now c.loop-name.name-index no_name c.loop-name-test.true in
-    rw (← seen) (sym (is_subset_not _ _ _ held (sym c.if-not-contains.ensures)))
+-- both have the name
+pub rows-preserved-in-Equal : goal.rows-preserved-in-Equal
+rows-preserved-in-Equal c =
+    Decides-Equal c.rows.own.now c.rows.others.now c.args.self.now c.args.other.now
+    (c.in-len1-up.len_at_least, c.in-len1-up-others.len_at_least, sym c.cmp.ensures ∙ c.in-Equal.is) c.rows.invariant
 
--- the other holds this name too
-pub loop-name-preserved : goal.loop-name-preserved
-loop-name-preserved c =
-    let names = c.as_slice-name-items.result.now in
-    is_subset-take names c.loop-name.name-index no_name c.args.other.now c.loop-name-test.true (sym c.if-not-contains.ensures) c.loop-name.invariant
+-- only the other has the name
+pub rows-preserved : goal.rows-preserved
+rows-preserved c =
+    Decides-Greater c.rows.own.now c.rows.others.now c.args.self.now c.args.other.now
+    (c.in-len1-up.len_at_least, c.in-len1-up-others.len_at_least, sym c.cmp.ensures ∙ c.in-Greater.is) c.rows.invariant
+
+-- the other lacks the name
+pub returns-in-Less : goal.returns-in-Less
+returns-in-Less c =
+    Decides-Less c.rows.own.now c.rows.others.now c.args.self.now c.args.other.now
+    (c.in-len1-up.len_at_least, c.in-len1-up-others.len_at_least, sym c.cmp.ensures ∙ c.in-Less.is) c.rows.invariant
+
+-- it has no more names
+pub returns-in_default-others : goal.returns-in_default-others
+returns-in_default-others c =
+    Decides-no_others c.rows.own.now c.rows.others.now c.args.self.now c.args.other.now c.in-len1-up.len_at_least c.in_default-others.len_below c.rows.invariant
+
+-- each name was found
+pub returns : goal.returns
+returns c = Decides-no_own c.rows.own.now c.rows.others.now c.args.self.now c.args.other.now c.in_default.len_below c.rows.invariant

@@ -1,8 +1,10 @@
-use Rattle.std.proofs.Common.{◌≡◌, take}
-use Rattle.std.specs.FinSet as set
-use Rattle.hs_macros.proofs.Names.{set_of}
+use Rattle.std.proofs.Common.{◌+◌, length}
+use Rattle.hs_macros.proofs.Found.{FindsEither}
 use Rattle.hs_macros.proofs.hide_set.HideSet.union.Given as goal
 
--- the names of this one, and of the other's names those so far
-abbrev pub invariant-loop-name : goal.invariant-loop-name
-invariant-loop-name l = l.either' ≡ set.union l.self (set_of (take l.name-index l.name-items))
+-- with what the rows still have, the names so far are all that one of the sets holds
+abbrev pub invariant-rows : goal.invariant-rows
+invariant-rows l = FindsEither l.names.items l.own l.others l.self l.other
+
+abbrev pub decreases-rows : goal.decreases-rows
+decreases-rows l = length l.own + length l.others

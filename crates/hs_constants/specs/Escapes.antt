@@ -1,0 +1,16 @@
+-- How a character constant is read: character by character, an escape behind its backslash (X3.159-1989 3.1.3.4).
+--     len_of len                    how many bytes an escape has behind its backslash; a bad one has none
+--     IsCharacter content found     the character at the front of a content, and what stands behind it
+use Rattle.std.specs.Prelude.{◌≡◌, ℕ, ◌<◌, List, [], ◌∷◌, length, Option, Some, None}
+use Rattle.hs_constants.specs.Characters.{characters_of}
+use Rattle.hs_constants.specs.declared.characters.Character.{Character}
+
+-- a bad escape has none
+abbrev pub len_of : Option ℕ → ℕ
+len_of None = 0
+len_of (Some len) = len
+
+-- the character at the front, or nothing at the end
+abbrev pub IsCharacter : List ℕ → Option Character → Type 0
+IsCharacter content None = content ≡ []
+IsCharacter content (Some found) = (characters_of content ≡ found.value ∷ characters_of found.behind.now) × (length found.behind.now < length content)

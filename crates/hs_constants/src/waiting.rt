@@ -1,0 +1,51 @@
+ghost use Rattle.std.specs.Prelude.{◌≡◌, reverse};
+ghost use Rattle.hs_constants.specs.Reading.{applied, settled};
+
+use crate::arithmetic::{binary_value, chosen, unary_value};
+use crate::operator::{Binary, Unary, level_of};
+use crate::value::Value;
+
+/// What waits for the value of an operand.
+#[derive(Clone, Copy)]
+pub(crate) enum Waiting {
+    /// An open parenthesis.
+    Group,
+    /// An operator in front of its operand.
+    Prefix(Unary),
+    /// An operator between two, behind this left operand.
+    Infix(Value, Binary),
+    /// The `?` behind this test.
+    Test(Value),
+    /// The `:` behind this test and this first branch.
+    Branch(Value, Value),
+}
+
+/// What the value makes of the last thing that waits, where that binds as tightly as the level.
+fn applied(last: Waiting, level: u32, value: Value) -> Option<Value>
+    ensures { result ≡ applied last level value }
+{
+    match last {
+        Waiting::Prefix(operator) => Some(unary_value(operator, value)),
+        Waiting::Infix(left, operator) if level <= level_of(operator) => {
+            Some(binary_value(operator, left, value))
+        }
+        Waiting::Branch(test, left) if level == 0 => Some(chosen(test, left, value)),
+        _ => None,
+    }
+}
+
+/// Gives the value to what waits, from the last on, as far as that binds as tightly as the level. The answer is the
+/// value that comes of it, for which the others still wait.
+pub(crate) fn settled(waiting: &mut Vec<Waiting>, level: u32, value: Value) -> Value
+    ensures { record { waiting = reverse waiting.new.items; value = result }
+        ≡ settled level (reverse waiting.old.items) value }
+{
+    let mut value = value;
+    'waiting: while let Some((last, _)) = waiting.as_slice().split_last()
+        && let Some(next) = applied(*last, level, value)
+    {
+        waiting.pop();
+        value = next;
+    }
+    value
+}

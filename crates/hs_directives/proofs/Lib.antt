@@ -1,0 +1,7 @@
+pub mod Cuts
+pub mod Nesting
+pub mod Printable
+pub mod Reading
+pub mod Resolving
+pub mod Units
+pub mod Walking

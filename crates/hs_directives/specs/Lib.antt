@@ -1,0 +1,10 @@
+pub mod Ahead
+pub mod Conditions
+pub mod Directives
+pub mod Includes
+pub mod Outcomes
+pub mod Pieces
+pub mod Preprocessing
+pub mod Readings
+pub mod Sections
+pub mod States
