@@ -1,6 +1,10 @@
--- What the parts of a file say, in the definition's words.
---     piece_of part               a piece
---     IsFirst tokens part         the first piece of the tokens, and those behind it
+-- What the code's values say, in the definition's words.
+--     piece_of part                     a piece
+--     IsFirst tokens part               the first piece of the tokens, and those behind it
+--     IsInclusionOf part sections it    whether the part includes a file here
+--     piece_outcome ..                  what a piece comes to
+--     turn_of sections state            what stands behind a directive
+--     seen_operand, seen_tokens, seen_bytes, seen_name, named_of      what optional values say
 use Rattle.std.specs.Prelude.{◌≡◌, ℕ, ◌<◌, List, [], ◌∷◌, ◌++◌, length, Bool, true, not, Option, Some, None, IsNone, drop, Result, Vec}
 use Rattle.std.specs.String.{string_bytes}
 use Rattle.std.specs.declared.alloc.Global.{Global}

@@ -1,4 +1,5 @@
 -- The conditions of `#if` and `#elif` (X3.159-1989 3.8.1): first `defined`, then replacement, then the value.
+--     asks token, operand_of tokens            the word `defined`, and the name that it asks for
 --     resolved macros tokens                   without `defined`, or nothing where one has no name
 --     condition_of macros left pos line        whether the condition holds, and what is left; or why not
 use Rattle.std.specs.Prelude.{ℕ, zero, suc, List, [], ◌∷◌, map, Bool, ◌&&◌, is_some, Option, Some, None, Result, Ok, Err, if◌then◌else◌, codes}

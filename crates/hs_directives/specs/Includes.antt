@@ -1,4 +1,6 @@
 -- The names that `#include` lines name (X3.159-1989 3.8.2). Both forms name files by the one search (own).
+--     bracketed tokens, quoted token rest  the name between `<` and `>`, and between quotes
+--     is_name bytes                      what a name may be
 --     plain_name line                    the name of a line of one of the two forms
 --     include_name macros left pos line  the name, and what is left; or why not
 use Rattle.std.specs.Prelude.{ℕ, ◌-◌, nat_le, List, [], ◌∷◌, ◌++◌, length, take, drop, Bool, false, ◌&&◌, Option, Some, None, Result, Ok, Err, if◌then◌else◌, codes}

@@ -4,6 +4,9 @@
 --     Grows told old new         more files were read: those of the listing, where one is told
 --     IsCaused before now error  a miss or a fault was counted where the error says so
 --     IsReading ..               what each result says
+--     IsText ..                  what a read of a text says
+--     entry levels listing ..    the file of an `#include`, and the state behind it
+--     IsPreprocessed ..          what each answer of `preprocess` says
 use Rattle.std.specs.Prelude.{◌≡◌, List, [], ◌∷◌, ◌++◌, map, Option, Some, None, Result, Ok, Err, ℕ, zero, suc, ◌≤◌, length, nat_lt, if◌then◌else◌, IfSome, Vec, zip}
 use Rattle.std.specs.declared.alloc.Global.{Global}
 use Rattle.hs_base.specs.Files.{Listing, Counts, file_of}

@@ -1,5 +1,6 @@
 -- What reading has come to: the files so far, what is left of the limits, and the unit so far.
 --     found_file listing name progress    the file of that name: read and scanned at its first mention (own)
+--     known_from number name files        a file that was read before
 --     and_then first next                 one after another, up to the first refusal
 use Rattle.std.specs.Prelude.{ℕ, suc, ◌-◌, nat_lt, nat_le, List, [], ◌∷◌, ◌++◌, length, Option, Some, None, Result, Ok, Err, if◌then◌else◌}
 use Rattle.std.specs.Str.{bytes_eq}
