@@ -1,12 +1,13 @@
 -- The arguments so far: what is left of the tokens decides the rest.
---     collected_token, collected_comma, collected_close     a token, a comma, and the closing parenthesis at the front
---     ahead-push, ahead-pop                                 the next token ahead
+--     collected_token, collected_comma     a token, and a comma, at the front
+--     ahead-push, done-push                the next token ahead, and the last that is done
+--     paired_step, none_left               the last parameter with the last argument, or without one
 use Rattle.std.proofs.Common.{◌≡◌, ℕ, ◌+◌, ◌-◌, ◌≤◌, Bool, true, false, List, [], ◌∷◌, ◌++◌, map, Option, Some, None, Vec, Global, refl, sym, ap, ◌∙◌, append_assoc, if◌then◌else◌, arith}
 use Rattle.std.specs.Prelude.{◌==◌, ◌&&◌, codes}
 use Rattle.std.proofs.lemmas.List.{append-nil, map-append, reverse-append}
 use Rattle.hs_tokens.specs.Marks.{is_mark}
 use Rattle.hs_tokens.specs.declared.token.Token.{Token}
-use Rattle.hs_macros.specs.Arguments.{Hidden, Arguments, with_token, with_comma, closed, role_of, arguments_at, arguments_from, Argument, with_argument, paired}
+use Rattle.hs_macros.specs.Arguments.{Hidden, Arguments, with_token, with_comma, role_of, arguments_at, arguments_from, Argument, with_argument, paired}
 use Rattle.hs_macros.specs.Stacks.{Collected, collected, hidden, ahead, done, argument, waiting, with_later}
 use Rattle.hs_macros.specs.declared.pending.Pending.{Pending}
 use Rattle.hs_macros.specs.declared.arguments.Supplied.{Supplied}
@@ -37,12 +38,6 @@ collected_comma given argument (Some found) =
     ap (λ (last : List Hidden). given ++ last ∷ found.first ∷ found.others) (append-nil argument)
     ∙ sym (append_assoc given (argument ∷ []) (found.first ∷ found.others)) in
     ap (λ (all : List (List Hidden)). Some (record { given = all; close = found.close; behind = found.behind })) ended
-
--- the closing parenthesis ends it, and all
-pub collected_close : (given : List (List Hidden)) (argument : List Hidden) (close : Hidden) (behind : List Hidden)
-    → collected given argument (Some (closed close behind)) ≡ Some (record { given = given ++ argument ∷ []; close = close; behind = behind })
-collected_close given argument close behind =
-    ap (λ (last : List Hidden). Some (record { given = given ++ last ∷ []; close = close; behind = behind })) (append-nil argument)
 
 -- an argument in the definition's words
 abbrev pub row : Vec Pending Global → List Hidden
@@ -102,7 +97,8 @@ depth_grows depth further token is =
 
 -- the last parameter with the last argument
 paired-push : (names : List (List ℕ)) (given : List (List Hidden)) (name : List ℕ) (tokens : List Hidden) (later : List Argument)
-    → with_later (paired (names ++ name ∷ []) (given ++ tokens ∷ [])) later ≡ with_later (paired names given) (record { parameter = name; tokens = tokens } ∷ later)
+    → with_later (paired (names ++ name ∷ []) (given ++ tokens ∷ [])) later
+    ≡ with_later (paired names given) (record { parameter = name; tokens = tokens } ∷ later)
 paired-push [] [] name tokens later = refl
 paired-push [] (other ∷ []) name tokens later = refl
 paired-push [] (other ∷ second ∷ given) name tokens later = refl
@@ -122,8 +118,9 @@ paired-push (first ∷ names) (other ∷ given) name tokens later =
         let behind : all ++ later ≡ some ++ more = cc in ap (λ (arguments : List Argument). Some (argument ∷ arguments)) behind
 
 -- the last name with the last tokens
-pub paired_step : (names others : List (List ℕ)) (name : List ℕ) (given rest : List (Vec Pending Global)) (tokens : Vec Pending Global) (later more : List Supplied)
-    (supplied : Supplied) (all : Option (List Argument)) → names ≡ others ++ name ∷ [] → given ≡ rest ++ tokens ∷ [] → more ≡ later ++ supplied ∷ []
+pub paired_step : (names others : List (List ℕ)) (name : List ℕ) (given rest : List (Vec Pending Global)) (tokens : Vec Pending Global)
+    (later more : List Supplied) (supplied : Supplied) (all : Option (List Argument))
+    → names ≡ others ++ name ∷ [] → given ≡ rest ++ tokens ∷ [] → more ≡ later ++ supplied ∷ []
     → supplied.parameter.now ≡ name → supplied.tokens ≡ tokens
     → with_later (paired names (map row given)) (waiting later) ≡ all → with_later (paired others (map row rest)) (waiting more) ≡ all
 paired_step names others name given rest tokens later more supplied all split popped pushed named taken same =
@@ -133,7 +130,8 @@ paired_step names others name given rest tokens later more supplied all split po
     ap waiting pushed ∙ ap (map argument) (reverse-append later (supplied ∷ [])) ∙ ap (λ (first : Argument). first ∷ waiting later) pair in
     ap (with_later (paired others (map row rest))) next
     ∙ sym (paired-push others (map row rest) name (row tokens) (waiting later))
-    ∙ ap (λ (given' : List (List Hidden)). with_later (paired (others ++ name ∷ []) given') (waiting later)) (sym (ap (map row) popped ∙ map-append row rest (tokens ∷ [])))
+    ∙ ap (λ (given' : List (List Hidden)). with_later (paired (others ++ name ∷ []) given') (waiting later))
+    (sym (ap (map row) popped ∙ map-append row rest (tokens ∷ [])))
     ∙ ap (λ (names' : List (List ℕ)). with_later (paired names' (map row given)) (waiting later)) (sym split)
     ∙ same
 

@@ -11,7 +11,8 @@ use Rattle.hs_macros.specs.Arguments.{Hidden, Argument}
 use Rattle.hs_macros.specs.Definitions.{Definitions}
 use Rattle.hs_macros.specs.Refusals.{IsRefusal}
 use Rattle.hs_macros.specs.Replacement.{Invocation, Found, stays, wrong, invoked, found, is_used, placed, spent, Expansion, Outcome, with_front, and_then, placed_again, called, expanded_at, expanded, Replaced, replaced_by}
-use Rattle.hs_macros.specs.ExpandedLaws.{load, spent_tokens, held_of_found, expanded-none, expanded-token}
+use Rattle.hs_macros.specs.Loads.{load, held_of_found}
+use Rattle.hs_macros.specs.ExpandedLaws.{spent_tokens, expanded-none, expanded-token}
 use Rattle.hs_macros.specs.Stacks.{hidden, done, ahead, argument, ready, waiting, invocation}
 use Rattle.hs_macros.specs.Levels.{level_outcome, call_outcome, after_argument, resumed, with_sources, IsStep, weight_of, weights, weight}
 use Rattle.hs_macros.specs.declared.arguments.Supplied.{Supplied}
@@ -124,7 +125,8 @@ last_placed : (macros : Definitions) (before : List Hidden) (call : Call) (left 
     ≡ with_front before (placed_again (expanded macros) (invocation call) (placed (invocation call) (ready call.ready.items)) answer)
 last_placed macros before call left answer none is =
     ap (λ (arguments : List Supplied). with_front before (called (expanded macros) (invocation call) (ready call.ready.items) (waiting arguments) left)) none
-    ∙ ap (λ (after : Result Budget MacroError). with_front before (placed_again (expanded macros) (invocation call) (placed (invocation call) (ready call.ready.items)) after)) (sym is)
+    ∙ ap (λ (after : Result Budget MacroError). with_front before
+    (placed_again (expanded macros) (invocation call) (placed (invocation call) (ready call.ready.items)) after)) (sym is)
 
 -- what the macro puts in place comes to what comes of the invocation
 pub places : (macros : Definitions) (calls : List Suspended) (before tokens : Vec Pending Global) (call : Call) (left after : Budget)
@@ -203,11 +205,13 @@ ends macros calls all before argument' call ready' parameter left popped pushed 
     ap (λ (calls' : List Suspended). resumed macros calls' (with_front (done argument'.items) (expanded macros left []))) popped
     ∙ resumed-push macros calls waits (with_front (done argument'.items) (expanded macros left []))
     ∙ ap (λ (outcome : Outcome). resumed macros calls (and_then outcome (after_argument macros waits))) (whole_done macros (done argument'.items) left)
-    ∙ ap (λ (all' : List Argument). resumed macros calls (with_front (done before.items) (called (expanded macros) (invocation call) all' (waiting call.waiting.items) left)))
+    ∙ ap (λ (all' : List Argument). resumed macros calls
+    (with_front (done before.items) (called (expanded macros) (invocation call) all' (waiting call.waiting.items) left)))
     (sym arguments))
 
 -- what comes to the same as the whole decides the whole
-pub step_of : (whole other : Outcome) (later : Level → Outcome) (result : Result Level MacroError) → whole ≡ other → IsStep whole later result → IsStep other later result
+pub step_of : (whole other : Outcome) (later : Level → Outcome) (result : Result Level MacroError)
+    → whole ≡ other → IsStep whole later result → IsStep other later result
 step_of whole other later result same step = subst (λ (outcome : Outcome). IsStep outcome later result) same step
 
 -- the invocation that begins at the token
@@ -220,7 +224,8 @@ whole_invoked macros calls before token rest left call (is, fresh) =
     ∙ sym (whole_at macros before token rest left (invoked (invocation call) (waiting call.waiting.items)) is))
 
 -- a wrong one refuses the whole, at the token
-pub whole_refused : (macros : Definitions) (calls : List Suspended) (before : List Hidden) (token : Pending) (rest : List Hidden) (left : Budget) (error : MacroError)
+pub whole_refused : (macros : Definitions) (calls : List Suspended) (before : List Hidden) (token : Pending) (rest : List Hidden) (left : Budget)
+    (error : MacroError)
     → (error ≡ NoMemory) ⊎ ((found macros (hidden token) rest ≡ wrong) × (error ≡ ArgCount token.pos))
     → (error ≡ NoMemory) ⊎ (resumed macros calls (with_front before (expanded macros left (hidden token ∷ rest))) ≡ Err error)
 whole_refused macros calls before token rest left error (inl refused) = inl refused
@@ -234,7 +239,12 @@ pub held_behind : (macros : Definitions) (token : Pending) (tokens : List Pendin
     → (found macros (hidden token) (ahead tokens) ≡ invoked (invocation call) (waiting call.waiting.items)) × (call.ready.items ≡ [])
     → load (waiting call.waiting.items) + length call.behind.items ≤ length tokens
 held_behind macros token tokens call (is, fresh) =
-    omega (arith, held_of_found macros (hidden token) (ahead tokens) (invocation call) (waiting call.waiting.items) is, length-ahead call.behind.items, length-ahead tokens)
+    omega (
+      arith,
+      held_of_found macros (hidden token) (ahead tokens) (invocation call) (waiting call.waiting.items) is,
+      length-ahead call.behind.items,
+      length-ahead tokens,
+    )
 
 -- no tokens are ahead of the level
 pub level_done : (macros : Definitions) (calls : List Suspended) (level : Level) → level.tokens.items ≡ []

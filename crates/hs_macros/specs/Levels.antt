@@ -12,7 +12,7 @@ use Rattle.hs_macros.specs.Arguments.{Hidden}
 use Rattle.hs_macros.specs.Definitions.{Definitions}
 use Rattle.hs_macros.specs.Refusals.{IsRefusal}
 use Rattle.hs_macros.specs.Replacement.{Expansion, Outcome, Replaced, with_front, and_then, called, expanded}
-use Rattle.hs_macros.specs.ExpandedLaws.{load}
+use Rattle.hs_macros.specs.Loads.{load}
 use Rattle.hs_macros.specs.Stacks.{done, ahead, ready, waiting, invocation}
 use Rattle.hs_macros.specs.declared.budget.Budget.{Budget}
 use Rattle.hs_macros.specs.declared.call.Call.{Call}

@@ -4,6 +4,7 @@ pub mod ExpandedLaws
 pub mod HideSets
 pub mod Levels
 pub mod Lines
+pub mod Loads
 pub mod Refusals
 pub mod Replacement
 pub mod Stacks

@@ -2,7 +2,7 @@ ghost use Rattle.std.specs.Prelude.{◌≡◌, ◌≤◌, ◌<◌, ◌+◌, ◌�
 ghost use Rattle.hs_macros.specs.Definitions.{Definitions};
 ghost use Rattle.hs_macros.specs.Refusals.{IsRefusal};
 ghost use Rattle.hs_macros.specs.Replacement.{with_front, expanded, replaced_by, replaced};
-ghost use Rattle.hs_macros.specs.ExpandedLaws.{load};
+ghost use Rattle.hs_macros.specs.Loads.{load};
 ghost use Rattle.hs_macros.specs.Stacks.{hidden, done, ahead, waiting};
 ghost use Rattle.hs_macros.specs.Levels.{level_outcome, call_outcome, after_argument, resumed, IsStep, with_sources, weight_of, weights, weight};
 

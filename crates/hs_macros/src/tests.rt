@@ -169,6 +169,53 @@ fn a_name_is_not_replaced_within_itself(rt: HostRuntime) -> Result<(), Fail> {
     Ok(())
 }
 
+// Own: a token hides as many names as replaced it, in whatever order they come: here up to six. Where they come from a
+// call's name and its closing parenthesis, those that both hide count; where from an argument, those of both.
+#[test]
+fn a_token_hides_any_number_of_names(rt: HostRuntime) -> Result<(), Fail> {
+    let alloc = rt.alloc();
+    let expected: [(&[&[u8]], &[u8], &[u8]); 5] = [
+        (
+            &[b"a b", b"b c", b"c d", b"d e", b"e f", b"f a b c d e f 1"],
+            b"a",
+            b"a b c d e f 1",
+        ),
+        (
+            &[b"f e", b"e d", b"d c", b"c b", b"b a", b"a f e d c b a 1"],
+            b"f",
+            b"f e d c b a 1",
+        ),
+        (
+            &[
+                b"a(x) b(x)",
+                b"b(x) c(x)",
+                b"c(x) d(x)",
+                b"d(x) e(x)",
+                b"e(x) f(x)",
+                b"f(x) a(x) e(x) x",
+            ],
+            b"a(1)",
+            b"a ( 1 ) e ( 1 ) 1",
+        ),
+        (
+            &[b"a b", b"b c", b"c d", b"d e", b"e a i", b"i(x) x"],
+            b"i(a)(1)",
+            b"a i ( 1 )",
+        ),
+        (
+            &[b"a b", b"b c", b"c d", b"d e", b"e f(1", b"f(x) a x"],
+            b"a )",
+            b"f ( 1 1",
+        ),
+    ];
+    for (lines, text, spelling) in expected {
+        let macros = macros_of(alloc, lines)?;
+        let found = replaced(alloc, &macros, text)?;
+        assert_eq!(rt; found.as_slice(), spelling);
+    }
+    Ok(())
+}
+
 // X3.159-1989 3.8.3: a function-like macro is invoked where the next token is a parenthesis; white space between, and
 // lines' ends, count for nothing. 3.8.3.4: what replaces a name is looked at with the tokens behind it, and the tokens
 // before it are over.

@@ -11,5 +11,6 @@ invariant-tokens l = record {
   few : l.depth + length l.tokens.items ≤ length l.initial.tokens.items;
 }
 
+-- each turn takes a token
 abbrev pub decreases-tokens : goal.decreases-tokens
 decreases-tokens l = length l.tokens.items

@@ -8,5 +8,6 @@ use Rattle.hs_macros.proofs.arguments.paired.Given as goal
 abbrev pub invariant-names : goal.invariant-names
 invariant-names l = with_later (paired l.names (map row l.given.items)) (waiting l.waiting.items) ≡ paired l.fn.names (map row l.fn.given.items)
 
+-- each turn takes a name
 abbrev pub decreases-names : goal.decreases-names
 decreases-names l = length l.names

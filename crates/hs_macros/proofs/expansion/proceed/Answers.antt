@@ -14,7 +14,8 @@ returns-then-is_used-clause-step c macros =
     begins macros c.arguments.calls.items c.push.new.self.items c.args.before c.reverse.new.self c.new.result c.arguments.call c.pop.new.self
     c.in-Some.argument c.args.left c.in-Some.ensures.items (sym c.is_used.ensures ∙ c.if-is_used.true) c.new.ensures.items c.reverse.ensures.items
     c.in_ok-push.ensures.items
-    ∙ ap (λ (calls : List Suspended). resumed macros calls (call_outcome macros (done c.args.before.items) c.arguments.call c.args.left)) c.arguments.invariant.waits
+    ∙ ap (λ (calls : List Suspended). resumed macros calls (call_outcome macros (done c.args.before.items) c.arguments.call c.args.left))
+    c.arguments.invariant.waits
     ∙ ap (resumed macros c.args.calls.now.items) (c.arguments.invariant.same macros)
 
 -- with fewer arguments that wait
@@ -54,6 +55,7 @@ returns-clause-step c macros =
     ∙ ap (resumed macros c.args.calls.now.items) (same_waiting macros (done c.args.before.items) c.arguments.call c.pop.new.self c.args.left same
     ∙ c.arguments.invariant.same macros)
 
+-- with so much less that may be put in place
 pub returns-clause-falls : goal.returns-clause-falls
 returns-clause-falls c =
     let last : Call = record c.arguments.call { waiting = c.pop.new.self } in

@@ -1,6 +1,6 @@
 use Rattle.std.proofs.Common.{◌≡◌, ◌≤◌, length}
 use Rattle.hs_macros.specs.Definitions.{Definitions}
-use Rattle.hs_macros.specs.ExpandedLaws.{load}
+use Rattle.hs_macros.specs.Loads.{load}
 use Rattle.hs_macros.specs.Stacks.{done, waiting}
 use Rattle.hs_macros.specs.Levels.{call_outcome}
 use Rattle.hs_macros.proofs.expansion.proceed.Given as goal
@@ -14,5 +14,6 @@ invariant-arguments l = record {
   waits : l.calls.items ≡ l.initial.calls.items;
 }
 
+-- each turn takes one of the arguments that wait
 abbrev pub decreases-arguments : goal.decreases-arguments
 decreases-arguments l = length l.call.waiting.items

@@ -9,5 +9,6 @@ invariant-steps l =
     with_sources l.sources.items (replaced_by (resumed l.macros l.calls.items (level_outcome l.macros l.level)))
     ≡ replaced l.macros l.fn.left l.run
 
+-- each step leaves less to do
 abbrev pub decreases-steps : goal.decreases-steps
 decreases-steps l = weights l.calls.items + weight l.level

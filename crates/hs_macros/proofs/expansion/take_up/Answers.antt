@@ -5,6 +5,6 @@ use Rattle.hs_macros.proofs.expansion.take_up.Goals as goal
 -- the argument is ready
 pub returns-clause-step : goal.returns-clause-step
 returns-clause-step c macros =
-    step_of _ _ _ _ (ends macros c.args.calls.now.items (c.args.calls.now.items ++ c.args.suspended ∷ []) c.args.suspended.before c.args.level.before c.args.suspended.call c.push.new.self
-    c.args.suspended.parameter c.args.level.left refl c.in_ok-push.ensures.items
+    step_of _ _ _ _ (ends macros c.args.calls.now.items (c.args.calls.now.items ++ c.args.suspended ∷ []) c.args.suspended.before c.args.level.before
+    c.args.suspended.call c.push.new.self c.args.suspended.parameter c.args.level.left refl c.in_ok-push.ensures.items
     ∙ level_done macros (c.args.calls.now.items ++ c.args.suspended ∷ []) c.args.level c.requires) (c.proceed.ensures.step macros)

@@ -6,5 +6,6 @@ use Rattle.hs_macros.proofs.hide_set.HideSet.union.Given as goal
 abbrev pub invariant-rows : goal.invariant-rows
 invariant-rows l = FindsEither l.names.items l.own l.others l.self l.other
 
+-- each turn takes a name from one of the rows
 abbrev pub decreases-rows : goal.decreases-rows
 decreases-rows l = length l.own + length l.others

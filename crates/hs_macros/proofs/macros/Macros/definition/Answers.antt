@@ -1,9 +1,9 @@
--- What is lent is the definition that the map has.
 use Rattle.std.proofs.Common.{ap, sym, ◌∙◌}
 use Rattle.std.specs.FinMap as map
 use Rattle.hs_macros.proofs.Entries.{get-as_map}
 use Rattle.hs_macros.proofs.macros.Macros.definition.Goals as goal
 
+-- what is lent is the definition that the map has
 pub returns : goal.returns
 returns c =
     c.get.ensures.value

@@ -1,9 +1,9 @@
--- The entries took the copy of what the line defines, at the copy of its name.
 use Rattle.std.proofs.Common.{◌≡◌, rules}
 use Rattle.hs_macros.specs.Lines.{named}
 use Rattle.hs_macros.proofs.Entries.{as_map-inserted}
 use Rattle.hs_macros.proofs.macros.Macros.insert.Goals as goal
 
+-- the entries took the copy of what the line defines, at the copy of its name
 pub returns-clause-inserted : goal.returns-clause-inserted
 returns-clause-inserted c =
     let name : c.in_ok-name.name.items ≡ c.args.line.now.name.now = search rules in

@@ -1,9 +1,9 @@
--- The name has a definition where the map has one.
 use Rattle.std.proofs.Common.{is_some, ap, sym, ◌∙◌}
 use Rattle.std.specs.FinMap as map
 use Rattle.hs_macros.proofs.Entries.{get-as_map}
 use Rattle.hs_macros.proofs.macros.Macros.is_defined.Goals as goal
 
+-- the name has a definition where the map has one
 pub returns : goal.returns
 returns c =
     c.contains_key.ensures

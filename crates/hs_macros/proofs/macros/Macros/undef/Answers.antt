@@ -1,9 +1,9 @@
--- The entries lost the name, and no other.
 use Rattle.std.proofs.Common.{ap, ◌∙◌}
 use Rattle.std.specs.FinMap as map
 use Rattle.hs_macros.proofs.Entries.{as_map-removed}
 use Rattle.hs_macros.proofs.macros.Macros.undef.Goals as goal
 
+-- the entries lost the name, and no other
 pub returns : goal.returns
 returns c =
     let updates = c.swap_remove.ensures.updates in
