@@ -1,9 +1,9 @@
 -- Units, one after another, over the listings that have the files that were read.
-use Rattle.std.proofs.Common.{◌≡◌, ℕ, List, [], ◌∷◌, ◌++◌, map, zip, Option, Some, None, IfSome, Result, Ok, Err, refl, sym, ap, subst, ◌∙◌, append_assoc}
+use Rattle.std.proofs.Common.{◌≡◌, ℕ, List, [], ◌∷◌, ◌++◌, map, zip, Option, Some, None, IfSome, Result, Ok, Err, IsErr, IsErrAnd, refl, sym, ap, subst, ◌∙◌, append_assoc, inl, inr}
 use Rattle.hs_base.specs.Files.{Listing, Counts, NeverFall}
 use Rattle.hs_directives.specs.Pieces.{pieces}
 use Rattle.hs_directives.specs.States.{and_then, found_file}
-use Rattle.hs_directives.specs.Readings.{Agrees, listing_of, Grows, IsReading, found_of, unit_by, units_by, own_listing, IsPreprocessed}
+use Rattle.hs_directives.specs.Readings.{Agrees, listing_of, Grows, IsCaused, IsSought, Seeks, IsReading, found_of, unit_by, units_by, own_listing, AreListed, IsUnread, IsCausedBy, IsPreprocessed}
 use Rattle.hs_directives.specs.Preprocessing.{entered, walked, most_levels, fresh, unit_read, unit_of, UnitRead, Units, with_unit, units_of, start, source_of, source_by, preprocessed}
 use Rattle.hs_directives.specs.declared.source.Source.{Source}
 use Rattle.hs_directives.specs.declared.state.File.{File}
@@ -12,8 +12,10 @@ use Rattle.hs_directives.specs.declared.state.Progress.{Progress}
 use Rattle.hs_directives.specs.declared.state.UnitSoFar.{UnitSoFar}
 use Rattle.hs_directives.specs.declared.state.State.{State}
 use Rattle.hs_directives.specs.declared.unit.TranslationUnit.{TranslationUnit}
-use Rattle.hs_directives.proofs.Walking.{Reached, reached_as, reached_none, reached_on, reading_told}
+use Rattle.hs_directives.proofs.Walking.{Reached, reached_as, reached_none, reached_on, refused_on, reading_told}
+use Rattle.hs_directives.specs.Outcomes.{IsRefusal}
 use Rattle.hs_directives.specs.declared.error.ReadError.{ReadError}
+use Rattle.hs_directives.specs.declared.error.ReadError.TheVariants.{Scan, Macro, BadDirective, OpenIf, IncludeDepth, BadCondition, Missing, ReadFault, Limit, NoMemory}
 
 -- a root file that was found and walked
 pub unit_reached : (told told' : Option Listing) (before mid now : Counts) (name : List ℕ) (progress progress' : Progress) (known : Known) (unit unit' : UnitSoFar) (state : State)
@@ -108,3 +110,93 @@ preprocessed_by told before now names first progress units source begun grows ex
 
   own : own_listing source ≡ listing_of progress.files
   own = ap own_listing made ∙ zip_files progress.files
+
+-- a root file whose walk is refused
+pub unit_refused : (told told' : Option Listing) (before mid now : Counts) (name : List ℕ) (progress progress' : Progress) (known : Known) (unit : UnitSoFar) (state : State) (error : ReadError)
+    → unit ≡ fresh → told' ≡ told
+    → NeverFall before mid → IsReading {A = Known} told before mid progress.files progress'.files (found_of progress') (λ listing. found_file listing name progress) (Ok known)
+    → NeverFall mid now
+    → IsReading {A = Unit {0}} told' mid now progress'.files state.progress.files (λ _. state)
+    (λ listing. walked (entered most_levels listing) None (pieces known.tokens) [] (record { progress = progress'; unit = unit })) (Err error)
+    → IsReading {A = TranslationUnit} told before now progress.files state.progress.files (unit_by state.progress) (λ listing. unit_of listing name progress) (Err error)
+unit_refused told told' before mid now name progress progress' known unit state error new same up found up' walk =
+    let outcome : Listing → Result UnitRead ReadError = λ listing. unit_of listing name progress in
+    let first = reached_on {A = Known} told before before mid progress.files progress.files progress'.files outcome (found_of progress')
+    (λ listing. found_file listing name progress)
+    (λ listing it. and_then (walked (entered most_levels listing) None (pieces it.tokens) [] (record { progress = it.progress; unit = fresh })) (λ state'. Ok (unit_read it.number state')))
+    known (reached_none told before progress.files outcome) up found in
+    let walk' = subst (λ unit''. IsReading {A = Unit {0}} told mid now progress'.files state.progress.files (λ _. state)
+    (λ listing. walked (entered most_levels listing) None (pieces known.tokens) [] (record { progress = progress'; unit = unit'' })) (Err error)) new
+    (reading_told {A = Unit {0}} told' told mid now progress'.files state.progress.files (λ _. state)
+    (λ listing. walked (entered most_levels listing) None (pieces known.tokens) [] (record { progress = progress'; unit = unit })) (Err error) same walk) in
+    refused_on {A = Unit {0}} {D = TranslationUnit} told before mid now progress.files progress'.files state.progress.files outcome (λ _. state) (unit_by state.progress)
+    (λ listing. walked (entered most_levels listing) None (pieces known.tokens) [] (record { progress = progress'; unit = fresh }))
+    (λ listing state'. Ok (unit_read known.number state')) error first up' walk'
+
+-- a unit that is refused
+pub units_refused : {D : Type 0} (told told' : Option Listing) (before mid now : Counts) (old : List File) (outcome : Listing → Result Units ReadError) (view : D → Units)
+    (name name' : List ℕ) (all names : List (List ℕ)) (progress progress' : Progress) (units : List TranslationUnit) (error : ReadError)
+    → Reached told before mid old progress.files outcome (λ listing. and_then (units_of listing all progress) (λ later. Ok (units_after units later)))
+    → all ≡ name ∷ names → name' ≡ name → told' ≡ told → NeverFall mid now
+    → IsReading {A = TranslationUnit} told' mid now progress.files progress'.files (unit_by progress') (λ listing. unit_of listing name' progress) (Err error)
+    → IsReading told before now old progress'.files view outcome (Err error)
+units_refused told told' before mid now old outcome view name name' all names progress progress' units error reached next named same up reading =
+    let next' = reached_as told before mid old progress.files outcome _
+    (λ listing. and_then (unit_of listing name progress) (λ it. and_then (units_of listing names it.progress) (λ later. Ok (units_after (units ++ it.unit ∷ []) later))))
+    reached (λ listing. ap (λ (all' : List (List ℕ)). and_then (units_of listing all' progress) (λ later. Ok (units_after units later))) next
+    ∙ units_next listing name names progress units) in
+    let reading' = subst (λ name''. IsReading {A = TranslationUnit} told mid now progress.files progress'.files (unit_by progress') (λ listing. unit_of listing name'' progress) (Err error)) named
+    (reading_told {A = TranslationUnit} told' told mid now progress.files progress'.files (unit_by progress') (λ listing. unit_of listing name' progress) (Err error) same reading) in
+    refused_on {A = TranslationUnit} told before mid now old progress.files progress'.files outcome (unit_by progress') view (λ listing. unit_of listing name progress)
+    (λ listing it. and_then (units_of listing names it.progress) (λ later. Ok (units_after (units ++ it.unit ∷ []) later))) error next' up reading'
+
+-- files with which a listing agrees are listed
+are_listed : (listing : Listing) (files : List File) → Agrees listing files → AreListed listing (listing_of files)
+are_listed listing [] agrees = tt
+are_listed listing (file ∷ files) agrees = (agrees.0, are_listed listing files agrees.1)
+
+told_listed : (told : Option Listing) (files : List File) → Grows told [] files → IfSome told (λ listing. AreListed listing (listing_of files))
+told_listed None files grows = tt
+told_listed (Some listing) files grows = are_listed listing files (grows.told_agrees listing refl tt)
+
+-- a file that is sought by the units is not there
+unread_by : (told : Option Listing) (names : List (List ℕ)) (files : List File) (name : List ℕ)
+    → IsSought told [] files (λ listing. units_of listing names start) name → IsUnread told names name
+unread_by told names files name seeks = (
+  listing_of files,
+  told_listed told files seeks.grows,
+  ap source_by (seeks.sought (listing_of files) (seeks.grows.own_agrees tt) seeks.unknown),
+)
+
+caused_by : (told : Option Listing) (before now : Counts) (names : List (List ℕ)) (files : List File) (error : ReadError)
+    → IsCaused before now error → Seeks told [] files (λ listing. units_of listing names start) error → IsCausedBy told before now names error
+caused_by told before now names files (Missing name) caused seeks = (caused, unread_by told names files name seeks)
+caused_by told before now names files (ReadFault name) caused seeks = (caused, unread_by told names files name seeks)
+caused_by told before now names files (Scan kind pos) caused seeks = tt
+caused_by told before now names files (Macro kind pos) caused seeks = tt
+caused_by told before now names files (BadDirective pos) caused seeks = tt
+caused_by told before now names files (OpenIf pos) caused seeks = tt
+caused_by told before now names files (IncludeDepth pos) caused seeks = tt
+caused_by told before now names files (BadCondition pos) caused seeks = tt
+caused_by told before now names files (Limit limit) caused seeks = tt
+caused_by told before now names files NoMemory caused seeks = tt
+
+-- all units, refused
+refused_by : (told : Option Listing) (before now : Counts) (names : List (List ℕ)) (files : List File) (view : List TranslationUnit → Units) (error : ReadError)
+    → IsReading told before now [] files view (λ listing. units_of listing names start) (Err error) → IsPreprocessed told before now names (Err error)
+refused_by None before now names files view error reading = (caused_by None before now names files error reading.0 reading.1, tt)
+refused_by (Some listing) before now names files view error reading =
+    (caused_by (Some listing) before now names files error reading.0 reading.1, λ steady. refusal (reading.2 listing refl steady tt)) where
+      refusal : IsRefusal (units_of listing names start) error → IsRefusal (preprocessed listing names) error
+      refusal (inl want) = inl want
+      refusal (inr refused) = inr (ap source_by refused)
+
+pub preprocessed_refused : (told : Option Listing) (before now : Counts) (names : List (List ℕ)) (first progress : Progress) (result : Result Source ReadError) (error : ReadError)
+    → first ≡ start → IsErr result × IsErrAnd result (λ error'. error' ≡ error)
+    → IsReading {A = List TranslationUnit} told before now first.files progress.files (units_by progress) (λ listing. units_of listing names first) (Err error)
+    → IsPreprocessed told before now names result
+preprocessed_refused told before now names first progress (Ok source) error begun is reading = absurd cc
+preprocessed_refused told before now names first progress (Err error') error begun is reading =
+    subst (λ error''. IsPreprocessed told before now names (Err error'')) (sym is.1)
+    (refused_by told before now names progress.files (units_by progress) error
+    (subst (λ first'. IsReading {A = List TranslationUnit} told before now first'.files progress.files (units_by progress) (λ listing. units_of listing names first') (Err error)) begun reading))

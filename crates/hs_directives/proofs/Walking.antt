@@ -1,5 +1,5 @@
 -- The pieces of a file, one after another, over the listings that have the files that were read.
-use Rattle.std.proofs.Common.{◌≡◌, ℕ, ◌≤◌, ◌-◌, zero, suc, Bool, true, List, drop, [], ◌∷◌, ◌++◌, Option, Some, Result, Ok, Err, IsErr, IsErrAnd, refl, sym, ap, subst, ◌∙◌, inl, inr, arith, append_assoc, append-nil}
+use Rattle.std.proofs.Common.{◌≡◌, ℕ, ◌≤◌, ◌-◌, zero, suc, Bool, true, List, drop, [], ◌∷◌, ◌++◌, Option, Some, Result, Ok, Err, refl, sym, ap, subst, ◌∙◌, inl, inr, arith, append_assoc}
 use Rattle.std.specs.Prelude.{if◌then◌else◌}
 use native.Mathlib.Numerals.{unary_clauses}
 use Rattle.hs_base.specs.Files.{Listing, Counts, NeverFall}
@@ -15,7 +15,7 @@ use Rattle.hs_directives.specs.Sections.{is_active}
 use Rattle.hs_directives.specs.Includes.{include_name, Named}
 use Rattle.hs_directives.specs.declared.keyword.Keyword.{Keyword}
 use Rattle.hs_directives.specs.declared.keyword.Keyword.TheVariants.{Include}
-use Rattle.hs_directives.specs.Readings.{Agrees, Grows, IsCaused, IsReading, entry_of, entry_by, entry, entered_by}
+use Rattle.hs_directives.specs.Readings.{Agrees, Grows, IsCaused, IsSought, Seeks, IsReading, entry_of, entry_by, entry, entered_by}
 use Rattle.hs_directives.specs.States.{and_then, Found, found_file}
 use Rattle.hs_directives.specs.Directives.{Turn, with_sections, with_left, place_of}
 use Rattle.hs_directives.specs.Preprocessing.{included_file, include_named, reached_done, run_done, directive_done, walked, entered}
@@ -25,7 +25,7 @@ use Rattle.hs_directives.specs.declared.error.ReadError.TheVariants.{Scan, Macro
 use Rattle.hs_directives.specs.declared.section.Section.{Section}
 use Rattle.hs_directives.specs.declared.state.File.{File}
 use Rattle.hs_directives.specs.declared.state.State.{State}
-use Rattle.hs_directives.proofs.Reading.{caused_none, Agrees-front}
+use Rattle.hs_directives.proofs.Reading.{caused_none, seeks_none, grows_none, Agrees-front}
 
 -- the same sections, where a state is given
 pub gives_with_sections : (sections : List Section) (state : State) (outcome : Result State ReadError) (result : Result Unit ReadError)
@@ -33,15 +33,6 @@ pub gives_with_sections : (sections : List Section) (state : State) (outcome : R
 gives_with_sections sections state outcome (Ok _) gives = ap (with_sections sections) gives
 gives_with_sections sections state outcome (Err error) (inl want, none) = (inl want, none)
 gives_with_sections sections state outcome (Err error) (inr is, none) = (inr (ap (with_sections sections) is), none)
-
--- nothing more was read
-grows_none : (told : Option Listing) (files : List File) → Grows told files files
-grows_none told files = record {
-  more = [];
-  longer = sym (append-nil files);
-  told_agrees = λ listing is agrees. agrees;
-  own_agrees = λ own. own;
-}
 
 -- more, and more again
 pub grows_on : (told : Option Listing) (old mid new : List File) → Grows told old mid → Grows told mid new → Grows told old new
@@ -110,17 +101,46 @@ reached_on told before mid now old between new outcome view first next value rea
       ∙ ap (λ done. and_then done (next listing)) (reading.1 listing agrees);
 }
 
+-- what is sought then is sought by all
+sought_on : {C B : Type 0} (told : Option Listing) (before mid : Counts) (old between new : List File) (outcome : Listing → Result B ReadError)
+    (first : Listing → Result C ReadError) (next : Listing → C → Result B ReadError) (name : List ℕ)
+    → Reached told before mid old between outcome (λ listing. and_then (first listing) (next listing))
+    → IsSought told between new first name → IsSought told old new outcome name
+sought_on told before mid old between new outcome first next name reached seeks = record {
+  grows = grows_on told old between new reached.grows seeks.grows;
+  unknown = seeks.unknown;
+  sought = λ listing agrees missing.
+      reached.same listing (Agrees-front listing between seeks.grows.more (subst (Agrees listing) seeks.grows.longer agrees))
+      ∙ ap (λ done. and_then done (next listing)) (seeks.sought listing agrees missing);
+}
+
+seeks_on : {C B : Type 0} (told : Option Listing) (before mid : Counts) (old between new : List File) (outcome : Listing → Result B ReadError)
+    (first : Listing → Result C ReadError) (next : Listing → C → Result B ReadError) (error : ReadError)
+    → Reached told before mid old between outcome (λ listing. and_then (first listing) (next listing))
+    → Seeks told between new first error → Seeks told old new outcome error
+seeks_on told before mid old between new outcome first next (Missing name) reached seeks = sought_on told before mid old between new outcome first next name reached seeks
+seeks_on told before mid old between new outcome first next (ReadFault name) reached seeks = sought_on told before mid old between new outcome first next name reached seeks
+seeks_on told before mid old between new outcome first next (Scan kind pos) reached seeks = tt
+seeks_on told before mid old between new outcome first next (Macro kind pos) reached seeks = tt
+seeks_on told before mid old between new outcome first next (BadDirective pos) reached seeks = tt
+seeks_on told before mid old between new outcome first next (OpenIf pos) reached seeks = tt
+seeks_on told before mid old between new outcome first next (IncludeDepth pos) reached seeks = tt
+seeks_on told before mid old between new outcome first next (BadCondition pos) reached seeks = tt
+seeks_on told before mid old between new outcome first next (Limit limit) reached seeks = tt
+seeks_on told before mid old between new outcome first next NoMemory reached seeks = tt
+
 -- one that is refused
-pub refused_on : {A C B D : Type 0} (told : Option Listing) (before mid now : Counts) (old between new new' : List File)
+pub refused_on : {A C B D : Type 0} (told : Option Listing) (before mid now : Counts) (old between new : List File)
     (outcome : Listing → Result B ReadError) (view : A → C) (view' : D → B) (first : Listing → Result C ReadError) (next : Listing → C → Result B ReadError) (error : ReadError)
     → Reached told before mid old between outcome (λ listing. and_then (first listing) (next listing)) → NeverFall mid now
     → IsReading told mid now between new view first (Err error)
-    → IsReading told before now old new' view' outcome (Err error)
-refused_on told before mid now old between new new' outcome view view' first next error reached up reading = (
+    → IsReading told before now old new view' outcome (Err error)
+refused_on told before mid now old between new outcome view view' first next error reached up reading = (
   caused_later before mid now reached.never_fall up error reading.0,
+  seeks_on told before mid old between new outcome first next error reached reading.1,
   λ listing is steady agrees.
       let agrees' = reached.grows.told_agrees listing is agrees in
-      refusal listing (reached.same listing agrees') (reading.1 listing is (steady_later before.faults mid.faults now.faults reached.never_fall.faults up.faults steady) agrees'),
+      refusal listing (reached.same listing agrees') (reading.2 listing is (steady_later before.faults mid.faults now.faults reached.never_fall.faults up.faults steady) agrees'),
 ) where
   refusal : (listing : Listing) → outcome listing ≡ and_then (first listing) (next listing) → IsRefusal (first listing) error → IsRefusal (outcome listing) error
   refusal listing is (inl want) = inl want
@@ -134,6 +154,7 @@ pub refused_given : {A C B D : Type 0} (told : Option Listing) (before now : Cou
     → IsReading told before now old new' view' outcome (Err error)
 refused_given told before now old new new' outcome view view' first next error reached none gives = (
   caused_none before now error none,
+  seeks_none told old new' outcome error none,
   λ listing is steady agrees. refusal listing (reached.same listing (reached.grows.told_agrees listing is agrees)) (gives listing),
 ) where
   refusal : (listing : Listing) → outcome listing ≡ and_then (first listing) (next listing) → IsRefusal (first listing) error → IsRefusal (outcome listing) error
@@ -267,7 +288,7 @@ pub walk_entry_refused : (told : Option Listing) (before mid now : Counts) (old 
     → IsReading {A = List Token} told mid now new new' (entered_by last) (λ listing. entry levels listing it.0.now it.1.now state) (Err error)
     → IsReading {A = Unit {0}} told before now old new' (λ _. last) outcome (Err error)
 walk_entry_refused told before mid now old new new' outcome last levels outer part it rest behind sections state error reached first is up reading =
-    refused_on {A = List Token} {D = Unit {0}} told before mid now old new new' new' outcome (entered_by last) (λ _. last)
+    refused_on {A = List Token} {D = Unit {0}} told before mid now old new new' outcome (entered_by last) (λ _. last)
     (λ listing. entry levels listing it.0.now it.1.now state) _ error
     (reached_inclusion told before mid old new outcome levels outer part it rest behind sections state reached first is) up reading
 
@@ -292,7 +313,7 @@ pub walk_inner_refused : (told : Option Listing) (before mid now : Counts) (old 
     → IsReading {A = Unit {0}} told mid now new new' (λ _. last) inner (Err error)
     → IsReading {A = Unit {0}} told before now old new' (λ _. last) outcome (Err error)
 walk_inner_refused told before mid now old new new' outcome last inner levels outer behind sections error reached up reading =
-    refused_on {A = Unit {0}} {D = Unit {0}} told before mid now old new new' new' outcome (λ _. last) (λ _. last) inner
+    refused_on {A = Unit {0}} {D = Unit {0}} told before mid now old new new' outcome (λ _. last) (λ _. last) inner
     (λ listing state. walk_of levels outer behind sections state listing) error reached up reading
 
 -- or walked
@@ -304,14 +325,6 @@ pub walk_inner : (told : Option Listing) (before mid now : Counts) (old new new'
 walk_inner told before mid now old new new' outcome last inner levels outer behind sections reached up reading =
     reached_on {A = Unit {0}} told before mid now old new new' outcome (λ _. last) inner
     (λ listing state. walk_of levels outer behind sections state listing) tt reached up reading
-
--- a refusal that is handed on
-pub handed_on : {A B : Type 0} (told : Option Listing) (before now : Counts) (old new : List File) (view : A → B) (outcome : Listing → Result B ReadError) (result : Result A ReadError) (error : ReadError)
-    → IsErr result × IsErrAnd result (λ error'. error' ≡ error)
-    → IsReading told before now old new view outcome (Err error) → IsReading told before now old new view outcome result
-handed_on told before now old new view outcome (Ok value) error is reading = absurd cc
-handed_on told before now old new view outcome (Err error') error is reading =
-    subst (λ error''. IsReading told before now old new view outcome (Err error'')) (sym is.1) reading
 
 -- of the same listing
 pub reading_told : {A B : Type 0} (told told' : Option Listing) (before now : Counts) (old new : List File) (view : A → B) (outcome : Listing → Result B ReadError) (result : Result A ReadError)

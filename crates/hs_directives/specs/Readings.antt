@@ -3,6 +3,7 @@
 --     listing_of files           the files, as a listing
 --     Grows told old new         more files were read: those of the listing, where one is told
 --     IsCaused before now error  a miss or a fault was counted where the error says so
+--     Seeks ..                   the file that a refusal names is the next one that the definition reads
 --     IsReading ..               what each result says
 --     IsText ..                  what a read of a text says
 --     entry levels listing ..    the file of an `#include`, and the state behind it
@@ -54,13 +55,25 @@ IsCaused before now (Missing name) = HasRisen before.misses now.misses
 IsCaused before now (ReadFault name) = HasRisen before.faults now.faults
 IsCaused before now _ = Unit {0}
 
+-- a file of that name is sought, once the files are read: where it is not listed, it is missing
+pub record IsSought {B : Type 0} (told : Option Listing) (old new : List File) (outcome : Listing → Result B ReadError) (name : List ℕ) : Type 0 where
+  pub grows : Grows told old new
+  pub unknown : file_of (listing_of new) name ≡ None
+  pub sought : (listing : Listing) → Agrees listing new → file_of listing name ≡ None → outcome listing ≡ Err (Missing name)
+
+-- a refusal that names a file names the one that is sought
+abbrev pub Seeks : {B : Type 0} → Option Listing → List File → List File → (Listing → Result B ReadError) → ReadError → Type 0
+Seeks told old new outcome (Missing name) = IsSought told old new outcome name
+Seeks told old new outcome (ReadFault name) = IsSought told old new outcome name
+Seeks told old new outcome _ = Unit {0}
+
 -- A result that was returned, of a definition over listings: it is that of any listing that has the files that were read. A
 -- refusal is that of the listing that is told, where no fault was counted.
 abbrev pub IsReading : {A B : Type 0} → Option Listing → Counts → Counts → List File → List File → (A → B) → (Listing → Result B ReadError) → Result A ReadError → Type 0
 IsReading told before now old new view outcome (Ok value) =
     Grows told old new × ((listing : Listing) → Agrees listing new → outcome listing ≡ Ok (view value))
 IsReading told before now old new view outcome (Err error) =
-    IsCaused before now error
+    IsCaused before now error × Seeks told old new outcome error
     × ((listing : Listing) → told ≡ Some listing → IsSteady before.faults now.faults → Agrees listing old → IsRefusal (outcome listing) error)
 
 -- the bytes of a named file, where it is listed and has not too many
@@ -68,11 +81,17 @@ abbrev pub text_of_listed : List ℕ → Option (List ℕ) → Result (List ℕ)
 text_of_listed name None = Err (Missing name)
 text_of_listed name (Some text) = if nat_lt (number_of FileBytes) (length text) then Err (passed FileBytes) else Ok text
 
+-- a refusal that names a file names this one
+abbrev pub IsNamed : List ℕ → ReadError → Type 0
+IsNamed name (Missing missing) = missing ≡ name
+IsNamed name (ReadFault unread) = unread ≡ name
+IsNamed name _ = Unit {0}
+
 -- what a read of a text says
 abbrev pub IsText : Option Listing → List ℕ → Counts → Counts → Result (List ℕ) ReadError → Type 0
 IsText told name before now (Ok text) = (length text ≤ number_of FileBytes) × IfSome told (λ listing. file_of listing name ≡ Some text)
 IsText told name before now (Err error) =
-    IsCaused before now error
+    IsCaused before now error × IsNamed name error
     × ((listing : Listing) → told ≡ Some listing → IsSteady before.faults now.faults → IsRefusal (text_of_listed name (file_of listing name)) error)
 
 -- a file that is known, in what reading has come to
@@ -131,6 +150,21 @@ units_by progress units = record { units = units; progress = progress }
 abbrev pub own_listing : Source → Listing
 own_listing source = zip source.names source.texts
 
+-- each of these files is listed
+abbrev pub AreListed : Listing → Listing → Type 0
+AreListed listing [] = Unit {0}
+AreListed listing (file ∷ files) = (file_of listing file.0 ≡ Some file.1) × AreListed listing files
+
+-- some files, of the listing where one is told, of which alone the definition says that one of this name is missing
+abbrev pub IsUnread : Option Listing → List (List ℕ) → List ℕ → Type 0
+IsUnread told names name = (files : Listing) × IfSome told (λ listing. AreListed listing files) × (preprocessed files names ≡ Err (Missing name))
+
+-- a refusal that names a file names one that is sought, and the count of its cause rose
+abbrev pub IsCausedBy : Option Listing → Counts → Counts → List (List ℕ) → ReadError → Type 0
+IsCausedBy told before now names (Missing name) = HasRisen before.misses now.misses × IsUnread told names name
+IsCausedBy told before now names (ReadFault name) = HasRisen before.faults now.faults × IsUnread told names name
+IsCausedBy told before now names _ = Unit {0}
+
 -- What a reader of sources answers, of the listing where it is told, and of the source's own files in any case.
 --     a source is the definition's
 --     a refusal is the definition's, or want of memory, where no fault was counted
@@ -138,5 +172,5 @@ abbrev pub IsPreprocessed : Option Listing → Counts → Counts → List (List 
 IsPreprocessed told before now names (Ok source) =
     IfSome told (λ listing. preprocessed listing names ≡ Ok source) × (preprocessed (own_listing source) names ≡ Ok source)
 IsPreprocessed told before now names (Err error) =
-    IsCaused before now error
+    IsCausedBy told before now names error
     × IfSome told (λ listing. IsSteady before.faults now.faults → IsRefusal (preprocessed listing names) error)

@@ -1,7 +1,11 @@
-use Rattle.std.proofs.Common.{map, ap, ◌∙◌}
+use Rattle.std.specs.declared.alloc.Global.{Global}
+use Rattle.hs_directives.specs.declared.unit.TranslationUnit.{TranslationUnit}
+use Rattle.std.proofs.Common.{Vec, map, ap, ◌∙◌}
 use Rattle.std.specs.String.{string_bytes}
 use Rattle.hs_directives.specs.Preprocessing.{units_of}
-use Rattle.hs_directives.proofs.Units.{units_step}
+use Rattle.hs_directives.specs.Readings.{units_by}
+use Rattle.hs_directives.proofs.Reading.{handed_on}
+use Rattle.hs_directives.proofs.Units.{units_step, units_refused}
 use Rattle.hs_directives.proofs.sources.units_of.Goals as goal
 
 -- one more unit
@@ -15,3 +19,17 @@ roots-preserved g c = (
       c.in_ok-unit_of.field-0 c.roots.units.items c.push.new.self.items c.roots.invariant.2 (ap (map string_bytes) c.in-Some.ensures.cases.0)
       c.as_str.ensures.value c.in_ok-push.ensures.items c.roots.invariant.0 c.in_ok-unit_of.ensures.counts_stay_up c.in_ok-unit_of.ensures.means,
 )
+
+-- a unit that is refused
+pub returns-in_err-unit_of-clause-means : goal.returns-in_err-unit_of-clause-means
+returns-in_err-unit_of-clause-means g c =
+    handed_on (g.F.Files.listing c.args.files.now) (g.F.Files.counts c.args.files.now) (g.F.Files.counts c.unit_of.new.files)
+    c.args.state.now.progress.files c.unit_of.new.state.progress.files (λ (units : Vec TranslationUnit Global). units_by c.unit_of.new.state.progress units.items)
+    (λ listing. units_of listing (map string_bytes c.args.roots.now) c.args.state.now.progress)
+    c.from_residual.result c.in_err-unit_of.field-0.0 c.from_residual.ensures
+    (units_refused (g.F.Files.listing c.args.files.now) (g.F.Files.listing c.roots.files) (g.F.Files.counts c.args.files.now) (g.F.Files.counts c.roots.files)
+    (g.F.Files.counts c.unit_of.new.files) c.args.state.now.progress.files (λ listing. units_of listing (map string_bytes c.args.roots.now) c.args.state.now.progress)
+    (λ (units : Vec TranslationUnit Global). units_by c.unit_of.new.state.progress units.items)
+    (string_bytes c.in-Some.root.now) c.as_str.result.now (map string_bytes c.roots.rest.now) (map string_bytes c.in-Some.behind.now) c.roots.state.progress c.unit_of.new.state.progress
+    c.roots.units.items c.in_err-unit_of.field-0.0 c.roots.invariant.2 (ap (map string_bytes) c.in-Some.ensures.cases.0)
+    c.as_str.ensures.value c.roots.invariant.0 c.in_err-unit_of.ensures.counts_stay_up c.in_err-unit_of.ensures.means)

@@ -1,4 +1,7 @@
-use Rattle.hs_directives.proofs.Units.{unit_reached}
+use Rattle.hs_directives.specs.Preprocessing.{unit_of}
+use Rattle.hs_directives.specs.Readings.{unit_by}
+use Rattle.hs_directives.proofs.Reading.{handed_on}
+use Rattle.hs_directives.proofs.Units.{unit_reached, unit_refused}
 use Rattle.hs_directives.proofs.unit.unit_of.Goals as goal
 
 -- the root file was walked
@@ -8,3 +11,15 @@ returns-clause-means g c =
     (g.F.Files.counts c.found_file.new.files) (g.F.Files.counts c.walk.new.files) c.args.name.now c.args.state.now.progress c.found_file.new.progress
     c.in_ok-known.known c.args.state.now.unit c.replace-unit.result c.walk.new.state c.requires c.in_ok-known.ensures.listing_stays
     c.replace-unit.ensures.value c.in_ok-known.ensures.counts_stay_up c.in_ok-known.ensures.means c.in_ok-walk.ensures.counts_stay_up c.in_ok-walk.ensures.means
+
+-- or its walk is refused
+pub returns-in_err-walk-clause-means : goal.returns-in_err-walk-clause-means
+returns-in_err-walk-clause-means g c =
+    handed_on (g.F.Files.listing c.args.files.now) (g.F.Files.counts c.args.files.now) (g.F.Files.counts c.walk.new.files)
+    c.args.state.now.progress.files c.walk.new.state.progress.files (unit_by c.walk.new.state.progress)
+    (λ listing. unit_of listing c.args.name.now c.args.state.now.progress)
+    c.from_residual-in_err-walk.result c.in_err-walk.field-0.0 c.from_residual-in_err-walk.ensures
+    (unit_refused (g.F.Files.listing c.args.files.now) (g.F.Files.listing c.found_file.new.files) (g.F.Files.counts c.args.files.now)
+    (g.F.Files.counts c.found_file.new.files) (g.F.Files.counts c.walk.new.files) c.args.name.now c.args.state.now.progress c.found_file.new.progress
+    c.in_ok-known.known c.args.state.now.unit c.walk.new.state c.in_err-walk.field-0.0 c.requires c.in_ok-known.ensures.listing_stays
+    c.in_ok-known.ensures.counts_stay_up c.in_ok-known.ensures.means c.in_err-walk.ensures.counts_stay_up c.in_err-walk.ensures.means)

@@ -1,6 +1,7 @@
 use Rattle.std.proofs.Common.{Some, Ok, Err, [], ◌-◌, ◌∙◌}
 use Rattle.hs_directives.specs.Readings.{entry, entered_by}
-use Rattle.hs_directives.proofs.Walking.{walk_of, handed_on, reading_told, walk_piece, walk_piece_refused, walk_entry, walk_entry_refused, walk_inner, walk_inner_refused}
+use Rattle.hs_directives.proofs.Reading.{handed_on}
+use Rattle.hs_directives.proofs.Walking.{walk_of, reading_told, walk_piece, walk_piece_refused, walk_entry, walk_entry_refused, walk_inner, walk_inner_refused}
 use Rattle.hs_directives.proofs.walk.+walk.Goals as goal
 
 -- the included file is not there
