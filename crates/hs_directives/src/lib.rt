@@ -22,6 +22,8 @@ mod sections;
 mod source;
 mod sources;
 mod state;
+#[cfg(test)]
+mod tests;
 mod text;
 mod unit;
 mod walk;

@@ -1,0 +1,648 @@
+use crate::{MacroKind, ReadError, ScanKind, Source, preprocess};
+use hs_base::{Bytes, MemFiles, Pos};
+use hs_tokens::{Origin, SourceToken};
+use std::alloc::{AllocError, Global};
+use std::test::Fail;
+
+/// Names, and the text of each.
+type Texts<'a> = &'a [(&'a str, &'a str)];
+
+/// Files in memory, whose reads of these numbers fail.
+fn files_of(alloc: Global, texts: Texts<'_>, failing: Vec<u64>) -> Result<MemFiles, AllocError> {
+    let mut listing = Vec::new(alloc);
+    for (name, text) in texts {
+        listing.push((name.to_string(alloc)?, text.as_bytes().to_vec(alloc)?))?;
+    }
+    Ok(MemFiles::new(listing, failing))
+}
+
+/// What the roots are read as.
+fn read(
+    alloc: Global,
+    files: &mut MemFiles,
+    roots: &[&str],
+) -> Result<Result<Source, ReadError>, AllocError> {
+    let mut names = Vec::new(alloc);
+    for root in roots {
+        names.push(root.to_string(alloc)?)?;
+    }
+    Ok(preprocess(alloc, files, names.as_slice()))
+}
+
+/// A place in words.
+fn place(alloc: Global, pos: Pos) -> Result<String, AllocError> {
+    let Pos { file, line, col } = pos;
+    format!(in alloc; "{file}:{line}:{col}")
+}
+
+/// The refusal of a named file in words.
+fn named(alloc: Global, kind: &str, name: &Bytes) -> Result<String, AllocError> {
+    let name = String::from_utf8_lossy(alloc, name.items())?;
+    format!(in alloc; "!{kind} {name}")
+}
+
+/// A refusal in words, behind a mark: its kind, and the place, the name or the number.
+fn refusal(alloc: Global, error: &ReadError) -> Result<String, AllocError> {
+    let (kind, pos) = match error {
+        ReadError::Scan(ScanKind::BadByte, pos) => ("BadByte", *pos),
+        ReadError::Scan(ScanKind::OpenComment, pos) => ("OpenComment", *pos),
+        ReadError::Scan(ScanKind::OpenString, pos) => ("OpenString", *pos),
+        ReadError::Macro(MacroKind::BadMacro, pos) => ("BadMacro", *pos),
+        ReadError::Macro(MacroKind::ArgCount, pos) => ("ArgCount", *pos),
+        ReadError::BadDirective(pos) => ("BadDirective", *pos),
+        ReadError::OpenIf(pos) => ("OpenIf", *pos),
+        ReadError::IncludeDepth(pos) => ("IncludeDepth", *pos),
+        ReadError::BadCondition(pos) => ("BadCondition", *pos),
+        ReadError::Missing(name) => return named(alloc, "Missing", name),
+        ReadError::ReadFault(name) => return named(alloc, "ReadFault", name),
+        ReadError::Limit(limit) => {
+            let word = limit.kind.word();
+            return format!(in alloc; "!Limit {word} {}", limit.reached);
+        }
+        ReadError::NoMemory => return "!NoMemory".to_string(alloc),
+    };
+    let pos = place(alloc, pos)?;
+    format!(in alloc; "!{kind} {pos}")
+}
+
+/// A word more, behind a space where one stands before.
+fn add(words: &mut String, word: &str) -> Result<(), AllocError> {
+    if !words.is_empty() {
+        words.push(' ')?;
+    }
+    words.push_str(word)
+}
+
+/// The units' tokens, a space between two, and a bar behind each unit but the last.
+fn spelled(alloc: Global, source: &Source) -> Result<String, AllocError> {
+    let mut words = String::new(alloc);
+    let mut later = false;
+    for unit in source.units.items() {
+        if later {
+            add(&mut words, "|")?;
+        }
+        later = true;
+        for source in unit.items() {
+            let text = String::from_utf8_lossy(alloc, source.token.text.items())?;
+            add(&mut words, text.as_str())?;
+        }
+    }
+    Ok(words)
+}
+
+/// What the roots say: their tokens, or the refusal in words.
+fn answer(alloc: Global, files: &mut MemFiles, roots: &[&str]) -> Result<String, AllocError> {
+    match read(alloc, files, roots)? {
+        Ok(source) => spelled(alloc, &source),
+        Err(error) => refusal(alloc, &error),
+    }
+}
+
+/// The same of these files.
+fn said(alloc: Global, texts: Texts<'_>, roots: &[&str]) -> Result<String, AllocError> {
+    answer(alloc, &mut files_of(alloc, texts, Vec::new(alloc))?, roots)
+}
+
+/// What the text says as the one file, `m.c`.
+fn alone(alloc: Global, text: &str) -> Result<String, AllocError> {
+    said(alloc, &[("m.c", text)], &["m.c"])
+}
+
+// X3.159-1989 3.8.1: at most one group of a section is kept, and the conditions behind it are not reached. In a group that is
+// skipped the directives count for their nesting alone. Own: so a second `#else` there is let be, and so are tokens behind `#else`
+// and `#endif`. 2.1.1.2: tokens come before directives, so the scanner looks at what is skipped.
+#[test]
+fn one_group_of_a_section_is_kept(rt: HostRuntime) -> Result<(), Fail> {
+    let alloc = rt.alloc();
+    let rows = [
+        ("", ""),
+        ("#if 1\na\n#endif\nb", "a b"),
+        ("#if 0\na\n#else\nb\n#endif", "b"),
+        ("#if 0\na\n#elif 0\nb\n#else\nc\n#endif", "c"),
+        ("#if 0\na\n#elif 1\nb\n#elif 1\nc\n#else\nd\n#endif e", "b"),
+        ("#if 1\na\n#elif 1/0\nb\n#elif\nc\n#else\nd\n#endif", "a"),
+        ("#if 1\na\n#else b\nc\n#endif d", "a"),
+        ("#ifdef X\na\n#elif 1\nb\n#endif", "b"),
+        ("#define X\n#ifdef X\na\n#endif\n#ifndef X\nb\n#endif", "a"),
+        ("#ifndef X\na\n#else\nb\n#endif", "a"),
+        ("#if 1\n#if 0\na\n#elif 1\nb\n#endif\nc\n#endif", "b c"),
+        (
+            "#if 0\n#if 1\na\n#else\nb\n#endif\nc\n#else\nd\n#endif",
+            "d",
+        ),
+        ("#if 1\n#define X 1\n#else\n#define X 2\n#endif\nX", "1"),
+        ("#if 0\n#foo\n#error\n#1\n#include\n#endif\na", "a"),
+        ("#if 0\n#define X 1\n#undef\n#endif\nX", "X"),
+        ("#if 0\n#if\n#elif\n#else\n#else\n#endif\n#endif\na", "a"),
+        ("#if 1\na\n#else\n#foo\n#if 1/0\n#endif\n#endif", "a"),
+        ("#if 0\n#if 1\n#elif 1\na\n#endif\n#elif 1\nb\n#endif", "b"),
+        ("#if 0\n#else\n#foo\n#endif", "!BadDirective 0:3:1"),
+        ("#if 0\n'\n#endif", "!OpenString 0:2:1"),
+        ("#if 0\n /*\n#endif", "!OpenComment 0:2:2"),
+    ];
+    for (text, words) in rows {
+        assert_eq!(rt; alone(alloc, text)?.as_str(), words, "{text}");
+    }
+    Ok(())
+}
+
+// X3.159-1989 3.8.1: a section has an `#if`, its `#elif`s, at most one `#else`, and its `#endif`. Own: one that is open at the
+// end is refused at the outermost, and only where nothing before is.
+#[test]
+fn a_section_has_its_form(rt: HostRuntime) -> Result<(), Fail> {
+    let alloc = rt.alloc();
+    let rows = [
+        ("#else", "!BadDirective 0:1:1"),
+        ("a\n  #elif 1", "!BadDirective 0:2:3"),
+        ("#if 1\n#endif\n #endif", "!BadDirective 0:3:2"),
+        ("#if 1\n#else\n#else\n#endif", "!BadDirective 0:3:1"),
+        ("#if 0\n#else\n#elif 1\n#endif", "!BadDirective 0:3:1"),
+        ("#if 1\n#else\n#if 1\n#endif\n#elif", "!BadDirective 0:5:1"),
+        (" #if 1", "!OpenIf 0:1:2"),
+        ("#if 1\n#endif\n #if 0\n#if 1\n", "!OpenIf 0:3:2"),
+        ("a\n#ifdef X\n#if 1\n#endif", "!OpenIf 0:2:1"),
+        ("#ifdef", "!BadDirective 0:1:1"),
+        ("#ifndef X Y\n#endif", "!BadDirective 0:1:1"),
+        ("#ifndef (X)\n#endif", "!BadDirective 0:1:1"),
+    ];
+    for (text, words) in rows {
+        assert_eq!(rt; alone(alloc, text)?.as_str(), words, "{text}");
+    }
+    Ok(())
+}
+
+// X3.159-1989 3.8: a `#` that is the first token on its line begins a directive, and its line ends it; comments are white space
+// (2.1.1.2). 3.8.4 and 3.8.6 are dropped, and 3.8.7 does nothing. Own: `#error` (3.8.5) is refused like a word that is no
+// directive's.
+#[test]
+fn a_directive_begins_its_line(rt: HostRuntime) -> Result<(), Fail> {
+    let alloc = rt.alloc();
+    let rows = [
+        ("#\n # \n#/* c */\na", "a"),
+        ("#pragma once\n#line 7 \"x.c\"\n#line\n#pragma\na", "a"),
+        ("a # b\n#/**/ define X 1\nX", "a # b 1"),
+        ("/*\n*/ # define X 1\nX", "1"),
+        ("a /*\n*/ # define X 1\nX", "a # define X 1 X"),
+        ("#define X 1 /*\n*/ 2\nX", "1 2"),
+        ("#def\\\nine X 1 \\\n 2\nX", "1 2"),
+        ("#define E\nE # define X 1\nX", "# define X 1 X"),
+        ("## define X 1\nX", "## define X 1 X"),
+        ("a\n #error", "!BadDirective 0:2:2"),
+        ("#foo", "!BadDirective 0:1:1"),
+        ("#If 1", "!BadDirective 0:1:1"),
+        ("#1", "!BadDirective 0:1:1"),
+        ("a\n #if /*", "!OpenComment 0:2:6"),
+    ];
+    for (text, words) in rows {
+        assert_eq!(rt; alone(alloc, text)?.as_str(), words, "{text}");
+    }
+    Ok(())
+}
+
+// X3.159-1989 3.8.3.5: a definition lasts until its `#undef`. Own: the tokens between two directives are a run, which is replaced
+// by itself, so an invocation that a directive cuts is open.
+#[test]
+fn a_run_is_replaced_between_directives(rt: HostRuntime) -> Result<(), Fail> {
+    let alloc = rt.alloc();
+    let rows = [
+        ("X\n#define X 1\nX\n#undef X\nX\n#define X 2\nX", "X 1 X 2"),
+        ("#undef X\nX", "X"),
+        ("#define X 1\n#define X /**/ 1\nX", "1"),
+        ("#define f(x) [x]\nf\n(1)", "[ 1 ]"),
+        ("#define f(x) [x]\nf\n#pragma\n(1)", "f ( 1 )"),
+        ("#define f(x) [x]\na f(1\n#undef f\n2)", "!ArgCount 0:2:3"),
+        ("#define f(x) [x]\nf(1)\n f(1,2)", "!ArgCount 0:3:2"),
+        ("#define f(x) x\n#if f(1\n#endif", "!ArgCount 0:2:5"),
+        ("#define f(x) x\n#include f(", "!ArgCount 0:2:10"),
+        (" #define", "!BadMacro 0:1:2"),
+        ("#define f(x,x)", "!BadMacro 0:1:1"),
+        ("#define X 1\n #define X 2", "!BadMacro 0:2:2"),
+        ("#undef X Y", "!BadDirective 0:1:1"),
+    ];
+    for (text, words) in rows {
+        assert_eq!(rt; alone(alloc, text)?.as_str(), words, "{text}");
+    }
+    Ok(())
+}
+
+// X3.159-1989 3.8.1: identifiers that are left are 0, keywords too. 3.2.1.5: a comparison of long and unsigned long is unsigned.
+// 3.3.13 to 3.3.15: an operand that is not evaluated divides nothing. Own: a `defined` that replacement puts there is 0.
+#[test]
+fn these_conditions_hold(rt: HostRuntime) -> Result<(), Fail> {
+    let alloc = rt.alloc();
+    let conditions = [
+        "-1>0u", "!(-1>0)", "Y==0", "int==0", "X==2", "f(X)==4", "Z==0", "!D", "'a'==97",
+        "1?2:1/0", "0?1%0:1", "1||1/0", "1-(0&&1)",
+    ];
+    for condition in conditions {
+        let text = format!(in alloc;
+            "#define X 2\n#define f(x) x+x\n#define Z W\n#define D defined\n#if {condition}\na\n#else\nb\n#endif"
+        )?;
+        assert_eq!(rt; alone(alloc, text.as_str())?.as_str(), "a", "{condition}");
+    }
+    Ok(())
+}
+
+// X3.159-1989 3.8.1: `defined` and a name, in parentheses or not. 3.3.13: an operand that is not evaluated divides nothing.
+#[test]
+fn defined_asks_for_a_name(rt: HostRuntime) -> Result<(), Fail> {
+    let alloc = rt.alloc();
+    let rows = [
+        ("#define X Y\n#if defined X && !defined Y\na\n#endif", "a"),
+        ("#define X\n#if defined ( X ) + 1 == 2\na\n#endif", "a"),
+        ("#if !defined(X) && !defined int\na\n#endif", "a"),
+        ("#if 0 && 1/0\na\n#else\nb\n#endif", "b"),
+        ("#if 1 ? 2 : 1/0\na\n#endif", "a"),
+        ("#if -1 > 0u\na\n#endif", "a"),
+        ("#if defined 1\n#endif", "!BadCondition 0:1:1"),
+        ("#if defined()\n#endif", "!BadCondition 0:1:1"),
+        ("#if defined(X\n#endif", "!BadCondition 0:1:1"),
+        (" #if defined((X))\n#endif", "!BadCondition 0:1:2"),
+        ("#if 1 || defined\n#endif", "!BadCondition 0:1:1"),
+    ];
+    for (text, words) in rows {
+        assert_eq!(rt; alone(alloc, text)?.as_str(), words, "{text}");
+    }
+    Ok(())
+}
+
+// X3.159-1989 3.8.1, constraints: an integral constant expression; 3.4: its value is in the range of its type, so a division by 0
+// has none. Each row is the condition of an `#if`, and of an `#elif` behind a group that is skipped.
+#[test]
+fn these_lines_are_no_conditions(rt: HostRuntime) -> Result<(), Fail> {
+    let alloc = rt.alloc();
+    let lines = [
+        "", "defined", "D X", "D(X)", "E", "1 1", "f(1)", "1.0", "\"a\"", "x = 1", "(1", "1/0",
+        "1%X", "1&&1/0", "0?1:1/0", "1/0||1",
+    ];
+    for line in lines {
+        let text = format!(in alloc; "#define D defined\n#define E\n #if {line}\n#endif")?;
+        assert_eq!(rt;
+            alone(alloc, text.as_str())?.as_str(),
+            "!BadCondition 0:3:2",
+            "{line}"
+        );
+        let text = format!(in alloc; "#define D defined\n#define E\n#if 0\n #elif {line}\n#endif")?;
+        assert_eq!(rt;
+            alone(alloc, text.as_str())?.as_str(),
+            "!BadCondition 0:4:2",
+            "{line}"
+        );
+    }
+    Ok(())
+}
+
+// X3.159-1989 3.8.2: the two forms, and a line of neither is replaced first. Own: both forms name the same files; the texts between
+// `<` and `>` are joined without white space; a literal's bytes have no escapes.
+#[test]
+fn an_include_names_a_file(rt: HostRuntime) -> Result<(), Fail> {
+    let alloc = rt.alloc();
+    let rows = [
+        ("#include \"a.h\"", "1"),
+        ("#include <a.h>\nb", "1 b"),
+        ("#include < a . /**/ h >", "1"),
+        ("#include <d/b.h>", "2"),
+        ("#include \"b c.h\"", "3"),
+        ("#include <b c.h>", "!Missing bc.h"),
+        ("#define a d\n#include <a.h>", "1"),
+        ("#define H \"a.h\"\n#include H", "1"),
+        ("#define H <a\n#include H.h>", "1"),
+        ("#define L <\n#define G >\n#include L a.h G", "1"),
+        ("#define f(x) <x.h>\n#include f(a)\n#include f(d/b)", "1 2"),
+        ("#include \"no.h\"", "!Missing no.h"),
+        ("#include \"a\\tb\"", "!Missing a\\tb"),
+        (" #include", "!BadDirective 0:1:2"),
+        ("#include \"\"", "!BadDirective 0:1:1"),
+        ("#include <>", "!BadDirective 0:1:1"),
+        ("#include <a.h", "!BadDirective 0:1:1"),
+        ("#include <a.h> b", "!BadDirective 0:1:1"),
+        ("#include \"a.h\" b", "!BadDirective 0:1:1"),
+        ("#include 'a'", "!BadDirective 0:1:1"),
+        ("#define H \"\"\n#include H", "!BadDirective 0:2:1"),
+        ("#define H\n#include H", "!BadDirective 0:2:1"),
+    ];
+    for (text, words) in rows {
+        let texts = [("m.c", text), ("a.h", "1"), ("d/b.h", "2"), ("b c.h", "3")];
+        assert_eq!(rt; said(alloc, &texts, &["m.c"])?.as_str(), words, "{text}");
+    }
+    Ok(())
+}
+
+// X3.159-1989 3.8.2: the line is replaced by the whole of the file, so macros go in and out. Own: a section and an invocation end in
+// the file in which they begin. Each row is a header's text, and what the
+// unit says that includes it between `X` and `(2) X`.
+#[test]
+fn a_header_is_read_in_its_place(rt: HostRuntime) -> Result<(), Fail> {
+    let alloc = rt.alloc();
+    let rows = [
+        ("", "1 ( 2 ) 1"),
+        ("X", "1 1 ( 2 ) 1"),
+        ("#undef X\n#define X 3\nX\n", "1 3 ( 2 ) 3"),
+        ("f", "1 f ( 2 ) 1"),
+        ("\n #define X 3", "!BadMacro 1:2:2"),
+        ("f(", "!ArgCount 1:1:1"),
+        (" #endif", "!BadDirective 1:1:2"),
+        ("\n#if 1\n#if 0", "!OpenIf 1:2:1"),
+        ("#if 1/0\n#endif", "!BadCondition 1:1:1"),
+        ("a /* b", "!OpenComment 1:1:3"),
+        ("a\n\"b\n", "!OpenString 1:2:1"),
+        ("#include \"no.h\"", "!Missing no.h"),
+    ];
+    for (text, words) in rows {
+        let texts = [
+            (
+                "m.c",
+                "#define X 1\n#define f(x) [x] X\n#if 1\nX\n#include \"h.h\"\n(2) X\n#endif",
+            ),
+            ("h.h", text),
+        ];
+        assert_eq!(rt; said(alloc, &texts, &["m.c"])?.as_str(), words, "{text}");
+    }
+    Ok(())
+}
+
+// Own: 32 levels of inclusion may be open. The name has its form before the depth is looked at, and the depth before the file.
+#[test]
+fn files_include_one_another_32_deep(rt: HostRuntime) -> Result<(), Fail> {
+    let alloc = rt.alloc();
+    assert_eq!(rt;
+        alone(alloc, "a\n #include \"m.c\"")?.as_str(),
+        "!IncludeDepth 0:2:2"
+    );
+    let guarded = "#ifndef G\n#define G\n#include \"m.c\"\na\n#endif\nb";
+    assert_eq!(rt; alone(alloc, guarded)?.as_str(), "b a b");
+    let rows = [
+        ("a", "a"),
+        ("a\n #include \"no.h\"", "!IncludeDepth 32:2:2"),
+        (" #include", "!BadDirective 32:1:2"),
+        ("#if 0\n#include \"no.h\"\n#endif\nb", "b"),
+    ];
+    for (last, words) in rows {
+        let mut listing = Vec::new(alloc);
+        for level in 0_u32..32 {
+            let next = level + 1;
+            let text = format!(in alloc; "#include \"{next}.h\"")?;
+            listing.push((
+                format!(in alloc; "{level}.h")?,
+                text.as_bytes().to_vec(alloc)?,
+            ))?;
+        }
+        listing.push(("32.h".to_string(alloc)?, last.as_bytes().to_vec(alloc)?))?;
+        let mut files = MemFiles::new(listing, Vec::new(alloc));
+        assert_eq!(rt;
+            answer(alloc, &mut files, &["0.h"])?.as_str(),
+            words,
+            "{last}"
+        );
+    }
+    Ok(())
+}
+
+/// Names, a space between two.
+fn listed(alloc: Global, names: &[Bytes]) -> Result<String, AllocError> {
+    let mut words = String::new(alloc);
+    for name in names {
+        let name = String::from_utf8_lossy(alloc, name.items())?;
+        add(&mut words, name.as_str())?;
+    }
+    Ok(words)
+}
+
+/// Numbers, a space between two.
+fn counted(alloc: Global, numbers: &[u16]) -> Result<String, AllocError> {
+    let mut words = String::new(alloc);
+    for number in numbers {
+        let number = format!(in alloc; "{number}")?;
+        add(&mut words, number.as_str())?;
+    }
+    Ok(words)
+}
+
+// Own: a unit begins without macros (X3.159-1989 2.1.1.1), and files are numbered in the order of first reads, over all units. Each
+// row is the roots, the units, the names of the files, the roots' numbers, and those of the included files, which are ascending.
+#[test]
+fn units_share_files_and_no_macros(rt: HostRuntime) -> Result<(), Fail> {
+    let alloc = rt.alloc();
+    let texts = [
+        ("a.c", "#define X 1\n#include \"x.h\"\nX"),
+        ("b.c", "X\n#include \"x.h\"\n#if 0\n#include \"n\"\n#endif"),
+        ("x.h", "X h"),
+        ("c.c", "#include \"a.c\"\n#include \"a.c\"\n"),
+        ("d.c", "#include \"b.c\"\n"),
+    ];
+    let rows: [(&[&str], &str, &str, &str, &str); 8] = [
+        (&[], "", "", "", ""),
+        (&["x.h"], "X h", "x.h", "0", ""),
+        (&["a.c"], "1 h 1", "a.c x.h", "0", "1"),
+        (&["a.c", "b.c"], "1 h 1 | X X h", "a.c x.h b.c", "0 2", "1"),
+        (&["a.c", "a.c"], "1 h 1 | 1 h 1", "a.c x.h", "0 0", "1"),
+        (&["x.h", "a.c"], "X h | 1 h 1", "x.h a.c", "0 1", "0"),
+        (&["c.c"], "1 h 1 1 h 1", "c.c a.c x.h", "0", "1 2"),
+        (&["x.h", "d.c"], "X h | X X h", "x.h d.c b.c", "0 1", "0 2"),
+    ];
+    for (roots, words, names, numbers, included) in rows {
+        let mut files = files_of(alloc, &texts, Vec::new(alloc))?;
+        let Ok(source) = read(alloc, &mut files, roots)? else {
+            return Err(Fail::from("the roots are read"));
+        };
+        assert_eq!(rt; spelled(alloc, &source)?.as_str(), words);
+        assert_eq!(rt; listed(alloc, source.names.items())?.as_str(), names);
+        assert_eq!(rt; counted(alloc, source.roots.items())?.as_str(), numbers);
+        assert_eq!(rt; counted(alloc, source.included.items())?.as_str(), included);
+        assert_eq!(rt; source.units.items().len(), roots.len());
+        assert_eq!(rt; source.changes.items().len(), roots.len());
+        assert_eq!(rt; source.texts.items().len(), source.names.items().len());
+    }
+    Ok(())
+}
+
+/// The changes of macros in a unit in words, a bar behind each unit but the last.
+fn changes_of(alloc: Global, source: &Source) -> Result<String, AllocError> {
+    let mut words = String::new(alloc);
+    let mut later = false;
+    for unit in source.changes.items() {
+        if later {
+            add(&mut words, "|")?;
+        }
+        later = true;
+        for change in unit.items() {
+            let name = String::from_utf8_lossy(alloc, change.name.items())?;
+            add(&mut words, if change.on { "on" } else { "off" })?;
+            add(&mut words, name.as_str())?;
+            add(&mut words, place(alloc, change.pos)?.as_str())?;
+        }
+    }
+    Ok(words)
+}
+
+// Own: each `#define` and `#undef` that is reached is a change, also one that changes nothing. In an included file it stands at the
+// `#include` in the root file.
+#[test]
+fn changes_of_macros_are_in_their_order(rt: HostRuntime) -> Result<(), Fail> {
+    let alloc = rt.alloc();
+    let texts = [
+        (
+            "a.c",
+            "#define X 1\n  #include \"h.h\"\n#undef X\n #undef X\n#if 0\n#define S\n#endif\n#define f(x) x\n",
+        ),
+        ("h.h", "\n\n#define Y\n#include \"i.h\"\n#undef Y"),
+        ("i.h", "#define f(x) x"),
+        ("b.c", "a\n/* */ #include \"i.h\"\n"),
+    ];
+    let rows: [(&[&str], &str); 3] = [
+        (&["i.h"], "on f 0:1:1"),
+        (
+            &["a.c"],
+            "on X 0:1:1 on Y 0:2:3 on f 0:2:3 off Y 0:2:3 off X 0:3:1 off X 0:4:2 on f 0:8:1",
+        ),
+        (
+            &["b.c", "i.h", "b.c"],
+            "on f 0:2:7 | on f 1:1:1 | on f 0:2:7",
+        ),
+    ];
+    for (roots, words) in rows {
+        let mut files = files_of(alloc, &texts, Vec::new(alloc))?;
+        let Ok(source) = read(alloc, &mut files, roots)? else {
+            return Err(Fail::from("the roots are read"));
+        };
+        assert_eq!(rt; changes_of(alloc, &source)?.as_str(), words);
+    }
+    Ok(())
+}
+
+/// The token, its place, and whether it comes from a macro.
+fn told(alloc: Global, source: &SourceToken) -> Result<String, AllocError> {
+    let text = String::from_utf8_lossy(alloc, source.token.text.items())?;
+    let pos = place(alloc, source.token.pos)?;
+    match source.origin {
+        Origin::Plain => format!(in alloc; "{text} {pos}"),
+        Origin::Macro => format!(in alloc; "{text} {pos} macro"),
+    }
+}
+
+// Own: a token is at its own place in the file that has it, and one that a macro put there at the outermost name. A source has the
+// bytes of the files as they are.
+#[test]
+fn tokens_are_in_the_file_that_has_them(rt: HostRuntime) -> Result<(), Fail> {
+    let alloc = rt.alloc();
+    let texts = [
+        ("m.c", "a\n #include \"h.h\"\r\nX\n b"),
+        ("h.h", "#define X c 1\n d\\\ne /* */ X"),
+    ];
+    let mut files = files_of(alloc, &texts, Vec::new(alloc))?;
+    let Ok(source) = read(alloc, &mut files, &["m.c"])? else {
+        return Err(Fail::from("the root is read"));
+    };
+    let mut words = String::new(alloc);
+    for unit in source.units.items() {
+        for token in unit.items() {
+            add(&mut words, told(alloc, token)?.as_str())?;
+        }
+    }
+    assert_eq!(rt;
+        words.as_str(),
+        "a 0:1:1 de 1:2:2 c 1:3:9 macro 1 1:3:9 macro c 0:3:1 macro 1 0:3:1 macro b 0:4:2"
+    );
+    assert_eq!(rt;
+        listed(alloc, source.texts.items())?.as_str(),
+        "a\n #include \"h.h\"\r\nX\n b #define X c 1\n d\\\ne /* */ X"
+    );
+    Ok(())
+}
+
+/// How many tokens each unit has.
+fn lengths(alloc: Global, source: &Source) -> Result<String, AllocError> {
+    let mut words = String::new(alloc);
+    for unit in source.units.items() {
+        let count = unit.items().len();
+        add(&mut words, format!(in alloc; "{count}")?.as_str())?;
+    }
+    Ok(words)
+}
+
+// Own: a file is read once, at its first mention. Each row is the number of the read that fails, counted from 1.
+#[test]
+fn a_file_is_read_once(rt: HostRuntime) -> Result<(), Fail> {
+    let alloc = rt.alloc();
+    let include = "#include \"h.h\"\n";
+    let mut many = String::new(alloc);
+    for _turn in 0_u32..1000 {
+        many.push_str(include)?;
+    }
+    let rows = [
+        (1, "!ReadFault m.c"),
+        (2, "!ReadFault h.h"),
+        (3, "!ReadFault n.c"),
+        (4, "1000 1000 1 1000"),
+    ];
+    for (failing, words) in rows {
+        let texts = [("m.c", many.as_str()), ("h.h", "a"), ("n.c", many.as_str())];
+        let mut files = files_of(alloc, &texts, vec![in alloc; failing]?)?;
+        let found = match read(alloc, &mut files, &["m.c", "n.c", "h.h", "m.c"])? {
+            Ok(source) => lengths(alloc, &source)?,
+            Err(error) => refusal(alloc, &error)?,
+        };
+        assert_eq!(rt; found.as_str(), words);
+    }
+    assert_eq!(rt; said(alloc, &[], &["m.c"])?.as_str(), "!Missing m.c");
+    assert_eq!(rt;
+        said(alloc, &[("m.c", "a")], &["m.c", ""])?.as_str(),
+        "!Missing "
+    );
+    Ok(())
+}
+
+// Own: the limits of the architecture's table: 256 files, each of 4194304 bytes. A file that is one too many is not read.
+#[test]
+fn files_are_limited(rt: HostRuntime) -> Result<(), Fail> {
+    let alloc = rt.alloc();
+    for (headers, words) in [(255_u32, "a"), (256, "!Limit Files 256")] {
+        let mut text = String::new(alloc);
+        let mut listing = Vec::new(alloc);
+        for number in 0..headers {
+            text.push_str(format!(in alloc; "#include \"{number}.h\"\n")?.as_str())?;
+            listing.push((format!(in alloc; "{number}.h")?, Vec::new(alloc)))?;
+        }
+        text.push_str("a")?;
+        listing.push(("m.c".to_string(alloc)?, text.as_bytes().to_vec(alloc)?))?;
+        let mut files = MemFiles::new(listing, vec![in alloc; 257]?);
+        assert_eq!(rt; answer(alloc, &mut files, &["m.c"])?.as_str(), words);
+    }
+    let long = vec![in alloc; b' '; 4_194_305]?;
+    let listing = vec![in alloc; ("m.c".to_string(alloc)?, long)]?;
+    let mut files = MemFiles::new(listing, Vec::new(alloc));
+    assert_eq!(rt;
+        answer(alloc, &mut files, &["m.c"])?.as_str(),
+        "!Limit FileBytes 4194304"
+    );
+    Ok(())
+}
+
+// Own: the 1000000 replacements are those of all units, conditions and `#include` lines together, each where it is reached. `A18`
+// takes 2^19 - 1 of them, and leaves nothing in its place.
+#[test]
+fn units_share_the_replacements(rt: HostRuntime) -> Result<(), Fail> {
+    let alloc = rt.alloc();
+    let mut levels = "#define A0\n".to_string(alloc)?;
+    for level in 0_u32..18 {
+        let next = level + 1;
+        levels.push_str(format!(in alloc; "#define A{next} A{level} A{level}\n")?.as_str())?;
+    }
+    let rows = [
+        ("#if 1 A18\na\n#elif A18\nA18\n#endif", "a"),
+        ("#if 1 A18\nA18\n#endif", "!Limit Replacements 1000000"),
+        ("#include A18 <n.c>\nA18", "!Limit Replacements 1000000"),
+    ];
+    for (text, words) in rows {
+        let text = format!(in alloc; "{levels}{text}")?;
+        let texts = [("m.c", text.as_str()), ("n.c", "n")];
+        assert_eq!(rt; said(alloc, &texts, &["m.c"])?.as_str(), words);
+    }
+    let text = format!(in alloc; "{levels}A18")?;
+    let texts = [("m.c", text.as_str()), ("n.c", "n")];
+    assert_eq!(rt;
+        said(alloc, &texts, &["m.c", "n.c", "m.c"])?.as_str(),
+        "!Limit Replacements 1000000"
+    );
+    Ok(())
+}
