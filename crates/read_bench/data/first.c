@@ -1,0 +1,3 @@
+#include "small.h"
+#include <small.h>
+short count = TWICE(1);

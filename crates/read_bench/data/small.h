@@ -1,0 +1,5 @@
+#ifndef SMALL
+#define SMALL
+#define TWICE(x) ((x) + (x))
+extern short count;
+#endif
