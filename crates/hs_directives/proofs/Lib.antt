@@ -1,4 +1,5 @@
 pub mod Cuts
+pub mod InTurn
 pub mod Nesting
 pub mod Printable
 pub mod Reading

@@ -116,7 +116,7 @@ scanned name text progress tokens = record {
 }
 
 -- the file that was scanned
-scan-file : (name text : List ℕ) (old new : Progress) (known : Known) (outcome : Result (List Token) ScanError)
+pub scan-file : (name text : List ℕ) (old new : Progress) (known : Known) (outcome : Result (List Token) ScanError)
     → scanned_file name text old outcome ≡ Ok (found_of new known)
     → (tokens : List Token) × (new.files ≡ old.files ++ record { name = name; text = text; tokens = tokens } ∷ [])
 scan-file name text old new known (Err end) is = absurd cc
@@ -171,7 +171,7 @@ found_scanned told before now name text old new (Ok known) none few within same 
           (Agrees-last listing old.files (record { name = name; text = text; tokens = tokens }) (subst (Agrees listing) is agrees)) ∙ gives
 
 -- files that are not known are not listed by themselves
-unknown_unlisted : (number : ℕ) (name : List ℕ) (files : List File) → known_from number name files ≡ None → file_of (listing_of files) name ≡ None
+pub unknown_unlisted : (number : ℕ) (name : List ℕ) (files : List File) → known_from number name files ≡ None → file_of (listing_of files) name ≡ None
 unknown_unlisted number name [] none = refl
 unknown_unlisted number name (file ∷ files) none = by (bytes_eq file.name name) (λ none'. unknown_unlisted (suc number) name files none') none where
   by : (is : Bool) → (known_from (suc number) name files ≡ None → file_of (listing_of files) name ≡ None)
@@ -181,7 +181,7 @@ unknown_unlisted number name (file ∷ files) none = by (bytes_eq file.name name
   by false later none' = later none'
 
 -- what is found where the file is not known
-found-new : (listing : Listing) (name : List ℕ) (old : Progress) → known_from 0 name old.files ≡ None → nat_le 256 (length old.files) ≡ false
+pub found-new : (listing : Listing) (name : List ℕ) (old : Progress) → known_from 0 name old.files ≡ None → nat_le 256 (length old.files) ≡ false
     → found_file listing name old ≡ listed_file name old (file_of listing name)
 found-new listing name old none few =
     ap (known_file listing name old) none ∙ ap (λ (many : Bool). if many then Err (passed Files) else listed_file name old (file_of listing name)) few

@@ -45,8 +45,19 @@ unit_reached told told' before mid now name progress progress' known unit unit' 
 abbrev pub units_after : List TranslationUnit → Units → Units
 units_after units later = record { units = units ++ later.units; progress = later.progress }
 
+-- there are none so far
+pub units_first : (told : Option Listing) (counts : Counts) (files : List File) (names : List (List ℕ)) (progress : Progress)
+    → Reached told counts counts files files (λ listing. units_of listing names progress)
+    (λ listing. and_then (units_of listing names progress) (λ later. Ok (units_after [] later)))
+units_first told counts files names progress =
+    reached_as told counts counts files files (λ listing. units_of listing names progress) _ _
+    (reached_none told counts files (λ listing. units_of listing names progress)) (λ listing. by (units_of listing names progress)) where
+      by : (outcome : Result Units ReadError) → outcome ≡ and_then outcome (λ later. Ok (units_after [] later))
+      by (Err error) = refl
+      by (Ok later) = refl
+
 -- the next name's unit comes behind those so far
-units_next : (listing : Listing) (name : List ℕ) (names : List (List ℕ)) (progress : Progress) (units : List TranslationUnit)
+pub units_next : (listing : Listing) (name : List ℕ) (names : List (List ℕ)) (progress : Progress) (units : List TranslationUnit)
     → and_then (units_of listing (name ∷ names) progress) (λ later. Ok (units_after units later))
     ≡ and_then (unit_of listing name progress) (λ it. and_then (units_of listing names it.progress) (λ later. Ok (units_after (units ++ it.unit ∷ []) later)))
 units_next listing name names progress units = by (unit_of listing name progress) where

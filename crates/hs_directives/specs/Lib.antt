@@ -6,5 +6,6 @@ pub mod Outcomes
 pub mod Pieces
 pub mod Preprocessing
 pub mod Readings
+pub mod Reads
 pub mod Sections
 pub mod States

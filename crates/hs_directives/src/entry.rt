@@ -1,6 +1,7 @@
 ghost use Rattle.std.specs.Prelude.{◌≡◌, ◌<◌, IfOk};
 ghost use Rattle.hs_base.specs.Files.{NeverFall};
 ghost use Rattle.hs_directives.specs.Readings.{IsReading, entered_by, entry};
+ghost use Rattle.hs_directives.specs.Reads.{ReadsInTurn};
 
 use crate::error::ReadError;
 use crate::file_tokens::FileTokens;
@@ -25,6 +26,8 @@ pub(crate) fn entry<F: Files>(
     ensures means { IsReading (F.listing files.old) (F.counts files.old) (F.counts files.new)
         state.old.progress.files state.new.progress.files
         (entered_by state.new) (λ listing. entry levels listing hash.now line.now state.old) result }
+    ensures reads { ReadsInTurn F.leads_to (F.listing files.old) files.old files.new state.old.progress.files state.new.progress.files
+        (λ listing. entry levels listing hash.now line.now state.old) result }
     ensures deep { IfOk result (λ _. 0 < levels) }
 {
     let named = include_name(

@@ -4,6 +4,9 @@ ghost use Rattle.hs_tokens.specs.Scan.{scan_of};
 ghost use Rattle.hs_directives.specs.States.{of_scan, scanned_file, found_file};
 ghost use Rattle.hs_directives.specs.Readings.{FailsAs, IsText, IsReading, seen_text, found_of};
 ghost use Rattle.hs_directives.specs.Outcomes.{Gives, ReadsNone};
+ghost use Rattle.hs_directives.specs.Reads.{ReadsInTurn};
+ghost use Rattle.hs_base.specs.Limit.{number_of};
+ghost use Rattle.hs_base.specs.declared.limit.LimitKind.TheVariants.{FileBytes};
 
 use crate::error::{ReadError, ScanKind};
 use crate::file_tokens::FileTokens;
@@ -49,6 +52,7 @@ fn unread(alloc: Global, name: &str, end: FileEnd) -> ReadError
 fn text_of<F: Files>(alloc: Global, files: &mut F, name: &str) -> Result<Vec<u8>, ReadError>
     ensures listing_stays { F.listing files.new ≡ F.listing files.old }
     ensures counts_stay_up { NeverFall (F.counts files.old) (F.counts files.new) }
+    ensures one_read { F.leads_to files.old name.now (number_of FileBytes) files.new }
     ensures means { IsText (F.listing files.old) name.now (F.counts files.old) (F.counts files.new) (seen_text result) }
 {
     let mut text = Vec::new(alloc);
@@ -97,6 +101,8 @@ pub(crate) fn found_file<F: Files>(
     ensures counts_stay_up { NeverFall (F.counts files.old) (F.counts files.new) }
     ensures means { IsReading (F.listing files.old) (F.counts files.old) (F.counts files.new) progress.old.files progress.new.files
         (found_of progress.new) (λ listing. found_file listing name.now progress.old) result }
+    ensures reads { ReadsInTurn F.leads_to (F.listing files.old) files.old files.new progress.old.files progress.new.files
+        (λ listing. found_file listing name.now progress.old) result }
 {
     if let Some(known) = progress.files.known(name.as_bytes())? {
         return Ok(known);

@@ -3,6 +3,7 @@ ghost use Rattle.std.specs.String.{string_bytes};
 ghost use Rattle.hs_base.specs.Files.{NeverFall};
 ghost use Rattle.hs_directives.specs.Preprocessing.{fresh, start, units_of, source_of};
 ghost use Rattle.hs_directives.specs.Readings.{IsReading, units_by, IsPreprocessed};
+ghost use Rattle.hs_directives.specs.Reads.{ReadsInTurn, IsReadThrough};
 
 use crate::changes::UnitChanges;
 use crate::error::ReadError;
@@ -44,6 +45,8 @@ fn units_of<F: Files>(
     ensures means { IsReading (F.listing files.old) (F.counts files.old) (F.counts files.new)
         state.old.progress.files state.new.progress.files
         (λ units. units_by state.new.progress units.items) (λ listing. units_of listing (map string_bytes roots.now) state.old.progress) result }
+    ensures reads { ReadsInTurn F.leads_to (F.listing files.old) files.old files.new state.old.progress.files state.new.progress.files
+        (λ listing. units_of listing (map string_bytes roots.now) state.old.progress) result }
 {
     let mut units = Vec::new(alloc);
     let mut rest = roots;
@@ -113,6 +116,8 @@ pub fn preprocess<F: Files>(
     ensures listing_stays { F.listing files.new ≡ F.listing files.old }
     ensures counts_stay_up { NeverFall (F.counts files.old) (F.counts files.new) }
     ensures means { IsPreprocessed (F.listing files.old) (F.counts files.old) (F.counts files.new) (map string_bytes roots.now) result }
+    // Each file was read once, in the order of its number, and no other.
+    ensures reads { IsReadThrough F.leads_to (F.listing files.old) files.old files.new (map string_bytes roots.now) result }
 {
     let mut state = State {
         progress: start(alloc),

@@ -2,6 +2,7 @@ ghost use Rattle.hs_base.specs.Files.{NeverFall};
 ghost use Rattle.hs_directives.specs.Pieces.{pieces};
 ghost use Rattle.hs_directives.specs.Preprocessing.{walked, entered};
 ghost use Rattle.hs_directives.specs.Readings.{IsReading};
+ghost use Rattle.hs_directives.specs.Reads.{ReadsInTurn};
 ghost use Rattle.std.specs.Prelude.{◌≡◌, []};
 
 use crate::changing::place_of;
@@ -30,6 +31,8 @@ pub(crate) fn walk<F: Files>(
     ensures means { IsReading (F.listing files.old) (F.counts files.old) (F.counts files.new)
         state.old.progress.files state.new.progress.files
         (λ _. state.new) (λ listing. walked (entered levels listing) outer (pieces file.now) [] state.old) result }
+    ensures reads { ReadsInTurn F.leads_to (F.listing files.old) files.old files.new state.old.progress.files state.new.progress.files
+        (λ listing. walked (entered levels listing) outer (pieces file.now) [] state.old) result }
 {
     let mut sections = Sections::new(alloc);
     let mut rest = file.items();
