@@ -1,0 +1,10 @@
+//! The words of a call, read by the crate `clap`. `specs/Words.antt` states the commands, and what the words ask for.
+#![tactic(auto)]
+
+mod command;
+#[cfg(test)]
+mod tests;
+mod words;
+
+pub use command::{Command, WordsError};
+pub use words::{check_takes_plain_names, command_of};
