@@ -1,24 +1,32 @@
 -- The causes of each status, from the report that was put: what is so where it came, and where it must come.
-use Rattle.std.proofs.Common.{rules, ◌≡◌, ℕ, suc, ◌<◌, List, [], ◌∷◌, length, sym, subst, ap, ◌∙◌, inl, inr, arith, if◌then◌else◌, ◌==◌, false, Option, Some, None, Result, Ok, Err}
+use Rattle.std.proofs.Common.{rules, ◌≡◌, ◌⊎◌, ℕ, ◌<◌, List, [], ◌∷◌, sym, subst, ap, ◌∙◌, inl, inr, arith, refl, if◌then◌else◌, ◌==◌, false, Option, Some, None, Result, Ok, Err}
 use Rattle.std.proofs.lemmas.Bool.Decides.{nat_tests}
 use Rattle.hs_base.specs.Count.{HasRisen}
-use Rattle.hs_base.specs.Files.{Listing, file_of}
 use Rattle.hs_base.specs.Sink.{IsPut}
 use Rattle.hs_base.specs.declared.errors.Failed.{Failed}
-use Rattle.hs_tree.specs.Straight.Grammar.{IsStraight}
+use Rattle.hs_base.specs.declared.limit.Limit.{Limit}
+use Rattle.hs_base.specs.declared.pos.Pos.{Pos}
 use Rattle.hs_tree.specs.declared.straight.tree.Straight.{Straight}
 use Rattle.hs_meaning.specs.Straight.Run.{IsSafe}
-use Rattle.hs_meaning.specs.Straight.StaleUses.{HasStaleUses, IsCountOf, IsStaleUse, uses}
-use Rattle.hs_checker.specs.Source.{FileHas, most_bytes, IsMissing}
-use Rattle.handlecheck.specs.Report.{text_of, status_of, HasTreeOf, IsCheck, IsUnbuilt, IsReport, Written, IsPutAs, Call, IsAnswered, status_after, Asks, AsksText, IsBut, ChecksText, SpellsSafe, Headline, HasCauses}
+use Rattle.hs_meaning.specs.Straight.StaleUses.{HasStaleUses}
+use Rattle.hs_directives.specs.declared.error.ReadError.{ReadError}
+use Rattle.hs_directives.specs.declared.error.ReadError.TheVariants as reading
+use Rattle.hs_directives.specs.declared.source.Source.{Source}
+use Rattle.hs_words.specs.Words.{IsCheck, IsNoCheck}
+use Rattle.hs_directives.specs.Reads.{Leads}
+use Rattle.hs_checker.specs.Source.{IsTheProgram, SpellsNone}
+use Rattle.handlecheck.specs.Causes.{Asks, Spells, IsBut, Checks, AreSafe, AreFaulty, ArePast, AreUnread, Headline, HasCauses, IsRejected}
+use Rattle.handlecheck.specs.Faults.{placed_by}
+use Rattle.handlecheck.specs.Report.{text_of, status_of, AreAsked, AreUnbuilt, IsReport, Written, IsPutAs, Call, IsAnswered, status_after}
+use Rattle.handlecheck.specs.declared.fault.Fault.{Fault}
 use Rattle.handlecheck.specs.declared.report.Report.{Report}
-use Rattle.handlecheck.specs.declared.report.Report.TheVariants.{Accepted, Hazards, Unbuilt, Usage, Missing, Unread, Limited, NoMemory}
+use Rattle.handlecheck.specs.declared.report.Report.TheVariants.{Accepted, Hazards, Refused, Unbuilt, Usage, Missing, Unread, Limited, NoMemory}
 use Rattle.handlecheck.specs.declared.status.Status.{Status}
 use Rattle.handlecheck.specs.declared.status.Status.TheVariants as status
-use Rattle.handlecheck.proofs.Verdict.{FileHas-from}
+use Rattle.handlecheck.proofs.Outcomes.{Agrees, agrees, same_count}
 
 -- an answer is Unwritten and a fault was counted, or it is the report's status
-data IsCause (report : Report) (answer : Status) (old new : Written) : Type 0 where
+pub data IsCause (report : Report) (answer : Status) (old new : Written) : Type 0 where
   cut : answer ≡ status.Unwritten → HasRisen old.faults new.faults → IsCause report answer old new
   whole : answer ≡ status_of report → IsCause report answer old new
 
@@ -29,124 +37,253 @@ cause report answer old new done = go done.put done.is_put done.is_status
     go (Ok unit) is_put is_status = whole is_status
     go (Err failed) is_put is_status = cut is_status is_put.2
 
--- ---- what is so where a status came
-
--- an accepted file spells a safe program
-pub headline_of : (call : Call) (answer : Status) → ((tree : Straight) → HasStaleUses tree 0 → IsSafe tree) → IsAnswered call answer → Headline call answer
-headline_of call answer safe answered done = go answered.report answered.is_report (cause answered.report answer call.old call.new answered.is_put)
-  where
-    go : (report : Report) → IsReport call.told call.words call.before call.now report → IsCause report answer call.old call.new → ChecksText call SpellsSafe
-    go report is_report (cut unwritten fault) = absurd (cc)
-    go Accepted is_report (whole is_status) = (
-      is_report.0,
-      is_report.1,
-      FileHas-from call.told is_report.0 (HasTreeOf 0) SpellsSafe (λ text has. (has.1.0, has.1.1, safe has.1.0 has.1.2)) is_report.2,
-    )
-    go (Hazards count) is_report (whole is_status) = absurd (cc)
-    go Unbuilt is_report (whole is_status) = absurd (cc)
-    go Usage is_report (whole is_status) = absurd (cc)
-    go (Missing missing) is_report (whole is_status) = absurd (cc)
-    go (Unread unread) is_report (whole is_status) = absurd (cc)
-    go (Limited limit) is_report (whole is_status) = absurd (cc)
-    go NoMemory is_report (whole is_status) = absurd (cc)
-
--- ---- where a status must come
-
--- two counts of one list are equal
-IsCountOf-unique : {A : Type 0} (P : A → Type 0) (xs : List A) (m n : ℕ) → IsCountOf P xs m → IsCountOf P xs n → m ≡ n
-IsCountOf-unique P [] m n one other = one ∙ sym other
-IsCountOf-unique P (x ∷ xs) m n (inl one) (inl other) = one.3 ∙ ap suc (IsCountOf-unique P xs one.0 other.0 one.2 other.2) ∙ sym other.3
-IsCountOf-unique P (x ∷ xs) m n (inl one) (inr other) = absurd (other.0 one.1)
-IsCountOf-unique P (x ∷ xs) m n (inr one) (inl other) = absurd (one.0 other.1)
-IsCountOf-unique P (x ∷ xs) m n (inr one) (inr other) = IsCountOf-unique P xs m n one.1 other.1
-
--- the words name one file
-IsCheck-unique : (words : List (List ℕ)) (one other : List ℕ) → IsCheck words one → IsCheck words other → one ≡ other
-IsCheck-unique words one other first second = cc
-
-Some-unique : {A : Type 0} (o : Option A) (x y : A) → o ≡ Some x → o ≡ Some y → x ≡ y
-Some-unique o x y first second = cc
-
--- what a report says of a file's bytes is so of the bytes that are asked for
-at_file : (call : Call) (text name : List ℕ) (P : List ℕ → Type 0)
-    → Asks call (Some text) → IsCheck call.words name → FileHas call.told name P → P text
-at_file call text name P asks is_check has = subst P same found.2
-  where
-    is_name : name ≡ asks.name
-    is_name = IsCheck-unique call.words name asks.name is_check asks.is_check
-
-    found : (text' : List ℕ) × (file_of asks.files name ≡ Some text') × P text'
-    found = subst (λ (t : Option Listing). FileHas t name P) asks.is_told has
-
-    same : found.0 ≡ text
-    same = Some-unique (file_of asks.files name) found.0 text found.1 (ap (file_of asks.files) is_name ∙ asks.is_text)
-
--- a told file that is listed is not missing
-not_missing : (call : Call) (text name : List ℕ)
-    → Asks call (Some text) → IsCheck call.words name → IsMissing call.told name call.before call.now → ⊥
-not_missing call text name asks is_check missing = absurd (cc (absent, asks.is_text, ap (file_of asks.files) is_name))
-  where
-    is_name : name ≡ asks.name
-    is_name = IsCheck-unique call.words name asks.name is_check asks.is_check
-
-    absent : file_of asks.files name ≡ None
-    absent = (subst (λ (t : Option Listing). IsMissing t name call.before call.now) asks.is_told missing).1 asks.is_steady
-
--- no fault rose
-not_failed : (call : Call) (text : Option (List ℕ))
-    → Asks call text → HasRisen call.before.faults call.now.faults → ⊥
-not_failed call text asks risen = absurd (omega (arith, risen asks.is_steady.0, asks.is_steady.1))
-
--- the tree that a report speaks of is the one that the bytes spell, and has its number of stale uses
-same_count : (call : Call) (text name : List ℕ) (tree : Straight) (m n : ℕ)
-    → Asks call (Some text) → IsCheck call.words name → IsStraight text tree → HasStaleUses tree m → FileHas call.told name (HasTreeOf n) → m ≡ n
-same_count call text name tree m n asks is_check spelled counted has =
-    IsCountOf-unique IsStaleUse (uses tree.steps) m n counted (subst (λ (t : Straight). HasStaleUses t n) (sym (found.1.1.1 tree spelled)) found.1.2)
-  where
-    found : HasTreeOf n text
-    found = at_file call text name (HasTreeOf n) asks is_check has
-
 -- a count above 0 is not 0
 pub above-zero : (count : ℕ) → 0 < count → (count == 0) ≡ false
 above-zero count above = grind (arith, nat_tests)
 
--- Where a straight file is asked for, the answer is the report of its count, a write fault, or want of memory.
-judged : (call : Call) (answer : Status) (text : List ℕ) (tree : Straight) (count : ℕ) → IsAnswered call answer → AsksText call text → IsStraight text tree
-    → HasStaleUses tree count → IsBut (if count == 0 then status.Done else status.Hazards) answer
-judged call answer text tree count answered asks spelled counted =
-    go answered.report answered.is_report (cause answered.report answer call.old call.new answered.is_put)
-  where
-    go : (report : Report) → IsReport call.told call.words call.before call.now report → IsCause report answer call.old call.new
-        → IsBut (if count == 0 then status.Done else status.Hazards) answer
-    go report is_report (cut unwritten fault) = inr (inl unwritten)
-    go Accepted is_report (whole is_status) =
-        let none : count ≡ 0 = same_count call text is_report.0 tree count 0 asks.0 is_report.1 spelled counted is_report.2 in
-        rw none (inl is_status)
-    go (Hazards number) is_report (whole is_status) =
-        let same : count ≡ number = same_count call text is_report.0 tree count number asks.0 is_report.1 spelled counted is_report.2.1 in
-        rw (above-zero count (rw same is_report.2.0)) (inl is_status)
-    go Unbuilt is_report (whole is_status) = absurd ((at_file call text is_report.0 IsUnbuilt asks.0 is_report.1 is_report.2).1 tree spelled)
-    go Usage is_report (whole is_status) = absurd (is_report asks.0.name asks.0.is_check)
-    go (Missing missing) is_report (whole is_status) = absurd (not_missing call text is_report.0 asks.0 is_report.1 is_report.2.1)
-    go (Unread unread) is_report (whole is_status) = absurd (not_failed call (Some text) asks.0 is_report.2.1)
-    go (Limited limit) is_report (whole is_status) =
-        let long : most_bytes < length text = at_file call text is_report.0 (λ bytes. most_bytes < length bytes) asks.0 is_report.1 is_report.2.1 in
-        absurd (omega arith)
-    go NoMemory is_report (whole is_status) = inr (inr is_status)
+-- a program of the outcome's sources
+spelled : (source other : Source) (tree : Straight) → ◌≡◌ {A = Result Source ReadError} (Ok source) (Ok other) → Spells source tree → Spells other tree
+spelled source other tree same spells = let equal : source ≡ other = cc in subst (λ (it : Source). Spells it tree) equal spells
 
--- each status has its cause
-pub causes_of : (call : Call) (answer : Status) → IsAnswered call answer → HasCauses call answer
-causes_of call answer answered = record {
-  accepted = λ text tree asks spelled counted. judged call answer text tree 0 answered asks spelled counted;
-  hazards_only = search rules;
-  hazards = λ text tree count asks spelled counted some. rw (above-zero count some) at (judged call answer text tree count answered asks spelled counted);
-  unbuilt_only = search rules;
-  unbuilt = search rules;
-  usage_only = search rules;
-  usage = search rules;
-  unread_only = search rules;
-  missing = search rules;
-  limited_only = search rules;
-  limited = search rules;
-  unwritten_only = search rules;
-}
+-- sources that spell a program do not spell none
+is_none : (source other : Source) (tree : Straight) → ◌≡◌ {A = Result Source ReadError} (Ok source) (Ok other) → IsTheProgram other tree → SpellsNone source → ⊥
+is_none source other tree same program none =
+    let equal : source ≡ other = cc in
+    subst (λ (it : Source). SpellsNone it) equal none program.0 tree program.1 program.2.0
+
+-- a refusal without a place is none with one
+no_place : (error other : ReadError) (place : Fault × Pos) → ◌≡◌ {A = Result Source ReadError} (Err error) (Err other) → placed_by error ≡ Some place → placed_by other ≡ None → ⊥
+no_place error other place same placed none =
+    let equal : error ≡ other = cc in absurd (cc (subst (λ (it : ReadError). placed_by it ≡ Some place) equal placed, none))
+
+-- words that are no command ask for nothing
+no_check : (words names : List (List ℕ)) → IsNoCheck words → IsCheck words names → ⊥
+no_check words names (inl other) is_check = other is_check.command
+no_check words names (inr refused) is_check = refused is_check.taken
+
+module _ (call : Call) (answer : Status) (reads : List (List ℕ)) where
+  -- ---- what is so where a status came
+
+  -- the status is that of the report, or the put was cut
+  but : (report : Report) (wanted : Status) → IsCause report answer call.old call.new → (answer ≡ status_of report → IsBut wanted answer) → IsBut wanted answer
+  but report wanted (cut unwritten fault) follows = inr (inl unwritten)
+  but report wanted (whole is_status) follows = follows is_status
+
+  -- accepted files are a safe program
+  pub headline_by : (report : Report) → ((tree : Straight) → HasStaleUses tree 0 → IsSafe tree)
+      → IsReport call.told call.words reads call.before call.now report → answer ≡ status_of report → Headline call answer
+  headline_by Accepted safe (names, is_check, (source, read, (tree, program, counted))) is_status done =
+      (names, is_check, (source, read, (tree, program, safe tree counted)))
+  headline_by (Hazards count) safe is_report is_status done = absurd (cc)
+  headline_by (Refused refusal) safe is_report is_status done = absurd (cc)
+  headline_by Unbuilt safe is_report is_status done = absurd (cc)
+  headline_by Usage safe is_report is_status done = absurd (cc)
+  headline_by (Missing name) safe is_report is_status done = absurd (cc)
+  headline_by (Unread name) safe is_report is_status done = absurd (cc)
+  headline_by (Limited limit) safe is_report is_status done = absurd (cc)
+  headline_by NoMemory safe is_report is_status done = absurd (cc)
+
+  -- ---- where a status must come
+
+  -- where a program is asked for, the answer is that of its count
+  judged : (report : Report) (source : Source) (tree : Straight) (count : ℕ) → Agrees report (Ok source) → Spells source tree → HasStaleUses tree count
+      → answer ≡ status_of report → IsBut (if count == 0 then status.Done else status.Hazards) answer
+  judged Accepted source tree count (other, same, (program, is_program, counted')) spells counted is_status =
+      let none : count ≡ 0 = same_count other tree count 0 (spelled source other tree same spells) counted program is_program counted' in
+      rw none (inl is_status)
+  judged (Hazards number) source tree count (some, (other, same, (program, is_program, counted'))) spells counted is_status =
+      let equal : count ≡ number = same_count other tree count number (spelled source other tree same spells) counted program is_program counted' in
+      rw (above-zero count (rw equal some)) (inl is_status)
+  judged (Refused refusal) source tree count (error, same, place) spells counted is_status = absurd cc
+  judged Unbuilt source tree count (other, same, none) spells counted is_status =
+      let it = spelled source other tree same spells in absurd (none it.0 tree it.1 it.2)
+  judged Usage source tree count is spells counted is_status = absurd is
+  judged (Missing name) source tree count is spells counted is_status = absurd cc
+  judged (Unread name) source tree count is spells counted is_status = absurd is
+  judged (Limited limit) source tree count is spells counted is_status = absurd cc
+  judged NoMemory source tree count is spells counted is_status = inr (inr is_status)
+
+  -- where reading refuses at a place, so does the answer
+  faulty : (report : Report) (error : ReadError) (place : Fault × Pos) → Agrees report (Err error) → placed_by error ≡ Some place
+      → answer ≡ status_of report → IsBut status.Refused answer
+  faulty Accepted error place (source, same, program) placed is_status = absurd cc
+  faulty (Hazards count) error place (some, (source, same, program)) placed is_status = absurd cc
+  faulty (Refused refusal) error place is placed is_status = inl is_status
+  faulty Unbuilt error place (source, same, none) placed is_status = absurd cc
+  faulty Usage error place is placed is_status = absurd is
+  faulty (Missing name) error place is placed is_status = absurd (no_place error (reading.Missing name) place is placed refl)
+  faulty (Unread name) error place is placed is_status = absurd is
+  faulty (Limited limit) error place is placed is_status = absurd (no_place error (reading.Limit limit) place is placed refl)
+  faulty NoMemory error place is placed is_status = inr (inr is_status)
+
+  -- where the files are no program, they are refused
+  unbuilt : (report : Report) (source : Source) → Agrees report (Ok source) → SpellsNone source → answer ≡ status_of report → IsBut status.Refused answer
+  unbuilt Accepted source (other, same, (program, is_program, counted)) none is_status = absurd (is_none source other program same is_program none)
+  unbuilt (Hazards count) source (some, (other, same, (program, is_program, counted))) none is_status = absurd (is_none source other program same is_program none)
+  unbuilt (Refused refusal) source (error, same, place) none is_status = absurd cc
+  unbuilt Unbuilt source is none is_status = inl is_status
+  unbuilt Usage source is none is_status = absurd is
+  unbuilt (Missing name) source is none is_status = absurd cc
+  unbuilt (Unread name) source is none is_status = absurd is
+  unbuilt (Limited limit) source is none is_status = absurd cc
+  unbuilt NoMemory source is none is_status = inr (inr is_status)
+
+  -- where a file is missing, the answer says so
+  missing : (report : Report) (name : List ℕ) → Agrees report (Err (reading.Missing name)) → answer ≡ status_of report → IsBut status.Unread answer
+  missing Accepted name (source, same, program) is_status = absurd cc
+  missing (Hazards count) name (some, (source, same, program)) is_status = absurd cc
+  missing (Refused refusal) name (error, same, (place, placed)) is_status = absurd (no_place error (reading.Missing name) place (sym same) placed refl)
+  missing Unbuilt name (source, same, none) is_status = absurd cc
+  missing Usage name is is_status = absurd is
+  missing (Missing other) name is is_status = inl is_status
+  missing (Unread other) name is is_status = absurd is
+  missing (Limited limit) name is is_status = absurd cc
+  missing NoMemory name is is_status = inr (inr is_status)
+
+  -- where a limit is passed, the answer says so
+  past : (report : Report) (limit : Limit) → Agrees report (Err (reading.Limit limit)) → answer ≡ status_of report → IsBut status.Limited answer
+  past Accepted limit (source, same, program) is_status = absurd cc
+  past (Hazards count) limit (some, (source, same, program)) is_status = absurd cc
+  past (Refused refusal) limit (error, same, (place, placed)) is_status = absurd (no_place error (reading.Limit limit) place (sym same) placed refl)
+  past Unbuilt limit (source, same, none) is_status = absurd cc
+  past Usage limit is is_status = absurd is
+  past (Missing name) limit is is_status = absurd cc
+  past (Unread name) limit is is_status = absurd is
+  past (Limited other) limit is is_status = inl is_status
+  past NoMemory limit is is_status = inr (inr is_status)
+
+  -- ---- what is so where a status came
+
+  hazards_only : (report : Report) → IsReport call.told call.words reads call.before call.now report → IsPutAs (text_of report) (status_of report) call.old call.new answer
+      → answer ≡ status.Hazards → answer ≡ status_of report → Checks call (IsRejected call)
+  hazards_only (Hazards count) (names, is_check, (some, program)) put came is_status =
+      (names, is_check, (count, some, program, subst (IsPutAs (text_of (Hazards count)) status.Hazards call.old call.new) came put))
+  hazards_only Accepted is_report put came is_status = absurd (cc)
+  hazards_only (Refused refusal) is_report put came is_status = absurd (cc)
+  hazards_only Unbuilt is_report put came is_status = absurd (cc)
+  hazards_only Usage is_report put came is_status = absurd (cc)
+  hazards_only (Missing name) is_report put came is_status = absurd (cc)
+  hazards_only (Unread name) is_report put came is_status = absurd (cc)
+  hazards_only (Limited limit) is_report put came is_status = absurd (cc)
+  hazards_only NoMemory is_report put came is_status = absurd (cc)
+
+  refused_only : (report : Report) → IsReport call.told call.words reads call.before call.now report
+      → answer ≡ status.Refused → answer ≡ status_of report → Checks call (λ names. AreFaulty call names ⊎ AreUnbuilt call.told names)
+  refused_only (Refused refusal) (names, is_check, (error, placed, refused, named)) came is_status =
+      (names, is_check, inl (error, ((refusal.fault, refusal.pos), placed), refused))
+  refused_only Unbuilt (names, is_check, none) came is_status = (names, is_check, inr none)
+  refused_only Accepted is_report came is_status = absurd (cc)
+  refused_only (Hazards count) is_report came is_status = absurd (cc)
+  refused_only Usage is_report came is_status = absurd (cc)
+  refused_only (Missing name) is_report came is_status = absurd (cc)
+  refused_only (Unread name) is_report came is_status = absurd (cc)
+  refused_only (Limited limit) is_report came is_status = absurd (cc)
+  refused_only NoMemory is_report came is_status = absurd (cc)
+
+  usage_only : (report : Report) → IsReport call.told call.words reads call.before call.now report → answer ≡ status.Usage → answer ≡ status_of report → IsNoCheck call.words
+  usage_only Usage is_report came is_status = is_report
+  usage_only Accepted is_report came is_status = absurd (cc)
+  usage_only (Hazards count) is_report came is_status = absurd (cc)
+  usage_only (Refused refusal) is_report came is_status = absurd (cc)
+  usage_only Unbuilt is_report came is_status = absurd (cc)
+  usage_only (Missing name) is_report came is_status = absurd (cc)
+  usage_only (Unread name) is_report came is_status = absurd (cc)
+  usage_only (Limited limit) is_report came is_status = absurd (cc)
+  usage_only NoMemory is_report came is_status = absurd (cc)
+
+  -- words that are no command get the usage line
+  usage : (report : Report) → IsReport call.told call.words reads call.before call.now report → IsNoCheck call.words → answer ≡ status_of report → IsBut status.Usage answer
+  usage Usage is_report none is_status = inl is_status
+  usage NoMemory is_report none is_status = inr (inr is_status)
+  usage Accepted (names, is_check, is) none is_status = absurd (no_check call.words names none is_check)
+  usage (Hazards count) (names, is_check, is) none is_status = absurd (no_check call.words names none is_check)
+  usage (Refused refusal) (names, is_check, is) none is_status = absurd (no_check call.words names none is_check)
+  usage Unbuilt (names, is_check, is) none is_status = absurd (no_check call.words names none is_check)
+  usage (Missing name) (names, is_check, is) none is_status = absurd (no_check call.words names none is_check)
+  usage (Unread name) (names, is_check, is) none is_status = absurd (no_check call.words names none is_check)
+  usage (Limited limit) (names, is_check, is) none is_status = absurd (no_check call.words names none is_check)
+
+  unread_only : (report : Report) → IsReport call.told call.words reads call.before call.now report → answer ≡ status.Unread → answer ≡ status_of report → Checks call (AreUnread call)
+  unread_only (Missing name) (names, is_check, is) came is_status = (names, is_check, (name, inl is))
+  unread_only (Unread name) (names, is_check, is) came is_status = (names, is_check, (name, inr is))
+  unread_only Accepted is_report came is_status = absurd (cc)
+  unread_only (Hazards count) is_report came is_status = absurd (cc)
+  unread_only (Refused refusal) is_report came is_status = absurd (cc)
+  unread_only Unbuilt is_report came is_status = absurd (cc)
+  unread_only Usage is_report came is_status = absurd (cc)
+  unread_only (Limited limit) is_report came is_status = absurd (cc)
+  unread_only NoMemory is_report came is_status = absurd (cc)
+
+  limited_only : (report : Report) → IsReport call.told call.words reads call.before call.now report → answer ≡ status.Limited → answer ≡ status_of report → Checks call (ArePast call)
+  limited_only (Limited limit) (names, is_check, is) came is_status = (names, is_check, (limit, is))
+  limited_only Accepted is_report came is_status = absurd (cc)
+  limited_only (Hazards count) is_report came is_status = absurd (cc)
+  limited_only (Refused refusal) is_report came is_status = absurd (cc)
+  limited_only Unbuilt is_report came is_status = absurd (cc)
+  limited_only Usage is_report came is_status = absurd (cc)
+  limited_only (Missing name) is_report came is_status = absurd (cc)
+  limited_only (Unread name) is_report came is_status = absurd (cc)
+  limited_only NoMemory is_report came is_status = absurd (cc)
+
+  -- no report has the status of a write that failed
+  no_cut : (report : Report) → answer ≡ status.Unwritten → answer ≡ status_of report → ⊥
+  no_cut Accepted came is_status = absurd (cc)
+  no_cut (Hazards count) came is_status = absurd (cc)
+  no_cut (Refused refusal) came is_status = absurd (cc)
+  no_cut Unbuilt came is_status = absurd (cc)
+  no_cut Usage came is_status = absurd (cc)
+  no_cut (Missing name) came is_status = absurd (cc)
+  no_cut (Unread name) came is_status = absurd (cc)
+  no_cut (Limited limit) came is_status = absurd (cc)
+  no_cut NoMemory came is_status = absurd (cc)
+
+  -- where a status came that is not that of a write that failed, it is the report's
+  whole_put : (report : Report) (came : Status) → IsCause report answer call.old call.new → answer ≡ came → (came ≡ status.Unwritten → ⊥) → answer ≡ status_of report
+  whole_put report came (cut unwritten fault) is apart = absurd (apart (sym is ∙ unwritten))
+  whole_put report came (whole is_status) is apart = is_status
+
+  unwritten_only : (report : Report) → IsCause report answer call.old call.new → answer ≡ status.Unwritten → HasRisen call.old.faults call.new.faults
+  unwritten_only report (cut unwritten fault) came = fault
+  unwritten_only report (whole is_status) came = absurd (no_cut report came is_status)
+
+  -- each status has its cause
+  pub causes_by : (report : Report) → IsReport call.told call.words reads call.before call.now report → IsPutAs (text_of report) (status_of report) call.old call.new answer
+      → IsCause report answer call.old call.new → HasCauses call answer
+  causes_by report is_report put caused = record {
+    accepted = λ source tree asks spells counted. but report status.Done caused (judged report source tree 0 (agrees call (Ok source) asks reads report is_report) spells counted);
+    hazards_only = λ came. hazards_only report is_report put came (whole_put report status.Hazards caused came (λ is. absurd cc));
+    hazards = λ source tree count asks spells counted some. but report status.Hazards caused (λ is_status.
+        rw (above-zero count some) at (judged report source tree count (agrees call (Ok source) asks reads report is_report) spells counted is_status));
+    refused_only = λ came. refused_only report is_report came (whole_put report status.Refused caused came (λ is. absurd cc));
+    refused = λ error place asks placed. but report status.Refused caused (faulty report error place (agrees call (Err error) asks reads report is_report) placed);
+    unbuilt = λ source asks none. but report status.Refused caused (unbuilt report source (agrees call (Ok source) asks reads report is_report) none);
+    usage_only = λ came. usage_only report is_report came (whole_put report status.Usage caused came (λ is. absurd cc));
+    usage = λ none. but report status.Usage caused (usage report is_report none);
+    unread_only = λ came. unread_only report is_report came (whole_put report status.Unread caused came (λ is. absurd cc));
+    missing = λ name asks. but report status.Unread caused (missing report name (agrees call (Err (reading.Missing name)) asks reads report is_report));
+    limited_only = λ came. limited_only report is_report came (whole_put report status.Limited caused came (λ is. absurd cc));
+    limited = λ limit asks. but report status.Limited caused (past report limit (agrees call (Err (reading.Limit limit)) asks reads report is_report));
+    unwritten_only = unwritten_only report caused;
+  }
+
+-- a whole call
+pub headline_of : {F : Type 0} (leads : F → List ℕ → ℕ → F → Type 0) (first final : F) (call : Call) (answer : Status) → ((tree : Straight) → HasStaleUses tree 0 → IsSafe tree)
+    → IsAnswered leads first final call answer → Headline call answer
+headline_of leads first final call answer safe answered =
+    go (cause answered.report answer call.old call.new answered.is_put) where
+      go : IsCause answered.report answer call.old call.new → Headline call answer
+      go (cut unwritten fault) = λ done. absurd (cc)
+      go (whole is_status) = headline_by call answer answered.reads answered.report safe answered.is_report is_status
+
+pub causes_of : {F : Type 0} (leads : F → List ℕ → ℕ → F → Type 0) (first final : F) (call : Call) (answer : Status)
+    → IsAnswered leads first final call answer → HasCauses call answer
+causes_of leads first final call answer answered =
+    causes_by call answer answered.reads answered.report answered.is_report answered.is_put (cause answered.report answer call.old call.new answered.is_put)
+
+-- where the words are no command, nothing is read
+pub nothing_read : {F : Type 0} (leads : F → List ℕ → ℕ → F → Type 0) (first final : F) (call : Call) (answer : Status)
+    → IsAnswered leads first final call answer → IsNoCheck call.words → final ≡ first
+nothing_read leads first final call answer answered none = go answered.asked where
+  go : AreAsked call.told call.words answered.reads → final ≡ first
+  go (inl nothing) = subst (λ (reads : List (List ℕ)). Leads leads first reads final) nothing answered.leads_on
+  go (inr asked) = absurd (no_check call.words asked.0 none asked.1)

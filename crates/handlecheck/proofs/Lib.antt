@@ -1,3 +1,4 @@
+pub mod Answering
 pub mod Causes
-pub mod Verdict
-pub mod Words
+pub mod Outcomes
+pub mod Through

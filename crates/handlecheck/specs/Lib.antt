@@ -1,2 +1,5 @@
+pub mod Causes
+pub mod Faults
+pub mod Names
 pub mod Report
 pub mod Status

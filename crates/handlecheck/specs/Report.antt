@@ -2,22 +2,32 @@
 --     text_of report              the bytes of the report's line
 --     status_of report            its status
 --     IsReport ..                 what the report says is so
---     IsAnswered ..               the answer of a call: a report that is right, put whole, or cut by a write fault
-use Rattle.std.specs.Prelude.{◌≡◌, ℕ, ◌<◌, ◌≤◌, List, [], ◌∷◌, ◌++◌, length, codes, Option, Some, None, Result, Ok, Err, ◌⊎◌}
+--     IsReportOf ..               the report of what the reader of programs gives
+--     IsAnswered ..               what a call did: the files that it read, and a report that is right, put whole or cut by a
+--                                 write fault
+-- The causes of each status, and the headline, are in `Causes.antt`.
+use Rattle.std.specs.Prelude.{◌≡◌, ◌⊎◌, ℕ, ◌<◌, List, [], ◌∷◌, ◌++◌, codes, Option, Some, Result, Ok, Err, IfSome, IsSomeAnd, slice_get}
 use Rattle.std.specs.Fmt.{decimal}
-use Rattle.hs_base.specs.Count.{HasRisen, IsSteady}
-use Rattle.hs_base.specs.Files.{Listing, Counts, file_of}
-use Rattle.hs_base.specs.Limit.{word_of}
+use Rattle.hs_base.specs.Files.{Listing, Counts}
+use Rattle.hs_base.specs.Limit as limits
 use Rattle.hs_base.specs.Sink.{IsPut}
 use Rattle.hs_base.specs.declared.errors.Failed.{Failed}
-use Rattle.hs_base.specs.declared.limit.LimitKind.TheVariants.{FileBytes}
-use Rattle.hs_tree.specs.Straight.Grammar.{IsStraight}
+use Rattle.hs_base.specs.declared.pos.Pos.{Pos}
 use Rattle.hs_tree.specs.declared.straight.tree.Straight.{Straight}
-use Rattle.hs_meaning.specs.Straight.Run.{IsSafe}
 use Rattle.hs_meaning.specs.Straight.StaleUses.{HasStaleUses}
-use Rattle.hs_checker.specs.Source.{FileHas, most_bytes, IsTheTree, SpellsNone, IsMissing}
+use Rattle.hs_directives.specs.Reads.{Leads, AreFirstReads}
+use Rattle.hs_directives.specs.declared.error.ReadError.{ReadError}
+use Rattle.hs_directives.specs.declared.error.ReadError.TheVariants as reading
+use Rattle.hs_directives.specs.declared.source.Source.{Source}
+use Rattle.hs_words.specs.Words.{IsCheck, IsNoCheck}
+use Rattle.hs_checker.specs.Source.{IsTheProgram, SpellsNone, IsReadAs, IsRefusedAs, IsSource}
+use Rattle.hs_checker.specs.declared.source.SourceError.{SourceError}
+use Rattle.handlecheck.specs.Names.{Names}
+use Rattle.handlecheck.specs.Faults.{number_of, word_of, placed_by}
+use Rattle.handlecheck.specs.declared.fault.Fault.{Fault}
+use Rattle.handlecheck.specs.declared.report.Refusal.{Refusal}
 use Rattle.handlecheck.specs.declared.report.Report.{Report}
-use Rattle.handlecheck.specs.declared.report.Report.TheVariants.{Accepted, Hazards, Unbuilt, Usage, Missing, Unread, Limited, NoMemory}
+use Rattle.handlecheck.specs.declared.report.Report.TheVariants.{Accepted, Hazards, Refused, Unbuilt, Usage, Missing, Unread, Limited, NoMemory}
 use Rattle.handlecheck.specs.declared.status.Status.{Status}
 use Rattle.handlecheck.specs.declared.status.Status.TheVariants as status
 
@@ -25,21 +35,28 @@ use Rattle.handlecheck.specs.declared.status.Status.TheVariants as status
 abbrev pub line : List ℕ → List ℕ
 line text = text ++ 10 ∷ []
 
+-- a place, by the name of its file: `FILE:LINE:COLUMN`
+abbrev pub place_of : Refusal → List ℕ
+place_of refusal = refusal.file ++ 58 ∷ (decimal refusal.pos.line ++ 58 ∷ decimal refusal.pos.col)
+
 -- the line that is put for a report
 abbrev pub text_of : Report → List ℕ
 text_of Accepted = line (codes "accepted")
 text_of (Hazards count) = line (codes "hazards " ++ decimal count)
+text_of (Refused refusal) =
+    line (codes "error " ++ decimal (number_of refusal.fault) ++ 32 ∷ (word_of refusal.fault ++ codes " at " ++ place_of refusal))
 text_of Unbuilt = line (codes "error 24 Unbuilt")
 text_of Usage = line (codes "usage: handlecheck check|repair|run|gen [options] FILE...")
 text_of (Missing name) = line (codes "missing " ++ name)
 text_of (Unread name) = line (codes "unread " ++ name)
-text_of (Limited limit) = line (codes "limit " ++ word_of limit.kind ++ 32 ∷ decimal limit.reached)
+text_of (Limited limit) = line (codes "limit " ++ limits.word_of limit.kind ++ 32 ∷ decimal limit.reached)
 text_of NoMemory = line (codes "no memory")
 
 -- the status of a report that was put whole
 abbrev pub status_of : Report → Status
 status_of Accepted = status.Done
 status_of (Hazards count) = status.Hazards
+status_of (Refused refusal) = status.Refused
 status_of Unbuilt = status.Refused
 status_of Usage = status.Usage
 status_of (Missing name) = status.Unread
@@ -47,46 +64,75 @@ status_of (Unread name) = status.Unread
 status_of (Limited limit) = status.Limited
 status_of NoMemory = status.NoMemory
 
--- the words ask for the check of the named file
-abbrev pub IsCheck : List (List ℕ) → List ℕ → Type 0
-IsCheck words name = words ≡ codes "check" ∷ name ∷ []
+-- the named files are one straight program, which has n stale uses
+abbrev pub HasProgramOf : ℕ → Option Listing → List (List ℕ) → Type 0
+HasProgramOf n told names = (source : Source) × IsReadAs told names source × ((tree : Straight) × IsTheProgram source tree × HasStaleUses tree n)
 
--- the tree that the bytes spell has n stale uses
-abbrev pub HasTreeOf : ℕ → List ℕ → Type 0
-HasTreeOf n text = (length text ≤ most_bytes) × ((tree : Straight) × IsTheTree text tree × HasStaleUses tree n)
+-- the named files are read, and are no straight program
+abbrev pub AreUnbuilt : Option Listing → List (List ℕ) → Type 0
+AreUnbuilt told names = (source : Source) × IsReadAs told names source × SpellsNone source
 
--- the bytes spell no straight program
-abbrev pub IsUnbuilt : List ℕ → Type 0
-IsUnbuilt text = (length text ≤ most_bytes) × SpellsNone text
+-- Reading refuses with this fault at this place. The name is that of the file whose number the place has: its place, from 0,
+-- among the reads of the call.
+abbrev pub IsRefusalOf : Option Listing → List (List ℕ) → List (List ℕ) → Counts → Counts → Refusal → Type 0
+IsRefusalOf told names reads before now refusal =
+    (error : ReadError) × (placed_by error ≡ Some (refusal.fault, refusal.pos)) × IsRefusedAs told names before now error
+    × (slice_get reads refusal.pos.file ≡ Some refusal.file)
 
--- What a report says of the named file. The listing and the counts are those of the files: what is told, and how many
--- misses and faults there were before the call and are now.
-abbrev pub IsVerdict : Option Listing → List ℕ → Counts → Counts → Report → Type 0
--- the file is straight, and has no stale use
-IsVerdict told name before now Accepted = FileHas told name (HasTreeOf 0)
--- the file is straight, and has so many stale uses
-IsVerdict told name before now (Hazards count) = (0 < count) × FileHas told name (HasTreeOf count)
--- the file is not straight
-IsVerdict told name before now Unbuilt = FileHas told name IsUnbuilt
--- the file is missing
-IsVerdict told name before now (Missing missing) = (missing ≡ name) × IsMissing told name before now
--- the read of the file failed
-IsVerdict told name before now (Unread unread) = (unread ≡ name) × HasRisen before.faults now.faults
--- the file has too many bytes
-IsVerdict told name before now (Limited limit) = (limit ≡ record { kind = FileBytes; reached = most_bytes }) × FileHas told name (λ text. most_bytes < length text)
+-- What a report says of the named files. The listing and the counts are those of the files: what is told, and how many misses and
+-- faults there were before the call and are now. The reads are those of the call, in their order.
+abbrev pub IsVerdict : Option Listing → List (List ℕ) → List (List ℕ) → Counts → Counts → Report → Type 0
+-- they are one straight program, which has no stale use
+IsVerdict told names reads before now Accepted = HasProgramOf 0 told names
+-- they are one, which has so many stale uses
+IsVerdict told names reads before now (Hazards count) = (0 < count) × HasProgramOf count told names
+-- reading refuses them, at a place
+IsVerdict told names reads before now (Refused refusal) = IsRefusalOf told names reads before now refusal
+-- they are read, and are no straight program
+IsVerdict told names reads before now Unbuilt = AreUnbuilt told names
+-- a file that is asked for is missing
+IsVerdict told names reads before now (Missing name) = IsRefusedAs told names before now (reading.Missing name)
+-- the read of a file that is asked for failed
+IsVerdict told names reads before now (Unread name) = IsRefusedAs told names before now (reading.ReadFault name)
+-- a quantity passed its limit
+IsVerdict told names reads before now (Limited limit) = IsRefusedAs told names before now (reading.Limit limit)
 -- want of memory: the one free answer
-IsVerdict told name before now NoMemory = Unit {0}
--- no answer on a file
-IsVerdict told name before now Usage = ⊥
+IsVerdict told names reads before now NoMemory = Unit {0}
+-- no answer on files
+IsVerdict told names reads before now Usage = ⊥
 
--- the words have another form than `check FILE`
-abbrev pub IsNoCheck : List (List ℕ) → Type 0
-IsNoCheck words = (name : List ℕ) → IsCheck words name → ⊥
+-- the report is right: of the words, or of the files that they name
+abbrev pub IsReport : Option Listing → List (List ℕ) → List (List ℕ) → Counts → Counts → Report → Type 0
+IsReport told words reads before now Usage = IsNoCheck words
+IsReport told words reads before now NoMemory = Unit {0}
+IsReport told words reads before now report = (names : List (List ℕ)) × IsCheck words names × IsVerdict told names reads before now report
 
--- the report is right: of the words, or of the file that they name
-abbrev pub IsReport : Option Listing → List (List ℕ) → Counts → Counts → Report → Type 0
-IsReport told words before now Usage = IsNoCheck words
-IsReport told words before now report = (name : List ℕ) × IsCheck words name × IsVerdict told name before now report
+-- the names that were noted are these, where there was memory for them
+abbrev pub AreNoted : Names → List (List ℕ) → Type 0
+AreNoted noted reads = IfSome noted (λ names. names ≡ reads)
+
+-- a refusal with this fault at this place, in the file that has the place's number; or want of memory
+abbrev pub IsFaultAt : Names → Fault → Pos → Report → Type 0
+IsFaultAt noted fault pos (Refused refusal) =
+    (refusal.fault ≡ fault) × (refusal.pos ≡ pos) × IsSomeAnd noted (λ names. slice_get names pos.file ≡ Some refusal.file)
+IsFaultAt noted fault pos report = report ≡ NoMemory
+
+-- the report of a refusal that has no place
+abbrev pub unplaced : ReadError → Report
+unplaced (reading.Missing name) = Missing name
+unplaced (reading.ReadFault name) = Unread name
+unplaced (reading.Limit limit) = Limited limit
+unplaced _ = NoMemory
+
+-- what the reader of programs gives, as a report: what the one says of the files, the other says
+abbrev pub IsReportOf : Names → Result Straight SourceError → Report → Type 0
+IsReportOf noted result report =
+    (told : Option Listing) (names reads : List (List ℕ)) (before now : Counts) → AreNoted noted reads
+    → IsSource told names before now result → IsVerdict told names reads before now report
+
+-- nothing was read, or the files that the words name and their headers, each once, in the order of its number
+abbrev pub AreAsked : Option Listing → List (List ℕ) → List (List ℕ) → Type 0
+AreAsked told words reads = (reads ≡ []) ⊎ ((names : List (List ℕ)) × IsCheck words names × AreFirstReads told names reads)
 
 -- what is told of a sink, and its count of faults
 pub record Written : Type 0 where
@@ -104,6 +150,11 @@ pub record IsPutAs (text : List ℕ) (wanted : Status) (before now : Written) (a
   pub is_put : IsPut text before.bytes now.bytes before.faults now.faults put
   pub is_status : answer ≡ status_after wanted put
 
+-- the line of the report was put, or that of want of memory
+abbrev pub IsPutReport : Report → Written → Written → Status → Type 0
+IsPutReport report before now answer =
+    IsPutAs (text_of report) (status_of report) before now answer ⊎ IsPutAs (text_of NoMemory) status.NoMemory before now answer
+
 -- What a call is about: what the files tell, the words, the files' counts before it and after it, and the sink before it
 -- and after it.
 pub record Call : Type 0 where
@@ -114,73 +165,11 @@ pub record Call : Type 0 where
   pub old : Written
   pub new : Written
 
--- what a call did: a report that is right was put
-pub record IsAnswered (call : Call) (answer : Status) : Type 0 where
+-- what a call did: these reads led from the first files to the last, and a report that is right was put
+pub record IsAnswered {F : Type 0} (leads : F → List ℕ → ℕ → F → Type 0) (first last : F) (call : Call) (answer : Status) : Type 0 where
+  pub reads : List (List ℕ)
+  pub leads_on : Leads leads first reads last
+  pub asked : AreAsked call.told call.words reads
   pub report : Report
-  pub is_report : IsReport call.told call.words call.before call.now report
+  pub is_report : IsReport call.told call.words reads call.before call.now report
   pub is_put : IsPutAs (text_of report) (status_of report) call.old call.new answer
-
--- The words ask for the check of a file, the listing is told and says this of it, and no fault rose in the call.
-pub record Asks (call : Call) (text : Option (List ℕ)) : Type 0 where
-  pub files : Listing
-  pub name : List ℕ
-  pub is_told : call.told ≡ Some files
-  pub is_check : IsCheck call.words name
-  pub is_text : file_of files name ≡ text
-  pub is_steady : IsSteady call.before.faults call.now.faults
-
--- they ask for the check of a file of these bytes, that are not too many
-abbrev pub AsksText : Call → List ℕ → Type 0
-AsksText call text = Asks call (Some text) × (length text ≤ most_bytes)
-
--- the answer is this status, but for a write fault and for want of memory
-abbrev pub IsBut : Status → Status → Type 0
-IsBut wanted answer = (answer ≡ wanted) ⊎ (answer ≡ status.Unwritten) ⊎ (answer ≡ status.NoMemory)
-
--- the words ask for the check of a file, of which this holds
-abbrev pub Checks : Call → (List ℕ → Type 0) → Type 0
-Checks call P = (name : List ℕ) × IsCheck call.words name × P name
-
--- and where the listing is told the file is there and this holds of its bytes
-abbrev pub ChecksText : Call → (List ℕ → Type 0) → Type 0
-ChecksText call P = Checks call (λ name. FileHas call.told name P)
-
--- the bytes spell one straight program, and it is safe, for every input, number of turns and schedule of moves
-abbrev pub SpellsSafe : List ℕ → Type 0
-SpellsSafe text = (tree : Straight) × IsTheTree text tree × IsSafe tree
-
--- the headline: an accepted file is a straight program and safe
-abbrev pub Headline : Call → Status → Type 0
-Headline call answer = answer ≡ status.Done → ChecksText call SpellsSafe
-
--- the named file has stale uses, and their number was put
-abbrev pub IsRejectedFile : Call → List ℕ → Type 0
-IsRejectedFile call name =
-    (count : ℕ) × (0 < count) × FileHas call.told name (HasTreeOf count) × IsPutAs (text_of (Hazards count)) status.Hazards call.old call.new status.Hazards
-
--- the named file is missing, or its read failed
-abbrev pub IsUnreadFile : Call → List ℕ → Type 0
-IsUnreadFile call name = IsMissing call.told name call.before call.now ⊎ HasRisen call.before.faults call.now.faults
-
--- The causes of each status. A field with `only` in its name says what is so where the status came; its fellow says where
--- it must come, but for a write fault and want of memory.
-pub record HasCauses (call : Call) (answer : Status) : Type 0 where
-  -- Done
-  pub accepted : (text : List ℕ) (tree : Straight) → AsksText call text → IsStraight text tree → HasStaleUses tree 0 → IsBut status.Done answer
-  -- Hazards: a stale use exists, and the number that was put is their count
-  pub hazards_only : answer ≡ status.Hazards → Checks call (IsRejectedFile call)
-  pub hazards : (text : List ℕ) (tree : Straight) (count : ℕ) → AsksText call text → IsStraight text tree → HasStaleUses tree count → 0 < count → IsBut status.Hazards answer
-  -- Refused: the file is not straight
-  pub unbuilt_only : answer ≡ status.Refused → ChecksText call IsUnbuilt
-  pub unbuilt : (text : List ℕ) → AsksText call text → SpellsNone text → IsBut status.Refused answer
-  -- Usage: the words have another form than `check FILE`; no memory is wanted for it
-  pub usage_only : answer ≡ status.Usage → IsNoCheck call.words
-  pub usage : IsNoCheck call.words → (answer ≡ status.Usage) ⊎ (answer ≡ status.Unwritten)
-  -- Unread: the file is missing, or its read failed
-  pub unread_only : answer ≡ status.Unread → Checks call (IsUnreadFile call)
-  pub missing : Asks call None → IsBut status.Unread answer
-  -- Limited: the file has too many bytes
-  pub limited_only : answer ≡ status.Limited → ChecksText call (λ text. most_bytes < length text)
-  pub limited : (text : List ℕ) → Asks call (Some text) → most_bytes < length text → IsBut status.Limited answer
-  -- Unwritten: the sink failed
-  pub unwritten_only : answer ≡ status.Unwritten → HasRisen call.old.faults call.new.faults

@@ -1,17 +1,22 @@
 //! The program `handlecheck`.
 #![tactic(auto)]
 
+mod fault;
+mod file_names;
 mod host_files;
 mod host_sink;
+mod judge;
+mod named_files;
 mod report;
 mod run;
 mod status;
 #[cfg(test)]
 mod tests;
 
+pub use fault::Fault;
 pub use host_files::HostFiles;
 pub use host_sink::HostSink;
-pub use report::Report;
+pub use report::{Refusal, Report};
 pub use run::run;
 pub use status::Status;
 use std::env::Env;

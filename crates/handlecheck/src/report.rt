@@ -1,20 +1,33 @@
-ghost use Rattle.std.specs.Prelude.{◌≡◌, ◌∷◌, ◌++◌, IfOk};
-ghost use Rattle.handlecheck.specs.Report.{line, text_of, status_of};
+ghost use Rattle.std.specs.Prelude.{◌≡◌, ◌∷◌, ◌++◌, IfOk, codes};
+ghost use Rattle.std.specs.Fmt.{decimal};
+ghost use Rattle.handlecheck.specs.Faults.{number_of, word_of};
+ghost use Rattle.handlecheck.specs.Report.{line, place_of, text_of, status_of};
 
-use crate::Status;
-use hs_base::{Bytes, Limit};
+use crate::{Fault, Status};
+use hs_base::{Bytes, Limit, Pos};
 use std::alloc::{AllocError, Global};
+
+/// A fault of a source, and where it stands.
+#[derive(Debug, Drop)]
+pub struct Refusal {
+    pub fault: Fault,
+    /// The name of the file of the place.
+    pub file: Bytes,
+    pub pos: Pos,
+}
 
 /// What a call of the program answers. `specs/Report.antt` says what each one means, and what its line is.
 #[derive(Debug, Drop)]
 pub enum Report {
-    /// The file is straight and has no stale use.
+    /// The files are one straight program, which has no stale use.
     Accepted,
-    /// The file is straight and has so many stale uses.
+    /// They are one, which has so many stale uses.
     Hazards(u64),
-    /// The file is not straight.
+    /// Reading refuses the files, at a place.
+    Refused(Refusal),
+    /// The files are read, and are no straight program.
     Unbuilt,
-    /// The words have another form than `check FILE`.
+    /// The first word is no command, or the command refuses the words.
     Usage,
     /// There is no file of that name.
     Missing(Bytes),
@@ -42,6 +55,24 @@ fn named(alloc: Global, word: &str, name: &[u8]) -> Result<Vec<u8>, AllocError>
     Ok(text)
 }
 
+impl Refusal {
+    /// The line of the refusal.
+    fn text(&self, alloc: Global) -> Result<Vec<u8>, AllocError>
+        ensures { IfOk result (λ text. text.items ≡ line (codes "error " ++ decimal (number_of self.now.fault) ++ 32 ∷ (word_of self.now.fault ++ codes " at " ++ place_of self.now))) }
+    {
+        let number = self.fault.number();
+        let word = self.fault.word();
+        let line = self.pos.line;
+        let col = self.pos.col;
+        let front = format!(in alloc; "error {number} {word} at ")?;
+        let back = format!(in alloc; ":{line}:{col}\n")?;
+        let mut text = front.as_bytes().to_vec(alloc)?;
+        text.extend_from_slice(self.file.items())?;
+        text.extend_from_slice(back.as_bytes())?;
+        Ok(text)
+    }
+}
+
 impl Report {
     /// The status of the report.
     pub fn status(&self) -> Status
@@ -50,7 +81,7 @@ impl Report {
         match self {
             Report::Accepted => Status::Done,
             Report::Hazards(_) => Status::Hazards,
-            Report::Unbuilt => Status::Refused,
+            Report::Refused(_) | Report::Unbuilt => Status::Refused,
             Report::Usage => Status::Usage,
             Report::Missing(_) | Report::Unread(_) => Status::Unread,
             Report::Limited(_) => Status::Limited,
@@ -68,6 +99,7 @@ impl Report {
                 let digits = count.to_string(alloc)?;
                 named(alloc, "hazards", digits.as_bytes())
             }
+            Report::Refused(refusal) => refusal.text(alloc),
             Report::Unbuilt => b"error 24 Unbuilt\n".to_vec(alloc),
             Report::Usage => USAGE.as_bytes().to_vec(alloc),
             Report::Missing(name) => named(alloc, "missing", name.items()),

@@ -1,56 +1,17 @@
-ghost use Rattle.std.specs.Prelude.{◌≡◌, ℕ, List, [], ◌∷◌, map, length, IfNone, IfSome};
+ghost use Rattle.std.specs.Prelude.{◌≡◌, map, List, ℕ, Ok};
 ghost use Rattle.std.specs.String.{string_bytes};
 ghost use Rattle.hs_base.specs.Files.{NeverFall};
-ghost use Rattle.hs_checker.specs.Source.{most_bytes};
-ghost use Rattle.handlecheck.specs.Report.{IsCheck, IsNoCheck, IsVerdict, IsPutAs, text_of, IsAnswered, Headline, HasCauses};
+ghost use Rattle.hs_words.specs.Words.{IsCommand, IsNoCheck};
+ghost use Rattle.handlecheck.specs.Causes.{Headline, HasCauses};
+ghost use Rattle.handlecheck.specs.Report.{IsAnswered, IsPutAs, IsPutReport, text_of};
 
+use crate::judge::judge;
 use crate::report::{NO_MEMORY, USAGE};
 use crate::{Report, Status};
 use hs_base::{Files, Sink};
-use hs_checker::{SourceError, check, read_program};
 use hs_meaning::straight::safe_without_stale_uses;
+use hs_words::{Command, WordsError, command_of};
 use std::alloc::Global;
-
-/// The file names after the word `check`, where the words are that and one name.
-fn checked_roots(words: &[String]) -> Option<&[String]>
-    ensures none { IfNone result (IsNoCheck (map string_bytes words.now)) }
-    ensures one { IfSome result (λ roots. length roots.now ≡ 1) }
-    ensures some { IfSome result (λ roots. (name : List ℕ) × IsCheck (map string_bytes words.now) name × (map string_bytes roots.now ≡ name ∷ [])) }
-{
-    let (command, roots) = words.split_first()?;
-    if command.as_str() == "check" && roots.len() == 1 {
-        Some(roots)
-    } else {
-        None
-    }
-}
-
-/// What is to be said of the one named file.
-fn judge<F: Files>(alloc: Global, files: &mut F, roots: &[String]) -> Report
-    requires one_root { length roots.now ≡ 1 }
-    ensures listing_stays { F.listing files.new ≡ F.listing files.old }
-    ensures counts_stay_up { NeverFall (F.counts files.old) (F.counts files.new) }
-    ensures one_read { (name : List ℕ) → map string_bytes roots.now ≡ name ∷ [] → F.leads_to files.old name most_bytes files.new }
-    ensures means { (name : List ℕ) → map string_bytes roots.now ≡ name ∷ [] → IsVerdict (F.listing files.old) name (F.counts files.old) (F.counts files.new) result }
-{
-    match read_program(alloc, files, roots) {
-        Ok(straight) => match check(alloc, &straight) {
-            Ok(count) => {
-                if count == 0 {
-                    Report::Accepted
-                } else {
-                    Report::Hazards(count)
-                }
-            }
-            Err(_) => Report::NoMemory,
-        },
-        Err(SourceError::Missing(name)) => Report::Missing(name),
-        Err(SourceError::ReadFault(name)) => Report::Unread(name),
-        Err(SourceError::Limit(limit)) => Report::Limited(limit),
-        Err(SourceError::Unbuilt) => Report::Unbuilt,
-        Err(SourceError::NoMemory) => Report::NoMemory,
-    }
-}
 
 /// Puts the text. The answer is the status, or Unwritten where the put failed.
 fn put<O: Sink>(out: &mut O, text: &[u8], status: Status) -> Status
@@ -70,13 +31,56 @@ pub(crate) fn refuse_memory<O: Sink>(out: &mut O) -> Status
     put(out, NO_MEMORY.as_bytes(), Status::NoMemory)
 }
 
-/// The whole of a call: the words, the file, its verdict, and the line that is put.
+/// Puts the line of a report.
+fn put_report<O: Sink>(alloc: Global, out: &mut O, report: &Report) -> Status
+    ensures { IsPutReport report.now (record { bytes = O.written out.old; faults = O.faults out.old })
+        (record { bytes = O.written out.new; faults = O.faults out.new }) result }
+{
+    match report.text(alloc) {
+        Ok(text) => put(out, text.as_slice(), report.status()),
+        Err(_) => put(out, NO_MEMORY.as_bytes(), Status::NoMemory),
+    }
+}
+
+/// Does what a command asks for: judges the files that it names, and puts the line of the report.
+fn obey<F: Files, O: Sink>(alloc: Global, command: &Command, files: &mut F, out: &mut O) -> Status
+    ensures listing_stays { F.listing files.new ≡ F.listing files.old }
+    ensures counts_stay_up { NeverFall (F.counts files.old) (F.counts files.new) }
+    ensures answered { (words : List (List ℕ)) → IsCommand words (Ok command.now) → IsAnswered F.leads_to files.old files.new (record {
+      told = F.listing files.old;
+      words = words;
+      before = F.counts files.old;
+      now = F.counts files.new;
+      old = record { bytes = O.written out.old; faults = O.faults out.old };
+      new = record { bytes = O.written out.new; faults = O.faults out.new };
+    }) result }
+{
+    match command {
+        Command::Check(names) => {
+            let report = judge(alloc, files, names.as_slice());
+            put_report(alloc, out, &report)
+        }
+    }
+}
+
+/// Says why the words ask for nothing.
+fn refuse<O: Sink>(out: &mut O, error: WordsError) -> Status
+    ensures usage { error ≡ WordsError.Usage → IsPutAs (text_of Report.Usage) Status.Usage (record { bytes = O.written out.old; faults = O.faults out.old })
+        (record { bytes = O.written out.new; faults = O.faults out.new }) result }
+    ensures memory { error ≡ WordsError.NoMemory → IsPutAs (text_of Report.NoMemory) Status.NoMemory (record { bytes = O.written out.old; faults = O.faults out.old })
+        (record { bytes = O.written out.new; faults = O.faults out.new }) result }
+{
+    match error {
+        WordsError::Usage => put(out, USAGE.as_bytes(), Status::Usage),
+        WordsError::NoMemory => refuse_memory(out),
+    }
+}
+
+/// The whole of a call: the words, and what they ask for.
 fn answer<F: Files, O: Sink>(alloc: Global, words: &[String], files: &mut F, out: &mut O) -> Status
     ensures listing_stays { F.listing files.new ≡ F.listing files.old }
     ensures counts_stay_up { NeverFall (F.counts files.old) (F.counts files.new) }
-    ensures one_read { (name : List ℕ) → IsCheck (map string_bytes words.now) name → F.leads_to files.old name most_bytes files.new }
-    ensures no_read { IsNoCheck (map string_bytes words.now) → files.new ≡ files.old }
-    ensures answered { IsAnswered (record {
+    ensures answered { IsAnswered F.leads_to files.old files.new (record {
       told = F.listing files.old;
       words = map string_bytes words.now;
       before = F.counts files.old;
@@ -85,31 +89,27 @@ fn answer<F: Files, O: Sink>(alloc: Global, words: &[String], files: &mut F, out
       new = record { bytes = O.written out.new; faults = O.faults out.new };
     }) result }
 {
-    let Some(roots) = checked_roots(words) else {
-        return put(out, USAGE.as_bytes(), Status::Usage);
-    };
-    let report = judge(alloc, files, roots);
-    match report.text(alloc) {
-        Ok(text) => put(out, text.as_slice(), report.status()),
-        Err(_) => put(out, NO_MEMORY.as_bytes(), Status::NoMemory),
+    match command_of(alloc, words) {
+        Ok(command) => obey(alloc, &command, files, out),
+        Err(error) => refuse(out, error),
     }
 }
 
-/// Does all that the program does: reads the words, the file that they name, judges it, and puts one line.
+/// Does all that the program does: reads the words, the files that they name with their headers, judges them, and puts one line.
 ///
 /// The words are those after the program's name. The status says what the line says: `specs/Report.antt` has the meaning
-/// of each. Where the files tell their listing, the clauses speak of the bytes of the named file. Want of memory may come
-/// in place of any status but Usage, and a write fault in place of any.
+/// of each, and `specs/Causes.antt` when it comes. Where the files tell their listing, the clauses speak of the bytes of the
+/// files. Want of memory may come in place of any status, and a write fault too.
 pub fn run<F: Files, O: Sink>(alloc: Global, words: &[String], files: &mut F, out: &mut O) -> Status
     ensures listing_stays { F.listing files.new ≡ F.listing files.old }
     ensures counts_stay_up { NeverFall (F.counts files.old) (F.counts files.new) }
 
-    // The named file is read, once, and no other.
-    ensures one_read { (name : List ℕ) → IsCheck (map string_bytes words.now) name → F.leads_to files.old name most_bytes files.new }
+    // Where the words are no command, no file is read.
     ensures no_read { IsNoCheck (map string_bytes words.now) → files.new ≡ files.old }
 
-    // A report that is right was put, whole, or with Unwritten a front of it.
-    ensures answered { IsAnswered (record {
+    // The files that the words name and their headers were read, each once, in the order of its number, and no other; and a
+    // report that is right was put, whole, or with Unwritten a front of it.
+    ensures answered { IsAnswered F.leads_to files.old files.new (record {
       told = F.listing files.old;
       words = map string_bytes words.now;
       before = F.counts files.old;

@@ -1,6 +1,6 @@
 use crate::{HostFiles, HostSink, Status, run};
 use hs_base::{FileEnd, Files, MemFiles, MemSink, Sink};
-use std::alloc::{AllocError, Global};
+use std::alloc::Global;
 use std::io::Write;
 use std::test::Fail;
 use std::{env, fs, io};
@@ -8,182 +8,339 @@ use std::{env, fs, io};
 const PRELUDE: &str =
     "char **NewHandle(long n); void HLock(char **h);\nvoid HUnlock(char **h); int putchar(int c);\n";
 
-/// What a call came to: its status, and what it wrote.
+/// Listed files, with the reads and the puts that fail, and the room for what is written.
 #[derive(Drop)]
-struct Outcome {
-    code: u8,
-    written: Vec<u8>,
-}
-
-/// A `check` of one listed file, with reads that fail, a room for the answer, and puts that fail.
-fn check_of(
-    alloc: Global,
-    word: &str,
-    text: &[u8],
+struct Outside {
+    listing: Vec<(String, Vec<u8>)>,
     failing_reads: Vec<u64>,
-    room: usize,
     failing_puts: Vec<u64>,
-) -> Result<Outcome, AllocError> {
-    let words = vec![in alloc; "check".to_string(alloc)?, word.to_string(alloc)?]?;
-    let listing = vec![in alloc; ("s.c".to_string(alloc)?, text.to_vec(alloc)?)]?;
-    let mut files = MemFiles::new(listing, failing_reads);
-    let Ok(mut out) = MemSink::new(alloc, room, failing_puts) else {
-        return Err(AllocError);
-    };
-    let status = run(alloc, words.as_slice(), &mut files, &mut out);
-    Ok(Outcome {
-        code: status.code(),
-        written: out.written().to_vec(alloc)?,
-    })
+    room: usize,
 }
 
-/// A `check` of `s.c` with ample room and no faults.
-fn plain_check(alloc: Global, text: &[u8]) -> Result<Outcome, AllocError> {
-    check_of(alloc, "s.c", text, Vec::new(alloc), 100, Vec::new(alloc))
+impl Outside {
+    /// No files, no faults, and ample room.
+    fn new(alloc: Global) -> Outside {
+        Outside {
+            listing: Vec::new(alloc),
+            failing_reads: Vec::new(alloc),
+            failing_puts: Vec::new(alloc),
+            room: 200,
+        }
+    }
+
+    /// Lists one more file.
+    fn list(&mut self, alloc: Global, name: &str, text: &str) -> Result<(), Fail> {
+        self.listing
+            .push((name.to_string(alloc)?, text.as_bytes().to_vec(alloc)?))?;
+        Ok(())
+    }
+
+    /// What a call with these words, which have bars between them, ends with and writes: its status and its text.
+    fn answer(self, alloc: Global, words: &str) -> Result<String, Fail> {
+        let mut given = Vec::new(alloc);
+        for word in words.split('|') {
+            given.push(word.to_string(alloc)?)?;
+        }
+        let mut files = MemFiles::new(self.listing, self.failing_reads);
+        let mut out = MemSink::new(alloc, self.room, self.failing_puts)?;
+        let code = run(alloc, given.as_slice(), &mut files, &mut out).code();
+        let written = String::from_utf8(out.written().to_vec(alloc)?)?;
+        Ok(format!(in alloc; "{code} {written}")?)
+    }
 }
 
-// The worked rows of straight files: `main` with these steps, after declarations of h, g and p.
+/// The answer on one file of this text.
+fn check_text(alloc: Global, text: &str) -> Result<String, Fail> {
+    let mut outside = Outside::new(alloc);
+    outside.list(alloc, "main.c", text)?;
+    outside.answer(alloc, "check|main.c")
+}
+
+/// The answer on a program whose prelude, declarations and steps stand in headers.
+fn check_split(alloc: Global, steps: &str) -> Result<String, Fail> {
+    let mut outside = Outside::new(alloc);
+    outside.list(alloc, "prelude.h", PRELUDE)?;
+    outside.list(alloc, "steps.h", steps)?;
+    let main =
+        "#include <prelude.h>\nint main(void) {\nchar **h; char **g; char *p;\n#include \"steps.h\"\nreturn 0; }";
+    outside.list(alloc, "main.c", main)?;
+    outside.answer(alloc, "check|main.c")
+}
+
+/// The answer on a program whose steps come out of macros.
+fn check_macros(alloc: Global, steps: &str) -> Result<String, Fail> {
+    let text = format!(in alloc;
+        "{PRELUDE}#define STEPS {steps}\n#define BODY(steps) {{ char **h; char **g; char *p; steps return 0; }}\nint main(void) BODY(STEPS)\n"
+    )?;
+    check_text(alloc, text.as_str())
+}
+
+// The worked rows of straight programs: `main` with these steps, after declarations of h, g and p. A program that is split over
+// headers or comes out of macros is answered as the plain one is.
 #[test]
-fn straight_files_are_accepted_or_their_stale_uses_counted(rt: HostRuntime) -> Result<(), Fail> {
+fn straight_programs_are_accepted_or_their_stale_uses_counted(rt: HostRuntime) -> Result<(), Fail> {
     let alloc = rt.alloc();
-    let rows: [(&str, u8, &[u8]); 9] = [
+    let rows = [
         (
             "h = NewHandle(4); p = *h; g = NewHandle(4); putchar(*p);",
-            1,
-            b"hazards 1\n",
+            "1 hazards 1\n",
         ),
         (
             "h = NewHandle(4); p = *h; *p = 65; g = NewHandle(4); putchar(*p);",
-            1,
-            b"hazards 1\n",
+            "1 hazards 1\n",
         ),
         (
             "h = NewHandle(4); HLock(h); p = *h; *p = 65; g = NewHandle(4); putchar(*p);",
-            0,
-            b"accepted\n",
+            "0 accepted\n",
         ),
         (
             "h = NewHandle(4); HLock(h); p = *h; *p = 65; g = NewHandle(4); HUnlock(h); putchar(*p);",
-            0,
-            b"accepted\n",
+            "0 accepted\n",
         ),
         (
             "h = NewHandle(4); HLock(h); p = *h; h = NewHandle(4); HLock(h); g = NewHandle(4); putchar(*p);",
-            1,
-            b"hazards 1\n",
+            "1 hazards 1\n",
         ),
         // The lock is one attribute and no count.
         (
             "h = NewHandle(4); HLock(h); HLock(h); p = *h; HUnlock(h); g = NewHandle(4); putchar(*p);",
-            1,
-            b"hazards 1\n",
+            "1 hazards 1\n",
         ),
         // A store through a stale pointer is a use, and a use does not make the pointer good again.
         (
             "h = NewHandle(4); p = *h; g = NewHandle(4); *p = *p; putchar(*p);",
-            1,
-            b"hazards 3\n",
+            "1 hazards 3\n",
         ),
         (
             "h = NewHandle(4); p = *h; g = NewHandle(4); p = *h; putchar(*p);",
-            0,
-            b"accepted\n",
+            "0 accepted\n",
         ),
-        ("", 0, b"accepted\n"),
+        ("", "0 accepted\n"),
     ];
-    for (steps, code, line) in rows {
+    for (steps, line) in rows {
         let text = format!(in alloc;
             "{PRELUDE}int main(void) {{ char **h; char **g; char *p; {steps} return 0; }}\n"
         )?;
-        let outcome = plain_check(alloc, text.as_bytes())?;
-        assert_eq!(rt; outcome.code, code, "{steps}");
-        assert!(rt; outcome.written.as_slice() == line, "{steps}");
+        assert_eq!(rt; check_text(alloc, text.as_str())?.as_str(), line, "{steps}");
+        assert_eq!(rt; check_split(alloc, steps)?.as_str(), line, "{steps}");
+        assert_eq!(rt; check_macros(alloc, steps)?.as_str(), line, "{steps}");
     }
     Ok(())
 }
 
-// Any bytes at all are a file, and one that is not straight has one answer.
+// What is read and is no straight program has one answer.
 #[test]
-fn other_files_are_unbuilt(rt: HostRuntime) -> Result<(), Fail> {
+fn other_programs_are_unbuilt(rt: HostRuntime) -> Result<(), Fail> {
     let alloc = rt.alloc();
-    let texts: [&[u8]; 7] = [
-        b"",
-        b"\0",
-        b"\xff\xfe\x80",
-        b"int main(void) { return 0; }",
-        b"char **NewHand",
-        b"char **NewHandle(long n); void HLock(char **h); void HUnlock(char **h); int putchar(int c); int main(void) { return 0;",
-        b"char **NewHandle(long n); void HLock(char **h); void HUnlock(char **h); int putchar(int c); int main(void) { return 0; }\0",
+    let texts = [
+        "",
+        "int main(void) { return 0; }",
+        "char **NewHand",
+        "char **NewHandle(long n); void HLock(char **h); void HUnlock(char **h); int putchar(int c); int main(void) { return 0;",
+        "char **NewHandle(long n); void HLock(char **h); void HUnlock(char **h); int putchar(int c); int main(void) { return 0; };",
     ];
     for text in texts {
-        let outcome = plain_check(alloc, text)?;
-        assert_eq!(rt; outcome.code, 2);
-        assert!(rt; outcome.written.as_slice() == b"error 24 Unbuilt\n".as_slice());
+        assert_eq!(rt; check_text(alloc, text)?.as_str(), "2 error 24 Unbuilt\n");
     }
     Ok(())
 }
 
-// Only `check` and one name are a command.
+// Each refusal of reading has its number, its word and its place, and the earlier place comes first.
 #[test]
-fn other_words_get_the_usage_line(rt: HostRuntime) -> Result<(), Fail> {
+fn refusals_of_reading_have_their_places(rt: HostRuntime) -> Result<(), Fail> {
     let alloc = rt.alloc();
-    let cases: [&[&str]; 7] = [
-        &[],
-        &[""],
-        &["check"],
-        &["s.c"],
-        &["Check", "s.c"],
-        &["repair", "s.c"],
-        &["check", "s.c", "s.c"],
+    let rows = [
+        ("int x = @;", "2 error 1 BadByte at main.c:1:9\n"),
+        ("\n/* x", "2 error 2 OpenComment at main.c:2:1\n"),
+        (
+            "char *s = \"x\n\";",
+            "2 error 3 OpenString at main.c:1:11\n",
+        ),
+        ("#define f(x\n", "2 error 4 BadMacro at main.c:1:1\n"),
+        (
+            "#define f(a) a\n  f(1, 2)",
+            "2 error 5 ArgCount at main.c:2:3\n",
+        ),
+        ("\n #error x\n@", "2 error 1 BadByte at main.c:3:1\n"),
+        (" #error x\n", "2 error 6 BadDirective at main.c:1:2\n"),
+        ("#if 1\n#if 2\n", "2 error 7 OpenIf at main.c:1:1\n"),
+        (
+            "\n#include \"main.c\"",
+            "2 error 8 IncludeDepth at main.c:2:1\n",
+        ),
+        ("#if 1 +\n#endif", "2 error 9 BadCondition at main.c:1:1\n"),
+        (
+            "#error x\n#if 1 +\n",
+            "2 error 6 BadDirective at main.c:1:1\n",
+        ),
+        (
+            "#if 1 +\n#endif\n#error x",
+            "2 error 9 BadCondition at main.c:1:1\n",
+        ),
     ];
-    for case in cases {
-        let mut words = Vec::new(alloc);
-        for word in case {
-            words.push(word.to_string(alloc)?)?;
-        }
-        let listing = vec![in alloc; ("s.c".to_string(alloc)?, Vec::new(alloc))]?;
-        let mut files = MemFiles::new(listing, Vec::new(alloc));
-        let mut out = MemSink::new(alloc, 100, Vec::new(alloc))?;
+    for (text, line) in rows {
+        assert_eq!(rt; check_text(alloc, text)?.as_str(), line);
+    }
+    Ok(())
+}
+
+/// Two units with headers of their own, of which this one has that text.
+fn units(alloc: Global, name: &str, text: &str) -> Result<Outside, Fail> {
+    let mut outside = Outside::new(alloc);
+    outside.list(alloc, name, text)?;
+    outside.list(alloc, "a.c", "#include \"a.h\"\n#include \"b.h\"\n")?;
+    outside.list(alloc, "b.c", "#include <b.h>\n#include <c.h>\n")?;
+    outside.list(alloc, "a.h", "int a;")?;
+    outside.list(alloc, "b.h", "int b;")?;
+    outside.list(alloc, "c.h", "int c;")?;
+    Ok(outside)
+}
+
+// A refusal names the file that it stands in, whichever it is of many; two units are no straight program.
+#[test]
+fn a_refusal_names_its_file(rt: HostRuntime) -> Result<(), Fail> {
+    let alloc = rt.alloc();
+    let rows = [
+        ("d.h", "@", "2 error 24 Unbuilt\n"),
+        ("a.h", "@", "2 error 1 BadByte at a.h:1:1\n"),
+        ("b.h", "int\n @", "2 error 1 BadByte at b.h:2:2\n"),
+        ("c.h", "#endif", "2 error 6 BadDirective at c.h:1:1\n"),
+        ("b.c", "\n/*", "2 error 2 OpenComment at b.c:2:1\n"),
+    ];
+    for (name, text, line) in rows {
+        let outside = units(alloc, name, text)?;
         assert_eq!(rt;
-            run(alloc, words.as_slice(), &mut files, &mut out),
-            Status::Usage
-        );
-        assert!(rt;
-            out.written()
-                == b"usage: handlecheck check|repair|run|gen [options] FILE...\n".as_slice()
+            outside.answer(alloc, "check|a.c|b.c")?.as_str(),
+            line,
+            "{name}"
         );
     }
     Ok(())
 }
 
-// A file that is not listed is missing, also one whose name is empty; one whose read fails is unread.
+// A header that is not listed is missing; one whose read fails is unread. The reads are those of a.c, a.h, b.h, b.c and c.h.
 #[test]
 fn files_that_give_no_bytes_are_named(rt: HostRuntime) -> Result<(), Fail> {
     let alloc = rt.alloc();
-    let missing = check_of(alloc, "t.c", b"", Vec::new(alloc), 100, Vec::new(alloc))?;
-    assert_eq!(rt; missing.code, 4);
-    assert!(rt; missing.written.as_slice() == b"missing t.c\n".as_slice());
-    let nameless = check_of(alloc, "", b"", Vec::new(alloc), 100, Vec::new(alloc))?;
-    assert_eq!(rt; nameless.code, 4);
-    assert!(rt; nameless.written.as_slice() == b"missing \n".as_slice());
-    let unread = check_of(alloc, "s.c", b"", vec![in alloc; 1]?, 100, Vec::new(alloc))?;
-    assert_eq!(rt; unread.code, 4);
-    assert!(rt; unread.written.as_slice() == b"unread s.c\n".as_slice());
+    let mut outside = units(alloc, "d.h", "")?;
+    outside.failing_reads = vec![in alloc; 5]?;
+    assert_eq!(rt;
+        outside.answer(alloc, "check|a.c|b.c")?.as_str(),
+        "4 unread c.h\n"
+    );
+    let mut outside = units(alloc, "d.h", "")?;
+    outside.failing_reads = vec![in alloc; 6]?;
+    assert_eq!(rt;
+        outside.answer(alloc, "check|a.c|b.c")?.as_str(),
+        "2 error 24 Unbuilt\n"
+    );
+    let outside = units(alloc, "a.h", "#include \"x.h\"")?;
+    assert_eq!(rt;
+        outside.answer(alloc, "check|a.c")?.as_str(),
+        "4 missing x.h\n"
+    );
+    let outside = units(alloc, "d.h", "")?;
+    assert_eq!(rt;
+        outside.answer(alloc, "check|a.c|")?.as_str(),
+        "4 missing \n"
+    );
     Ok(())
 }
 
-// 4194304 bytes are read, and one more is the limit's refusal.
+// What `clap` takes are names, also behind `--`; other words get the usage line, as a request for help does.
 #[test]
-fn a_file_may_have_4194304_bytes(rt: HostRuntime) -> Result<(), Fail> {
+fn words_are_read_by_clap(rt: HostRuntime) -> Result<(), Fail> {
     let alloc = rt.alloc();
-    let mut text = vec![in alloc; b' '; 4_194_304]?;
-    let read = plain_check(alloc, text.as_slice())?;
-    assert_eq!(rt; read.code, 2);
-    assert!(rt; read.written.as_slice() == b"error 24 Unbuilt\n".as_slice());
-    text.push(b' ')?;
-    let limited = plain_check(alloc, text.as_slice())?;
-    assert_eq!(rt; limited.code, 7);
-    assert!(rt; limited.written.as_slice() == b"limit FileBytes 4194304\n".as_slice());
+    let mut outside = Outside::new(alloc);
+    outside.list(alloc, "-main.c", "@")?;
+    assert_eq!(rt;
+        outside.answer(alloc, "check|--|-main.c")?.as_str(),
+        "2 error 1 BadByte at -main.c:1:1\n"
+    );
+    for words in [
+        "",
+        "check",
+        "main.c",
+        "Check|main.c",
+        "repair|main.c",
+        "check|--help",
+        "check|main.c|-h",
+        "check|--table|t.toml|main.c",
+        "check|-main.c",
+    ] {
+        let outside = Outside::new(alloc);
+        assert_eq!(rt;
+            outside.answer(alloc, words)?.as_str(),
+            "3 usage: handlecheck check|repair|run|gen [options] FILE...\n",
+            "{words}"
+        );
+    }
+    Ok(())
+}
+
+/// So many copies of a text, one after another.
+fn copies(alloc: Global, text: &str, count: usize) -> Result<String, Fail> {
+    let mut all = String::new(alloc);
+    for _ in 0..count {
+        all.push_str(text)?;
+    }
+    Ok(all)
+}
+
+// 4194304 bytes are read, and one more is the limit's refusal; likewise 4000000 tokens of files, and 1000000 replacements.
+#[test]
+fn limits_of_one_file(rt: HostRuntime) -> Result<(), Fail> {
+    let alloc = rt.alloc();
+    let rows = [
+        ("", " ", 4_194_304, "2 error 24 Unbuilt\n"),
+        ("", " ", 4_194_305, "7 limit FileBytes 4194304\n"),
+        ("", ";", 4_000_000, "2 error 24 Unbuilt\n"),
+        ("", ";", 4_000_001, "7 limit Scanned 4000000\n"),
+        ("#define a\n", "a ", 1_000_000, "2 error 24 Unbuilt\n"),
+        (
+            "#define a\n",
+            "a ",
+            1_000_001,
+            "7 limit Replacements 1000000\n",
+        ),
+    ];
+    for (front, text, count, line) in rows {
+        let mut whole = front.to_string(alloc)?;
+        whole.push_str(copies(alloc, text, count)?.as_str())?;
+        assert_eq!(rt;
+            check_text(alloc, whole.as_str())?.as_str(),
+            line,
+            "{count}"
+        );
+    }
+    Ok(())
+}
+
+// A header of 2000000 tokens is included twice and not three times; 256 files are read and no 257th.
+#[test]
+fn limits_of_many_files(rt: HostRuntime) -> Result<(), Fail> {
+    let alloc = rt.alloc();
+    for (count, line) in [(2, "2 error 24 Unbuilt\n"), (3, "7 limit Tokens 4000000\n")] {
+        let mut outside = Outside::new(alloc);
+        outside.list(alloc, "large.h", copies(alloc, ";", 2_000_000)?.as_str())?;
+        outside.list(
+            alloc,
+            "main.c",
+            copies(alloc, "#include <large.h>\n", count)?.as_str(),
+        )?;
+        assert_eq!(rt; outside.answer(alloc, "check|main.c")?.as_str(), line);
+    }
+    for (count, line) in [(255, "2 error 24 Unbuilt\n"), (256, "7 limit Files 256\n")] {
+        let mut outside = Outside::new(alloc);
+        let mut main = String::new(alloc);
+        for number in 0..count {
+            let name = format!(in alloc; "{number}.h")?;
+            outside.list(alloc, name.as_str(), "")?;
+            main.push_str(format!(in alloc; "#include \"{number}.h\"\n")?.as_str())?;
+        }
+        outside.list(alloc, "main.c", main.as_str())?;
+        assert_eq!(rt; outside.answer(alloc, "check|main.c")?.as_str(), line);
+    }
     Ok(())
 }
 
@@ -191,12 +348,20 @@ fn a_file_may_have_4194304_bytes(rt: HostRuntime) -> Result<(), Fail> {
 #[test]
 fn a_write_fault_leaves_a_front_of_the_line(rt: HostRuntime) -> Result<(), Fail> {
     let alloc = rt.alloc();
-    let short = check_of(alloc, "s.c", b"", Vec::new(alloc), 7, Vec::new(alloc))?;
-    assert_eq!(rt; short.code, 5);
-    assert!(rt; short.written.as_slice() == b"error 2".as_slice());
-    let failing = check_of(alloc, "s.c", b"", Vec::new(alloc), 100, vec![in alloc; 1]?)?;
-    assert_eq!(rt; failing.code, 5);
-    assert!(rt; failing.written.as_slice() == b"error 24".as_slice());
+    let mut outside = Outside::new(alloc);
+    outside.list(alloc, "main.c", "")?;
+    outside.room = 7;
+    assert_eq!(rt;
+        outside.answer(alloc, "check|main.c")?.as_str(),
+        "5 error 2"
+    );
+    let mut outside = Outside::new(alloc);
+    outside.list(alloc, "main.c", "/*")?;
+    outside.failing_puts = vec![in alloc; 1]?;
+    assert_eq!(rt;
+        outside.answer(alloc, "check|main.c")?.as_str(),
+        "5 error 2 OpenComme"
+    );
     Ok(())
 }
 

@@ -3,42 +3,42 @@ use Rattle.std.proofs.Common.{◌≡◌, ℕ, true, false, not, cond, List, [], 
 use Rattle.std.specs.Prelude.{codes}
 use Rattle.std.proofs.lemmas.Bool.{and_parts}
 use Rattle.std.proofs.lemmas.Option.{cond_some}
-use Rattle.hs_tree.specs.declared.straight.token.Token.{Token}
+use Rattle.hs_tokens.specs.declared.token.SourceToken.{SourceToken}
 use Rattle.hs_tree.specs.declared.straight.tree.Kind.{Kind}
 use Rattle.hs_tree.specs.declared.straight.tree.Kind.TheVariants.{Handle, Pointer, Letter}
 use Rattle.hs_tree.specs.declared.straight.tree.Variable.{Variable}
 use Rattle.hs_tree.specs.Straight.Names.{is_name}
 use Rattle.hs_tree.specs.Straight.Fine.{is_taken, is_fine_name}
-use Rattle.hs_tree.specs.Straight.Grammar.{Piece, word, stars_of, declaration_spelling, ended, Spells}
+use Rattle.hs_checker.specs.Straight.Grammar.{Piece, word, stars_of, declaration_spelling, ended, Spells}
 use Rattle.hs_checker.specs.Straight.Reading.{◌>>=◌, first_at, mark_at, is_at, second_star_at, kind_at, declaration_at}
-use Rattle.hs_checker.proofs.Marks.{bind_some, some_is, chosen, first_is, first_again, word_takes, word_again, at_first}
+use Rattle.hs_checker.proofs.Marks.{bind_some, some_is, chosen, first_takes, first_again, word_takes, word_again, at_first}
 use Rattle.hs_checker.proofs.Names.{not_text}
 
 -- the stars are those of the kind
-abbrev IsKind : List Token → (Kind × List Token) → Type 0
+abbrev IsKind : List SourceToken → (Kind × List SourceToken) → Type 0
 IsKind tokens x = (pieces : List Piece) → Spells pieces x.1 → Spells (stars_of x.0 ++ pieces) tokens
 
 -- one star was read before
-abbrev IsSecond : List Token → (Kind × List Token) → Type 0
-IsSecond tokens x = (pieces : List Piece) (before : List Token) → Spells pieces x.1
+abbrev IsSecond : List SourceToken → (Kind × List SourceToken) → Type 0
+IsSecond tokens x = (pieces : List Piece) (before : List SourceToken) → Spells pieces x.1
     → ((behind : List Piece) → Spells behind tokens → Spells (word (codes "*") ∷ behind) before) → Spells (stars_of x.0 ++ pieces) before
 
-second_takes : (tokens : List Token) (x : Kind × List Token) → second_star_at tokens ≡ Some x → IsSecond tokens x
+second_takes : (tokens : List SourceToken) (x : Kind × List SourceToken) → second_star_at tokens ≡ Some x → IsSecond tokens x
 unfolding second_star_at
 second_takes tokens x e =
     elim (chosen (is_at (codes "*") tokens) (mark_at (codes "*") tokens >>= λ star. Some (Handle, star.1)) (Some (Pointer, tokens)) (Some x) e) [
       | inl two ↦
           let a = bind_some (mark_at (codes "*") tokens) (λ star. Some (Handle, star.1)) x two.1 in
-          let made : Kind × List Token = (Handle, a.0.1) in
+          let made : Kind × List SourceToken = (Handle, a.0.1) in
           let taken : IsSecond tokens made = λ pieces before s first. first (word (codes "*") ∷ pieces) (word_takes (codes "*") tokens a.0 pieces a.1 s) in
           subst (IsSecond tokens) (some_is made x a.2) taken
       | inr one ↦
-          let made : Kind × List Token = (Pointer, tokens) in
+          let made : Kind × List SourceToken = (Pointer, tokens) in
           let taken : IsSecond tokens made = λ pieces before s first. first pieces s in
           subst (IsSecond tokens) (some_is made x one.1) taken
     ]
 
-kind_takes : (tokens : List Token) (x : Kind × List Token) → kind_at tokens ≡ Some x → IsKind tokens x
+kind_takes : (tokens : List SourceToken) (x : Kind × List SourceToken) → kind_at tokens ≡ Some x → IsKind tokens x
 unfolding kind_at
 kind_takes tokens x e =
     elim (chosen (is_at (codes "*") tokens) (mark_at (codes "*") tokens >>= λ star. second_star_at star.1) (Some (Letter, tokens)) (Some x) e) [
@@ -46,7 +46,7 @@ kind_takes tokens x e =
           let a = bind_some (mark_at (codes "*") tokens) (λ star. second_star_at star.1) x some.1 in
           λ pieces s. second_takes a.0.1 x a.2 pieces tokens s (λ behind spelled. word_takes (codes "*") tokens a.0 behind a.1 spelled)
       | inr other ↦
-          let made : Kind × List Token = (Letter, tokens) in
+          let made : Kind × List SourceToken = (Letter, tokens) in
           let taken : IsKind tokens made = λ pieces s. s in
           subst (IsKind tokens) (some_is made x other.1) taken
     ]
@@ -59,12 +59,12 @@ grouped Pointer name mark pieces = refl
 grouped Letter name mark pieces = refl
 
 -- a declaration is spelled so, with its semicolon, and its name may follow those before it
-pub record IsDeclaration (earlier : List Variable) (tokens : List Token) (x : Variable × List Token) : Type 0 where
+pub record IsDeclaration (earlier : List Variable) (tokens : List SourceToken) (x : Variable × List SourceToken) : Type 0 where
   pub fine : is_fine_name earlier x.0.name ≡ true
   pub spelled : (pieces : List Piece) → Spells pieces x.1 → Spells (ended (declaration_spelling x.0) ++ pieces) tokens
 
 -- a declaration that is read is spelled so
-pub declaration_takes : (earlier : List Variable) (tokens : List Token) (x : Variable × List Token) → declaration_at earlier tokens ≡ Some x
+pub declaration_takes : (earlier : List Variable) (tokens : List SourceToken) (x : Variable × List SourceToken) → declaration_at earlier tokens ≡ Some x
     → IsDeclaration earlier tokens x
 unfolding declaration_at
 declaration_takes earlier tokens x e =
@@ -77,14 +77,13 @@ declaration_takes earlier tokens x e =
     (Some (record { kind = b.0.0; name = name.0.text }, mark.1)) None) x b.2 in
     let f = bind_some (mark_at (codes ";") d.0.1)
     (λ mark. cond (is_fine_name earlier d.0.0.text) (Some (record { kind = b.0.0; name = d.0.0.text }, mark.1)) None) x d.2 in
-    let made : Variable × List Token = (record { kind = b.0.0; name = d.0.0.text }, f.0.1) in
+    let made : Variable × List SourceToken = (record { kind = b.0.0; name = d.0.0.text }, f.0.1) in
     let test = cond_some (is_fine_name earlier d.0.0.text) made x f.2 in
     let taken : IsDeclaration earlier tokens made = record {
       fine = test.0;
       spelled = λ pieces s.
           let name : Spells (word d.0.0.text ∷ word (codes ";") ∷ pieces) b.0.1 =
-          subst (λ (t : List Token). Spells (word d.0.0.text ∷ word (codes ";") ∷ pieces) t) (sym (first_is b.0.1 d.0 d.1))
-          (refl, tt, word_takes (codes ";") d.0.1 f.0 pieces f.1 s) in
+          first_takes b.0.1 d.0 (word d.0.0.text) (word (codes ";") ∷ pieces) d.1 refl tt (word_takes (codes ";") d.0.1 f.0 pieces f.1 s) in
           let kind : Spells (stars_of b.0.0 ++ (word d.0.0.text ∷ word (codes ";") ∷ pieces)) a.0.1 =
           kind_takes a.0.1 b.0 b.1 (word d.0.0.text ∷ word (codes ";") ∷ pieces) name in
           let whole : Spells (((stars_of b.0.0 ++ word d.0.0.text ∷ []) ++ word (codes ";") ∷ []) ++ pieces) a.0.1 =
@@ -94,9 +93,9 @@ declaration_takes earlier tokens x e =
     subst (IsDeclaration earlier tokens) test.1 taken
 
 -- the stars in front of a name give the kind
-kind_again : (kind : Kind) (name : List ℕ) (pieces : List Piece) (tokens : List Token) → is_name name ≡ true
+kind_again : (kind : Kind) (name : List ℕ) (pieces : List Piece) (tokens : List SourceToken) → is_name name ≡ true
     → Spells (stars_of kind ++ (word name ∷ pieces)) tokens
-    → (rest : List Token) × (kind_at tokens ≡ Some (kind, rest)) × Spells (word name ∷ pieces) rest
+    → (rest : List SourceToken) × (kind_at tokens ≡ Some (kind, rest)) × Spells (word name ∷ pieces) rest
 unfolding kind_at second_star_at
 kind_again Handle name pieces tokens is spelled =
     let here : is_at (codes "*") tokens ≡ true = at_first (codes "*") (word (codes "*")) (word (codes "*") ∷ word name ∷ pieces) tokens spelled in
@@ -114,8 +113,8 @@ kind_again Letter name pieces tokens is spelled =
     (tokens, rw here refl, spelled)
 
 -- a spelled declaration that may stand there is read again
-pub declaration_again : (earlier : List Variable) (variable : Variable) (pieces : List Piece) (tokens : List Token) → is_fine_name earlier variable.name ≡ true
-    → Spells (ended (declaration_spelling variable) ++ pieces) tokens → (rest : List Token) × (declaration_at earlier tokens ≡ Some (variable, rest))
+pub declaration_again : (earlier : List Variable) (variable : Variable) (pieces : List Piece) (tokens : List SourceToken) → is_fine_name earlier variable.name ≡ true
+    → Spells (ended (declaration_spelling variable) ++ pieces) tokens → (rest : List SourceToken) × (declaration_at earlier tokens ≡ Some (variable, rest))
     × Spells pieces rest
 unfolding declaration_at
 declaration_again earlier variable pieces tokens fine spelled =
@@ -129,7 +128,7 @@ declaration_again earlier variable pieces tokens fine spelled =
     (mark.0.1, rw (begin.1, kind.1, name.1, mark.1, name.2, fine) refl, mark.2)
 
 -- a declaration begins with `char`
-pub declaration_begins : (variable : Variable) (pieces : List Piece) (tokens : List Token)
+pub declaration_begins : (variable : Variable) (pieces : List Piece) (tokens : List SourceToken)
     → Spells (ended (declaration_spelling variable) ++ pieces) tokens → is_at (codes "char") tokens ≡ true
 declaration_begins variable pieces tokens spelled =
     at_first (codes "char") (word (codes "char")) (((stars_of variable.kind ++ word variable.name ∷ []) ++ word (codes ";") ∷ []) ++ pieces) tokens spelled

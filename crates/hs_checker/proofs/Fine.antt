@@ -5,7 +5,7 @@ use Rattle.std.specs.List.{list_any}
 use Rattle.std.specs.Str.{bytes_eq}
 use Rattle.std.proofs.lemmas.Bool.{and_parts, and_from}
 use Rattle.std.proofs.lemmas.List.{length-append}
-use Rattle.hs_tree.specs.declared.straight.token.Token.{Token}
+use Rattle.hs_tokens.specs.declared.token.SourceToken.{SourceToken}
 use Rattle.hs_tree.specs.declared.straight.tree.Kind.TheVariants.{Handle, Pointer, Letter}
 use Rattle.hs_tree.specs.declared.straight.tree.Variable.{Variable}
 use Rattle.hs_tree.specs.declared.straight.tree.Expr.{Expr}
@@ -14,7 +14,7 @@ use Rattle.hs_tree.specs.declared.straight.tree.Step.{Step}
 use Rattle.hs_tree.specs.declared.straight.tree.Step.TheVariants as step
 use Rattle.hs_tree.specs.Straight.Names.{reserved, is_name}
 use Rattle.hs_tree.specs.Straight.Fine.{is_declared, assigns, was_assigned, is_readable, is_fine_expr, is_fine_step, are_fine_steps, is_fine_name, are_fine_names}
-use Rattle.hs_tree.specs.Straight.Grammar.{Piece, word, step_spelling, Spells}
+use Rattle.hs_checker.specs.Straight.Grammar.{Piece, word, step_spelling, Spells}
 use Rattle.hs_checker.specs.Straight.Reading.{is_at, declaration_at, step_at}
 use Rattle.hs_checker.specs.Straight.Rows.{declaration, begins_declaration, statement, begins_statement}
 use Rattle.hs_checker.proofs.Declarations.{declaration_takes, declaration_again, declaration_begins}
@@ -147,7 +147,7 @@ step_next variables done form later all =
 
 -- a step, with its semicolon, begins with no word that is neither a name nor begins a form
 pub statement_begins : (variables : List Variable) → are_fine_names [] variables ≡ true
-    → (done : List Step) (form : Step) (pieces : List Piece) (tokens : List Token) (text : List ℕ) → is_fine_step variables done form ≡ true
+    → (done : List Step) (form : Step) (pieces : List Piece) (tokens : List SourceToken) (text : List ℕ) → is_fine_step variables done form ≡ true
     → is_name text ≡ false → bytes_eq (codes "*") text ≡ false → bytes_eq (codes "HLock") text ≡ false → bytes_eq (codes "HUnlock") text ≡ false
     → bytes_eq (codes "putchar") text ≡ false
     → Spells (statement variables form ++ pieces) tokens → is_at text tokens ≡ false

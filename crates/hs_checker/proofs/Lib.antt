@@ -6,8 +6,8 @@ pub mod Fine
 pub mod Marks
 pub mod Names
 pub mod Numbers
+pub mod Programs
 pub mod Rows
-pub mod Scanning
 pub mod SpelledSteps
 pub mod Staleness
 pub mod Steps

@@ -8,15 +8,15 @@ use Rattle.std.proofs.lemmas.Bool.{and_parts, or_parts, not-true, both_ways, fal
 use Rattle.std.proofs.lemmas.List.Quantifiers.{position-Some}
 use Rattle.std.proofs.lemmas.Option.{slice_get-get_or, slice_get_within}
 use Rattle.std.proofs.lemmas.Slice.Eq.{bytes_eq-Decides}
-use Rattle.hs_tree.specs.declared.straight.token.Token.{Token}
+use Rattle.hs_tokens.specs.declared.token.SourceToken.{SourceToken}
 use Rattle.hs_tree.specs.declared.straight.tree.Kind.{Kind}
 use Rattle.hs_tree.specs.declared.straight.tree.Kind.TheVariants.{Letter}
 use Rattle.hs_tree.specs.declared.straight.tree.Variable.{Variable}
 use Rattle.hs_tree.specs.Straight.Names.{begins_with_letter, is_identifier, is_name}
 use Rattle.hs_tree.specs.Straight.Fine.{has_kind, kind_eq, is_declared, is_taken, is_fine_name, are_fine_names}
-use Rattle.hs_tree.specs.Straight.Grammar.{Piece, word, name_in, name_of, Spells}
+use Rattle.hs_checker.specs.Straight.Grammar.{Piece, word, name_in, name_of, Spells}
 use Rattle.hs_checker.specs.Straight.Reading.{◌>>=◌, first_at, number_of, variable_at}
-use Rattle.hs_checker.proofs.Marks.{bind_some, some_is, first_is, first_again}
+use Rattle.hs_checker.proofs.Marks.{bind_some, some_is, first_takes, first_again}
 
 -- stands in where a list is read past its end
 nobody : Variable
@@ -91,23 +91,23 @@ number_again variables number variable fine at =
 -- ---- reading a name
 
 -- a name that is read is spelled by its number
-pub variable_takes : (variables : List Variable) (tokens : List Token) (x : ℕ × List Token) (pieces : List Piece)
+pub variable_takes : (variables : List Variable) (tokens : List SourceToken) (x : ℕ × List SourceToken) (pieces : List Piece)
     → variable_at variables tokens ≡ Some x → Spells pieces x.1 → Spells (word (name_of variables x.0) ∷ pieces) tokens
 unfolding variable_at
 variable_takes variables tokens x pieces e after =
     let a = bind_some (first_at tokens) (λ first. number_of variables first.0.text >>= λ number. Some (number, first.1)) x e in
     let b = bind_some (number_of variables a.0.0.text) (λ number. Some (number, a.0.1)) x a.2 in
-    let made : ℕ × List Token = (b.0, a.0.1) in
+    let made : ℕ × List SourceToken = (b.0, a.0.1) in
     let name = name_found variables a.0.0.text b.0 b.1 in
     let taken : Spells pieces a.0.1 → Spells (word (name_of variables b.0) ∷ pieces) tokens =
-    λ s. subst (λ (t : List Token). Spells (word (name_of variables b.0) ∷ pieces) t) (sym (first_is tokens a.0 a.1)) (sym name, tt, s) in
-    let P : (ℕ × List Token) → Type 0 = λ y. Spells pieces y.1 → Spells (word (name_of variables y.0) ∷ pieces) tokens in
+    λ s. first_takes tokens a.0 (word (name_of variables b.0)) pieces a.1 (sym name) tt s in
+    let P : (ℕ × List SourceToken) → Type 0 = λ y. Spells pieces y.1 → Spells (word (name_of variables y.0) ∷ pieces) tokens in
     subst P (some_is made x b.2) taken after
 
 -- a spelled name is read, and gives its number
-pub variable_again : (variables : List Variable) (kind : Kind) (number : ℕ) (pieces : List Piece) (tokens : List Token)
+pub variable_again : (variables : List Variable) (kind : Kind) (number : ℕ) (pieces : List Piece) (tokens : List SourceToken)
     → are_fine_names [] variables ≡ true → is_declared kind variables number ≡ true
-    → Spells (word (name_of variables number) ∷ pieces) tokens → (rest : List Token) × (variable_at variables tokens ≡ Some (number, rest)) × Spells pieces rest
+    → Spells (word (name_of variables number) ∷ pieces) tokens → (rest : List SourceToken) × (variable_at variables tokens ≡ Some (number, rest)) × Spells pieces rest
 unfolding variable_at
 variable_again variables kind number pieces tokens fine is spelled =
     let there = declared kind (slice_get variables number) is in

@@ -13,12 +13,12 @@ use Rattle.std.proofs.lemmas.Fmt.{decimal-digits_value, digits_decimal, digits_v
 use Rattle.std.specs.Str.{bytes_eq}
 use Rattle.std.proofs.lemmas.Option.{cond_some}
 use Rattle.std.proofs.lemmas.Slice.Eq.{bytes_eq-Decides}
-use Rattle.hs_tree.specs.declared.straight.token.Token.{Token}
+use Rattle.hs_tokens.specs.declared.token.SourceToken.{SourceToken}
 use Rattle.hs_base.specs.Text.{is_digit, is_letter}
 use Rattle.hs_tree.specs.Straight.Names.{begins_with_letter}
-use Rattle.hs_tree.specs.Straight.Grammar.{Piece, word, Spells}
+use Rattle.hs_checker.specs.Straight.Grammar.{Piece, word, Spells}
 use Rattle.hs_checker.specs.Straight.Reading.{◌>>=◌, first_at, numeral, is_numeral, has_one, begins_with_zero, number_at}
-use Rattle.hs_checker.proofs.Marks.{bind_some, some_is, first_is, first_again}
+use Rattle.hs_checker.proofs.Marks.{bind_some, some_is, first_takes, first_again}
 
 -- all bytes are digits
 abbrev AreDigits : List ℕ → Type 0
@@ -132,22 +132,22 @@ decimal_not number text low other = false_from_ne_true (bytes_eq (decimal number
 -- ---- reading a number
 
 -- a number that is read is spelled so
-pub number_takes : (most : ℕ) (tokens : List Token) (x : ℕ × List Token) (pieces : List Piece) → most ≤ 32767 → number_at most tokens ≡ Some x
+pub number_takes : (most : ℕ) (tokens : List SourceToken) (x : ℕ × List SourceToken) (pieces : List Piece) → most ≤ 32767 → number_at most tokens ≡ Some x
     → Spells pieces x.1 → Spells (word (decimal x.0) ∷ pieces) tokens
 unfolding number_at
 number_takes most tokens x pieces bound e after =
     let a = bind_some (first_at tokens) (λ first. numeral most first.0.text >>= λ number. Some (number, first.1)) x e in
     let b = bind_some (numeral most a.0.0.text) (λ number. Some (number, a.0.1)) x a.2 in
-    let made : ℕ × List Token = (b.0, a.0.1) in
+    let made : ℕ × List SourceToken = (b.0, a.0.1) in
     let text = (numeral_is most a.0.0.text b.0 bound b.1).0 in
     let taken : Spells pieces a.0.1 → Spells (word (decimal b.0) ∷ pieces) tokens =
-    λ s. subst (λ (t : List Token). Spells (word (decimal b.0) ∷ pieces) t) (sym (first_is tokens a.0 a.1)) (text, tt, s) in
-    let P : (ℕ × List Token) → Type 0 = λ y. Spells pieces y.1 → Spells (word (decimal y.0) ∷ pieces) tokens in
+    λ s. first_takes tokens a.0 (word (decimal b.0)) pieces a.1 text tt s in
+    let P : (ℕ × List SourceToken) → Type 0 = λ y. Spells pieces y.1 → Spells (word (decimal y.0) ∷ pieces) tokens in
     subst P (some_is made x b.2) taken after
 
 -- a spelled number is read again
-pub read_number_again : (most number : ℕ) (pieces : List Piece) (tokens : List Token) → most ≤ 32767 → number ≤ most
-    → Spells (word (decimal number) ∷ pieces) tokens → (rest : List Token) × (number_at most tokens ≡ Some (number, rest)) × Spells pieces rest
+pub read_number_again : (most number : ℕ) (pieces : List Piece) (tokens : List SourceToken) → most ≤ 32767 → number ≤ most
+    → Spells (word (decimal number) ∷ pieces) tokens → (rest : List SourceToken) × (number_at most tokens ≡ Some (number, rest)) × Spells pieces rest
 unfolding number_at
 read_number_again most number pieces tokens bound low spelled =
     let first = first_again (word (decimal number)) pieces tokens spelled in

@@ -5,7 +5,7 @@ use Rattle.std.specs.Fmt.{decimal}
 use Rattle.std.specs.Str.{bytes_eq}
 use Rattle.std.proofs.lemmas.Bool.{and_parts, leb-true}
 use Rattle.hs_base.specs.declared.pos.Pos.{Pos}
-use Rattle.hs_tree.specs.declared.straight.token.Token.{Token}
+use Rattle.hs_tokens.specs.declared.token.SourceToken.{SourceToken}
 use Rattle.hs_tree.specs.declared.straight.tree.Kind.{Kind}
 use Rattle.hs_tree.specs.declared.straight.tree.Kind.TheVariants.{Handle, Pointer, Letter}
 use Rattle.hs_tree.specs.declared.straight.tree.Variable.{Variable}
@@ -14,7 +14,7 @@ use Rattle.hs_tree.specs.declared.straight.tree.Step.{Step}
 use Rattle.hs_tree.specs.declared.straight.tree.Step.TheVariants as step
 use Rattle.hs_tree.specs.Straight.Names.{reserved, is_name}
 use Rattle.hs_tree.specs.Straight.Fine.{has_kind, kind_eq, is_declared, is_readable, was_assigned, is_fine_expr, is_fine_step, are_fine_names}
-use Rattle.hs_tree.specs.Straight.Grammar.{Piece, word, placed, name_of, expr_spelling, step_spelling, ended, Spells}
+use Rattle.hs_checker.specs.Straight.Grammar.{Piece, word, placed, name_of, expr_spelling, step_spelling, ended, Spells}
 use Rattle.hs_checker.specs.Straight.Reading.{is_at, handle_at, lock_at, unlock_at, putchar_at, store_at, new_handle_at, derive_at, set_at, source_at, assign_at, form_at, step_at}
 use Rattle.hs_checker.proofs.Marks.{placed_again, word_again, at_first}
 use Rattle.hs_checker.proofs.Names.{variable_again, name_is, not_text}
@@ -38,14 +38,14 @@ one_kind kind other (Some variable) apart has = kinds_differ variable.kind kind 
     kinds_differ Letter Pointer other apart same = absurd cc
 
 -- the first tests of a form, where its first token is a name
-abbrev AreOther : List Token → Type 0
+abbrev AreOther : List SourceToken → Type 0
 AreOther tokens = (is_at (codes "*") tokens ≡ false) × (is_at (codes "HLock") tokens ≡ false) × (is_at (codes "HUnlock") tokens ≡ false)
     × (is_at (codes "putchar") tokens ≡ false)
 
 module _ (variables : List Variable) (named : are_fine_names [] variables ≡ true) where
-  handle_again : (handle : ℕ) (pieces : List Piece) (tokens : List Token) → is_declared Handle variables handle ≡ true
+  handle_again : (handle : ℕ) (pieces : List Piece) (tokens : List SourceToken) → is_declared Handle variables handle ≡ true
       → Spells (word (codes "(") ∷ word (name_of variables handle) ∷ word (codes ")") ∷ pieces) tokens
-      → (rest : List Token) × (handle_at variables tokens ≡ Some (handle, rest)) × Spells pieces rest
+      → (rest : List SourceToken) × (handle_at variables tokens ≡ Some (handle, rest)) × Spells pieces rest
   unfolding handle_at
   handle_again handle pieces tokens is spelled =
       let left = word_again (codes "(") (word (name_of variables handle) ∷ word (codes ")") ∷ pieces) tokens spelled in
@@ -54,14 +54,14 @@ module _ (variables : List Variable) (named : are_fine_names [] variables ≡ tr
       (right.0.1, rw (left.1, name.1, right.1) refl, right.2)
 
   -- a name is no word that no name may be
-  name_test : (kind : Kind) (number : ℕ) (pieces : List Piece) (tokens : List Token) (text : List ℕ) → is_declared kind variables number ≡ true
+  name_test : (kind : Kind) (number : ℕ) (pieces : List Piece) (tokens : List SourceToken) (text : List ℕ) → is_declared kind variables number ≡ true
       → is_name text ≡ false
       → Spells (word (name_of variables number) ∷ pieces) tokens → is_at text tokens ≡ false
   name_test kind number pieces tokens text is no_name spelled =
       at_first text (word (name_of variables number)) pieces tokens spelled
       ∙ not_text (name_of variables number) text (name_is variables kind number named is) no_name
 
-  are_other : (kind : Kind) (number : ℕ) (pieces : List Piece) (tokens : List Token) → is_declared kind variables number ≡ true
+  are_other : (kind : Kind) (number : ℕ) (pieces : List Piece) (tokens : List SourceToken) → is_declared kind variables number ≡ true
       → Spells (word (name_of variables number) ∷ pieces) tokens → AreOther tokens
   unfolding reserved
   are_other kind number pieces tokens is spelled = (
@@ -72,10 +72,10 @@ module _ (variables : List Variable) (named : are_fine_names [] variables ≡ tr
   )
 
   -- an assignment is read again where what stands behind its `=` is
-  assign_again : (kind : Kind) (number : ℕ) (form : Step) (behind pieces : List Piece) (tokens : List Token) → is_declared kind variables number ≡ true
-      → ((sources : List Token) → Spells behind sources → (rest : List Token) × (source_at variables number sources ≡ Some (form, rest)) × Spells pieces rest)
+  assign_again : (kind : Kind) (number : ℕ) (form : Step) (behind pieces : List Piece) (tokens : List SourceToken) → is_declared kind variables number ≡ true
+      → ((sources : List SourceToken) → Spells behind sources → (rest : List SourceToken) × (source_at variables number sources ≡ Some (form, rest)) × Spells pieces rest)
       → Spells (word (name_of variables number) ∷ word (codes "=") ∷ behind) tokens
-      → (rest : List Token) × (form_at variables tokens ≡ Some (form, rest)) × Spells pieces rest
+      → (rest : List SourceToken) × (form_at variables tokens ≡ Some (form, rest)) × Spells pieces rest
   unfolding form_at assign_at
   assign_again kind number form behind pieces tokens is reads spelled =
       let tests = are_other kind number (word (codes "=") ∷ behind) tokens is spelled in
@@ -84,9 +84,9 @@ module _ (variables : List Variable) (named : are_fine_names [] variables ≡ tr
       let source = reads sign.0.1 sign.2 in
       (source.0, rw (tests.0, tests.1, tests.2, tests.3, name.1, sign.1, source.1) refl, source.2)
 
-  new_handle_again : (handle size : ℕ) (pieces : List Piece) (tokens : List Token) → is_declared Handle variables handle ≡ true → size ≤ 32767
+  new_handle_again : (handle size : ℕ) (pieces : List Piece) (tokens : List SourceToken) → is_declared Handle variables handle ≡ true → size ≤ 32767
       → Spells (word (codes "NewHandle") ∷ word (codes "(") ∷ word (decimal size) ∷ word (codes ")") ∷ pieces) tokens
-      → (rest : List Token) × (source_at variables handle tokens ≡ Some (step.NewHandle handle size, rest)) × Spells pieces rest
+      → (rest : List SourceToken) × (source_at variables handle tokens ≡ Some (step.NewHandle handle size, rest)) × Spells pieces rest
   unfolding source_at new_handle_at
   new_handle_again handle size pieces tokens is low spelled =
       let name = word_again (codes "NewHandle") (word (codes "(") ∷ word (decimal size) ∷ word (codes ")") ∷ pieces) tokens spelled in
@@ -95,10 +95,10 @@ module _ (variables : List Variable) (named : are_fine_names [] variables ≡ tr
       let right = word_again (codes ")") pieces number.0 number.2 in
       (right.0.1, rw (is, name.1, left.1, number.1, right.1) refl, right.2)
 
-  derive_again : (pos : Pos) (pointer handle : ℕ) (pieces : List Piece) (tokens : List Token) → is_declared Pointer variables pointer ≡ true
+  derive_again : (pos : Pos) (pointer handle : ℕ) (pieces : List Piece) (tokens : List SourceToken) → is_declared Pointer variables pointer ≡ true
       → is_declared Handle variables handle ≡ true
       → Spells (placed pos (codes "*") ∷ word (name_of variables handle) ∷ pieces) tokens
-      → (rest : List Token) × (source_at variables pointer tokens ≡ Some (step.Derive pos pointer handle, rest)) × Spells pieces rest
+      → (rest : List SourceToken) × (source_at variables pointer tokens ≡ Some (step.Derive pos pointer handle, rest)) × Spells pieces rest
   unfolding source_at derive_at
   derive_again pos pointer handle pieces tokens is also spelled =
       let no_handle : is_declared Handle variables pointer ≡ false = one_kind Pointer Handle (slice_get variables pointer) refl is in
@@ -106,10 +106,10 @@ module _ (variables : List Variable) (named : are_fine_names [] variables ≡ tr
       let name = variable_again variables Handle handle pieces star.0 named also star.2 in
       (name.0, rw (no_handle, is, star.1, name.1) refl, name.2)
 
-  set_again : (done : List Step) (letter : ℕ) (value : Expr) (pieces : List Piece) (tokens : List Token) → is_declared Letter variables letter ≡ true
+  set_again : (done : List Step) (letter : ℕ) (value : Expr) (pieces : List Piece) (tokens : List SourceToken) → is_declared Letter variables letter ≡ true
       → is_fine_expr variables done value ≡ true
       → Spells (expr_spelling variables value ++ pieces) tokens
-      → (rest : List Token) × (source_at variables letter tokens ≡ Some (step.Set letter value, rest)) × Spells pieces rest
+      → (rest : List SourceToken) × (source_at variables letter tokens ≡ Some (step.Set letter value, rest)) × Spells pieces rest
   unfolding source_at set_at
   set_again done letter value pieces tokens is fine spelled =
       let no_handle : is_declared Handle variables letter ≡ false = one_kind Letter Handle (slice_get variables letter) refl is in
@@ -118,9 +118,9 @@ module _ (variables : List Variable) (named : are_fine_names [] variables ≡ tr
       (read.0, rw (no_handle, no_pointer, read.1) refl, read.2)
 
   -- by its form: the tests before it fail, and its own reads it
-  form_again : (done : List Step) (form : Step) (pieces : List Piece) (tokens : List Token) → is_fine_step variables done form ≡ true
+  form_again : (done : List Step) (form : Step) (pieces : List Piece) (tokens : List SourceToken) → is_fine_step variables done form ≡ true
       → Spells (step_spelling variables form ++ pieces) tokens
-      → (rest : List Token) × (form_at variables tokens ≡ Some (form, rest)) × Spells pieces rest
+      → (rest : List SourceToken) × (form_at variables tokens ≡ Some (form, rest)) × Spells pieces rest
   unfolding form_at lock_at unlock_at putchar_at store_at
   form_again done (step.NewHandle handle size) pieces tokens fine spelled =
       let parts = and_parts (is_declared Handle variables handle) (leb size 32767) fine in
@@ -180,9 +180,9 @@ module _ (variables : List Variable) (named : are_fine_names [] variables ≡ tr
       (right.0.1, rw (star, lock, unlock, here, name.1, left.1, read.1, right.1) refl, right.2)
 
   -- a spelled step that may stand there is read again
-  pub step_again : (done : List Step) (form : Step) (pieces : List Piece) (tokens : List Token) → is_fine_step variables done form ≡ true
+  pub step_again : (done : List Step) (form : Step) (pieces : List Piece) (tokens : List SourceToken) → is_fine_step variables done form ≡ true
       → Spells (ended (step_spelling variables form) ++ pieces) tokens
-      → (rest : List Token) × (step_at variables done tokens ≡ Some (form, rest)) × Spells pieces rest
+      → (rest : List SourceToken) × (step_at variables done tokens ≡ Some (form, rest)) × Spells pieces rest
   unfolding step_at
   step_again done form pieces tokens fine spelled =
       let grouped : Spells (step_spelling variables form ++ (word (codes ";") ∷ pieces)) tokens =
@@ -192,7 +192,7 @@ module _ (variables : List Variable) (named : are_fine_names [] variables ≡ tr
       (mark.0.1, rw (read.1, mark.1, fine) refl, mark.2)
 
   -- no step begins with a word that is neither a name nor begins a form
-  pub step_begins : (done : List Step) (form : Step) (pieces : List Piece) (tokens : List Token) (text : List ℕ) → is_fine_step variables done form ≡ true
+  pub step_begins : (done : List Step) (form : Step) (pieces : List Piece) (tokens : List SourceToken) (text : List ℕ) → is_fine_step variables done form ≡ true
       → is_name text ≡ false → bytes_eq (codes "*") text ≡ false → bytes_eq (codes "HLock") text ≡ false → bytes_eq (codes "HUnlock") text ≡ false
       → bytes_eq (codes "putchar") text ≡ false
       → Spells (step_spelling variables form ++ pieces) tokens → is_at text tokens ≡ false

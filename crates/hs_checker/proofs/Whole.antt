@@ -1,45 +1,20 @@
--- From the parts of a straight file to the whole.
-use Rattle.std.proofs.Common.{◌≡◌, ℕ, ◌≤◌, true, not, ◌&&◌, List, [], ◌∷◌, ◌++◌, length, map, refl, sym, ap, subst, ◌∙◌, append_assoc, arith}
+-- From the parts of a straight program to the whole.
+use Rattle.std.proofs.Common.{◌≡◌, true, not, List, [], ◌∷◌, ◌++◌, map, refl, sym, ap, subst, ◌∙◌, append_assoc}
 use Rattle.std.specs.Prelude.{codes}
 use Rattle.std.specs.List.{flat_map}
-use Rattle.std.proofs.lemmas.Bool.{and_parts, cond_both}
+use Rattle.std.proofs.lemmas.Bool.{and_parts}
 use Rattle.std.proofs.Math.Bool.{Bool-set}
-use Rattle.hs_base.specs.declared.pos.Pos.{Pos}
-use Rattle.hs_tree.specs.declared.straight.token.Token.{Token}
+use Rattle.hs_tokens.specs.declared.token.SourceToken.{SourceToken}
 use Rattle.hs_tree.specs.declared.straight.tree.Variable.{Variable}
 use Rattle.hs_tree.specs.declared.straight.tree.Step.{Step}
 use Rattle.hs_tree.specs.declared.straight.tree.Straight.{Straight}
 use Rattle.hs_tree.specs.Straight.Names.{reserved}
-use Rattle.hs_base.specs.Text.{is_word_byte, next_place}
-use Rattle.hs_tree.specs.Straight.Text.{is_blank, begins_word, lengthened, tokens_from, tokens_of}
 use Rattle.hs_tree.specs.Straight.Fine.{are_fine_names, are_fine_steps, is_fine}
-use Rattle.hs_tree.specs.Straight.Grammar.{Piece, word, opening, closing, spelling, Spells}
+use Rattle.hs_checker.specs.Straight.Grammar.{Piece, word, opening, closing, spelling, Spells}
 use Rattle.hs_checker.specs.Straight.Rows.{EndsRow, declaration, begins_declaration, statement, begins_statement, AreDeclarations, NoDeclarations, AreSteps, NoSteps}
 use Rattle.hs_checker.specs.Straight.Ends.{IsOpened, IsClosing}
 use Rattle.hs_checker.proofs.Marks.{at_first}
 use Rattle.hs_checker.proofs.Fine.{step_next, statement_begins}
-
--- ---- no more tokens than bytes
-
--- a byte put in front of a token makes no token
-lengthened_length : (at : Pos) (byte : ℕ) (tokens : List Token) → length (lengthened at byte tokens) ≡ length tokens
-lengthened_length at byte [] = refl
-lengthened_length at byte (token ∷ tokens) = refl
-
--- by the byte: a blank, a byte of a longer word, a byte alone
-few_from : (at : Pos) (text : List ℕ) → length (tokens_from at text) ≤ length text
-few_from at [] = omega arith
-few_from at (byte ∷ rest) =
-    let after = few_from (next_place at byte rest) rest in
-    let Few : List Token → Type 0 = λ tokens. length tokens ≤ length (byte ∷ rest) in
-    cond_both (is_blank byte) _ _ Few (λ e. omega (arith, after))
-    (λ e. cond_both (is_word_byte byte && begins_word rest) _ _ Few
-    (λ f. omega (arith, after, lengthened_length at byte (tokens_from (next_place at byte rest) rest)))
-    (λ f. omega (arith, after)))
-
--- a text has no more tokens than bytes
-pub few_tokens : (text : List ℕ) → length (tokens_of text) ≤ length text
-few_tokens text = few_from _ text
 
 -- ---- what follows each row
 
@@ -47,7 +22,7 @@ few_tokens text = few_from _ text
 pub body : List Variable → List Step → List Piece
 body variables steps = flat_map (statement variables) steps ++ map word closing
 
--- a straight file: its beginning, its declarations, its body
+-- a straight program: its beginning, its declarations, its body
 pub parted : (variables : List Variable) (steps : List Step)
     → spelling variables steps ≡ map word opening ++ (flat_map declaration variables ++ body variables steps)
 unfolding body
@@ -73,7 +48,7 @@ declarations_end variables (step ∷ steps) named fine tokens s =
 -- ---- found
 
 -- each part is spelled, so the whole is
-pub whole : (tokens opened declared done : List Token) (variables : List Variable) (steps : List Step) → IsOpened tokens opened
+pub whole : (tokens opened declared done : List SourceToken) (variables : List Variable) (steps : List Step) → IsOpened tokens opened
     → AreDeclarations opened variables declared → AreSteps variables declared steps done → IsClosing done
     → Spells (spelling variables steps) tokens
 unfolding body
@@ -83,7 +58,7 @@ whole tokens opened declared done variables steps o d s e =
 
 -- ---- only, and none
 
-module _ (tokens : List Token) (variables : List Variable) (steps : List Step) (fine : is_fine variables steps ≡ true)
+module _ (tokens : List SourceToken) (variables : List Variable) (steps : List Step) (fine : is_fine variables steps ≡ true)
     (spelled : Spells (spelling variables steps) tokens) where
   names : are_fine_names [] variables ≡ true
   names = (and_parts (are_fine_names [] variables) (are_fine_steps variables [] steps) fine).0
@@ -96,11 +71,11 @@ module _ (tokens : List Token) (variables : List Variable) (steps : List Step) (
   whole_parts = subst (λ (p : List Piece). Spells p tokens) (parted variables steps) spelled
 
   -- another tree would have declarations
-  pub none_undeclared : (opened : List Token) → IsOpened tokens opened → NoDeclarations opened → ⊥
+  pub none_undeclared : (opened : List SourceToken) → IsOpened tokens opened → NoDeclarations opened → ⊥
   none_undeclared opened o fails = fails variables (body variables steps) names (declarations_end variables steps names forms)
       ((o (flat_map declaration variables ++ body variables steps)).0 whole_parts)
 
-  module _ (opened declared : List Token) (found : List Variable) (o : IsOpened tokens opened) (d : AreDeclarations opened found declared) where
+  module _ (opened declared : List SourceToken) (found : List Variable) (o : IsOpened tokens opened) (d : AreDeclarations opened found declared) where
     declarations_known : (variables ≡ found) × Spells (body variables steps) declared
     declarations_known = d.only variables (body variables steps) names (declarations_end variables steps names forms)
         ((o (flat_map declaration variables ++ body variables steps)).0 whole_parts)
@@ -116,7 +91,7 @@ module _ (tokens : List Token) (variables : List Variable) (steps : List Step) (
     pub none_broken : NoSteps found declared → ⊥
     none_broken fails = fails steps (map word closing) forms_found steps_end steps_left
 
-    module _ (done : List Token) (made : List Step) (s : AreSteps found declared made done) where
+    module _ (done : List SourceToken) (made : List Step) (s : AreSteps found declared made done) where
       steps_known : (steps ≡ made) × Spells (map word closing) done
       steps_known = s.only steps (map word closing) forms_found steps_end steps_left
 

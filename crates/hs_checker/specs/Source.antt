@@ -1,52 +1,84 @@
--- What each answer of `read_program` means, for one root. Own to this project.
---     FileHas told name P      where the listing is told, the file of that name is listed and P holds of its bytes
---     IsTheTree text tree      the bytes spell the tree, and no other
---     IsSource ..              the meaning of each answer
-use Rattle.std.specs.Prelude.{◌≡◌, ℕ, ◌<◌, ◌≤◌, List, length, Option, Some, None, Result, Ok, Err, IfSome}
-use Rattle.hs_base.specs.Count.{HasRisen, IsSteady}
-use Rattle.hs_base.specs.Files.{Listing, file_of, Counts}
-use Rattle.hs_base.specs.Limit.{number_of}
-use Rattle.hs_base.specs.declared.limit.LimitKind.TheVariants.{FileBytes}
-use Rattle.hs_tree.specs.Straight.Grammar.{IsStraight}
+-- What each answer of `read_program` means. Own to this project.
+--     IsTheTree tokens tree      the tokens spell the tree, and no other
+--     IsTheProgram source tree   the sources are one unit, which spells the tree and no other
+--     SpellsNone source          they are not one unit, or one that spells no tree
+--     IsReadAs ..                the named files and their headers are read as these sources
+--     HasReads ..                the files that were read, in their order
+--     IsSource ..                the meaning of each answer
+--     RefusesAs error answer     the answer to a refusal of reading
+--     IsProgramOf source result  the program of sources that were read, or why they give none
+use Rattle.std.specs.Prelude.{◌≡◌, ℕ, List, [], ◌∷◌, Option, Result, Ok, Err, IfSome}
+use Rattle.hs_base.specs.Count.{IsSteady}
+use Rattle.hs_base.specs.Files.{Listing, Counts}
+use Rattle.hs_tokens.specs.declared.token.SourceToken.{SourceToken}
 use Rattle.hs_tree.specs.declared.straight.tree.Straight.{Straight}
-use Rattle.hs_base.specs.declared.errors.FileEnd.{FileEnd}
-use Rattle.hs_base.specs.declared.errors.FileEnd.TheVariants as ends
+use Rattle.hs_directives.specs.Preprocessing.{preprocessed}
+use Rattle.hs_directives.specs.Readings.{own_listing, IsCausedBy}
+use Rattle.hs_directives.specs.Reads.{Leads, AreFirstReads}
+use Rattle.hs_directives.specs.declared.error.ReadError.{ReadError}
+use Rattle.hs_directives.specs.declared.error.ReadError.TheVariants as reading
+use Rattle.hs_directives.specs.declared.source.Source.{Source as Sources}
+use Rattle.hs_checker.specs.Straight.Grammar.{IsStraight}
 use Rattle.hs_checker.specs.declared.source.SourceError.{SourceError}
-use Rattle.hs_checker.specs.declared.source.SourceError.TheVariants.{Missing, ReadFault, Limit, Unbuilt, NoMemory}
+use Rattle.hs_checker.specs.declared.source.SourceError.TheVariants.{Read, Limit, Unbuilt, NoMemory}
 
--- of a file that is told: it is listed, and this holds of its bytes
-abbrev pub FileHas : Option Listing → List ℕ → (List ℕ → Type 0) → Type 0
-FileHas told name P = IfSome told (λ files. (text : List ℕ) × (file_of files name ≡ Some text) × P text)
+-- the tokens spell this tree and no other
+abbrev pub IsTheTree : List SourceToken → Straight → Type 0
+IsTheTree tokens tree = IsStraight tokens tree × ((other : Straight) → IsStraight tokens other → other ≡ tree)
 
--- the most bytes that a file may have
-abbrev pub most_bytes : ℕ
-most_bytes = number_of FileBytes
+-- the sources are one unit, whose tokens spell this tree and no other
+abbrev pub IsTheProgram : Sources → Straight → Type 0
+IsTheProgram source tree = (tokens : List SourceToken) × (source.units ≡ tokens ∷ []) × IsTheTree tokens tree
 
--- the bytes spell this tree and no other
-abbrev pub IsTheTree : List ℕ → Straight → Type 0
-IsTheTree text tree = IsStraight text tree × ((other : Straight) → IsStraight text other → other ≡ tree)
+-- the sources are not one unit whose tokens spell a tree
+abbrev pub SpellsNone : Sources → Type 0
+SpellsNone source = (tokens : List SourceToken) (tree : Straight) → source.units ≡ tokens ∷ [] → IsStraight tokens tree → ⊥
 
--- the bytes spell no tree
-abbrev pub SpellsNone : List ℕ → Type 0
-SpellsNone text = (tree : Straight) → IsStraight text tree → ⊥
+-- The named files and their headers are read as these sources: by the listing, where it is told, and by the sources' own names
+-- and texts in any case.
+abbrev pub IsReadAs : Option Listing → List (List ℕ) → Sources → Type 0
+IsReadAs told names source =
+    IfSome told (λ listing. preprocessed listing names ≡ Ok source) × (preprocessed (own_listing source) names ≡ Ok source)
 
--- no read that counts a miss is told: the name is not listed, unless a fault was counted too
-abbrev pub IsMissing : Option Listing → List ℕ → Counts → Counts → Type 0
-IsMissing told name before now = HasRisen before.misses now.misses × IfSome told (λ files. IsSteady before.faults now.faults → file_of files name ≡ None)
+-- Reading refuses so, where the listing is told and no fault was counted. A refusal that names a file names one that is sought,
+-- and the count of its cause rose.
+abbrev pub IsRefusedAs : Option Listing → List (List ℕ) → Counts → Counts → ReadError → Type 0
+IsRefusedAs told names before now error =
+    IsCausedBy told before now names error
+    × IfSome told (λ listing. IsSteady before.faults now.faults → preprocessed listing names ≡ Err error)
+
+-- the error is a limit or want of memory, which have answers of their own
+abbrev pub HasOwnAnswer : ReadError → Type 0
+HasOwnAnswer (reading.Limit limit) = Unit {0}
+HasOwnAnswer reading.NoMemory = Unit {0}
+HasOwnAnswer _ = ⊥
+
+-- The reads of the named files and their headers led from the first files to the last: each file once, in the order of its
+-- number, and no other.
+pub record HasReads {F : Type 0} (leads : F → List ℕ → ℕ → F → Type 0) (told : Option Listing) (first last : F) (names : List (List ℕ)) : Type 0 where
+  pub reads : List (List ℕ)
+  pub leads_on : Leads leads first reads last
+  pub in_turn : AreFirstReads told names reads
 
 -- the counts are those of the files, before the call and after it
-abbrev pub IsSource : Option Listing → List ℕ → Counts → Counts → Result Straight SourceError → Type 0
-IsSource told name before now (Ok tree) = FileHas told name (λ text. (length text ≤ most_bytes) × IsTheTree text tree)
-IsSource told name before now (Err (Missing missing)) = (missing ≡ name) × IsMissing told name before now
-IsSource told name before now (Err (ReadFault unread)) = (unread ≡ name) × HasRisen before.faults now.faults
-IsSource told name before now (Err (Limit limit)) = (limit ≡ record { kind = FileBytes; reached = most_bytes }) × FileHas told name (λ text. most_bytes < length text)
-IsSource told name before now (Err Unbuilt) = FileHas told name (λ text. (length text ≤ most_bytes) × SpellsNone text)
-IsSource told name before now (Err NoMemory) = Unit {0}
+abbrev pub IsSource : Option Listing → List (List ℕ) → Counts → Counts → Result Straight SourceError → Type 0
+IsSource told names before now (Ok tree) = (source : Sources) × IsReadAs told names source × IsTheProgram source tree
+IsSource told names before now (Err (Read error)) = (HasOwnAnswer error → ⊥) × IsRefusedAs told names before now error
+IsSource told names before now (Err (Limit limit)) = IsRefusedAs told names before now (reading.Limit limit)
+IsSource told names before now (Err Unbuilt) = (source : Sources) × IsReadAs told names source × SpellsNone source
+IsSource told names before now (Err NoMemory) = Unit {0}
 
--- a read of the named file that ended so, as the error of a source
-abbrev pub FailsAs : List ℕ → FileEnd → SourceError → Type 0
-FailsAs name end (Missing missing) = (missing ≡ name) × (end ≡ ends.Missing)
-FailsAs name end (ReadFault unread) = (unread ≡ name) × (end ≡ ends.Failed)
-FailsAs name end (Limit limit) = (limit ≡ record { kind = FileBytes; reached = most_bytes }) × (end ≡ ends.TooLong)
-FailsAs name end Unbuilt = ⊥
-FailsAs name end NoMemory = Unit {0}
+-- an answer to a refusal of reading
+abbrev pub RefusesAs : ReadError → SourceError → Type 0
+RefusesAs error (Read read) = (read ≡ error) × (HasOwnAnswer read → ⊥)
+RefusesAs error (Limit limit) = error ≡ reading.Limit limit
+RefusesAs error Unbuilt = ⊥
+RefusesAs error NoMemory = error ≡ reading.NoMemory
+
+-- the program of sources that were read, or why they give none
+abbrev pub IsProgramOf : Sources → Result Straight SourceError → Type 0
+IsProgramOf source (Ok tree) = IsTheProgram source tree
+IsProgramOf source (Err (Read error)) = ⊥
+IsProgramOf source (Err (Limit limit)) = ⊥
+IsProgramOf source (Err Unbuilt) = SpellsNone source
+IsProgramOf source (Err NoMemory) = Unit {0}

@@ -1,4 +1,5 @@
 pub mod Count
 pub mod Ends
+pub mod Grammar
 pub mod Reading
 pub mod Rows

@@ -1,4 +1,4 @@
-//! The verdict on a program. So far the programs are straight files.
+//! The verdict on a program. So far the programs are straight ones.
 #![tactic(auto)]
 
 mod source;

@@ -1,73 +1,71 @@
-ghost use Rattle.std.specs.Prelude.{◌≡◌, ℕ, List, [], ◌∷◌, map, length, IfOk};
+ghost use Rattle.std.specs.Prelude.{◌≡◌, map};
 ghost use Rattle.std.specs.String.{string_bytes};
 ghost use Rattle.hs_base.specs.Files.{NeverFall};
-ghost use Rattle.hs_checker.specs.Source.{IsSource, FailsAs, most_bytes};
+ghost use Rattle.hs_directives.specs.declared.source.Source.{Source};
+ghost use Rattle.hs_checker.specs.Source.{HasReads, IsProgramOf, IsSource, RefusesAs};
 
 use crate::straight::read;
-use hs_base::{Bytes, FileEnd, Files, LimitKind, NoMemory};
+use hs_base::{Files, NoMemory};
+use hs_directives::{ReadError, SourceTokens, preprocess};
 use hs_tree::straight::Straight;
-use std::alloc::{AllocError, Global};
+use std::alloc::Global;
 
 /// Why the named files give no program.
 #[derive(Debug, Drop)]
 pub enum SourceError {
-    /// There is no file of that name. The files' count of misses rose.
-    Missing(Bytes),
-    /// The file of that name could not be read. The files' count of faults rose.
-    ReadFault(Bytes),
-    /// A quantity passed its limit: `FileBytes`, the bytes of a file.
+    /// Reading refuses them: the first refusal. It is no limit, and no want of memory.
+    Read(ReadError),
+    /// A quantity passed its limit.
     Limit(hs_base::Limit),
-    /// The file is not straight.
+    /// They are not one unit, or one that is no straight program.
     Unbuilt,
     /// Memory was refused.
     NoMemory,
 }
 
-/// The name, as bytes.
-fn name_of(alloc: Global, name: &str) -> Result<Bytes, AllocError>
-    ensures { IfOk result (λ bytes. bytes ≡ name.now) }
+/// A refusal of reading, as the error of a source.
+fn refused(error: ReadError) -> SourceError
+    ensures { RefusesAs error result }
 {
-    Ok(Bytes::from_vec(name.as_bytes().to_vec(alloc)?))
-}
-
-/// Why a read of the named file gave no bytes, as the error of a source.
-fn unread(alloc: Global, name: &str, end: FileEnd) -> SourceError
-    ensures { FailsAs name.now end result }
-{
-    match end {
-        FileEnd::Missing => name_of(alloc, name).map_or(
-            SourceError::NoMemory,
-            SourceError::Missing,
-        ),
-        FileEnd::Failed => name_of(alloc, name).map_or(
-            SourceError::NoMemory,
-            SourceError::ReadFault,
-        ),
-        FileEnd::TooLong => SourceError::Limit(LimitKind::FileBytes.passed()),
-        FileEnd::NoMemory => SourceError::NoMemory,
+    match error {
+        ReadError::Limit(limit) => SourceError::Limit(limit),
+        ReadError::NoMemory => SourceError::NoMemory,
+        other => SourceError::Read(other),
     }
 }
 
-/// The tree of the one named file. `specs/Source.antt` says what each answer means.
+/// The tree of units that are one, whose tokens spell it.
+fn program_of(alloc: Global, units: &[SourceTokens]) -> Result<Straight, SourceError>
+    ensures { (source : Source) → source.units ≡ units.now → IsProgramOf source result }
+{
+    let [tokens] = units else {
+        return Err(SourceError::Unbuilt);
+    };
+    match read(alloc, tokens.items()) {
+        Ok(Some(tree)) => Ok(tree),
+        Ok(None) => Err(SourceError::Unbuilt),
+        Err(NoMemory) => Err(SourceError::NoMemory),
+    }
+}
+
+/// The straight program of the named files and their headers.
+///
+/// # Errors
+///
+/// The first refusal of reading; then [`SourceError::Unbuilt`] where the files are not one unit whose tokens spell a straight
+/// program.
 pub fn read_program<F: Files>(
     alloc: Global,
     files: &mut F,
     roots: &[String],
 ) -> Result<Straight, SourceError>
-    requires one_root { length roots.now ≡ 1 }
     ensures listing_stays { F.listing files.new ≡ F.listing files.old }
     ensures counts_stay_up { NeverFall (F.counts files.old) (F.counts files.new) }
-    ensures one_read { (name : List ℕ) → map string_bytes roots.now ≡ name ∷ [] → F.leads_to files.old name most_bytes files.new }
-    ensures means { (name : List ℕ) → map string_bytes roots.now ≡ name ∷ [] → IsSource (F.listing files.old) name (F.counts files.old) (F.counts files.new) result }
+    ensures reads { HasReads F.leads_to (F.listing files.old) files.old files.new (map string_bytes roots.now) }
+    ensures means { IsSource (F.listing files.old) (map string_bytes roots.now) (F.counts files.old) (F.counts files.new) result }
 {
-    let name = roots[0].as_str();
-    let mut text = Vec::new(alloc);
-    if let Err(end) = files.read(name, 4_194_304, &mut text) {
-        return Err(unread(alloc, name, end));
-    }
-    match read(alloc, &text) {
-        Ok(Some(tree)) => Ok(tree),
-        Ok(None) => Err(SourceError::Unbuilt),
-        Err(NoMemory) => Err(SourceError::NoMemory),
+    match preprocess(alloc, files, roots) {
+        Ok(source) => program_of(alloc, source.units.items()),
+        Err(error) => Err(refused(error)),
     }
 }

@@ -1,4 +1,4 @@
-//! The straight checker: the reader of straight files, and the count of their stale uses. This module goes when whole
+//! The straight checker: the reader of straight programs, and the count of their stale uses. This module goes when whole
 //! programs are checked.
 
 mod declarations;
@@ -8,7 +8,6 @@ mod marks;
 mod names;
 mod numbers;
 mod reader;
-mod scanner;
 mod stale_uses;
 mod steps;
 #[cfg(test)]

@@ -1,4 +1,4 @@
-//! Laws of the runs of straight files.
+//! Laws of the runs of straight programs.
 ghost use Rattle.hs_meaning.specs.Straight.Run.{IsSafe};
 ghost use Rattle.hs_meaning.specs.Straight.StaleUses.{HasStaleUses};
 ghost use Rattle.hs_tree.specs.declared.straight.tree.Straight.{Straight};

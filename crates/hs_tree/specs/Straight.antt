@@ -1,4 +1,2 @@
 pub mod Fine
-pub mod Grammar
 pub mod Names
-pub mod Text

@@ -1,5 +1,4 @@
-//! The trees of programs. So far the tree of a straight file stands here: `specs/Straight/Grammar.antt` has the
-//! relation between a tree and the bytes of a file.
+//! The trees of programs. So far the tree of a straight program stands here.
 #![tactic(auto)]
 
 pub mod straight;

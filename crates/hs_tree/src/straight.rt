@@ -1,12 +1,10 @@
-//! A straight file: one `main` without branches, over the four routines that its prelude declares. This module goes
+//! A straight program: one `main` without branches, over the four routines that its prelude declares. This module goes
 //! when whole programs are checked.
 
 mod lists;
 #[cfg(test)]
 mod tests;
-mod token;
 mod tree;
 
 pub use lists::{Steps, Variables};
-pub use token::Token;
 pub use tree::{Expr, Kind, Step, Straight, Variable};

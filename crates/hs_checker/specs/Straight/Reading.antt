@@ -1,5 +1,5 @@
--- Reading a straight file's tokens from left to right. Each function gives what it read and the tokens after it, or
--- nothing; `hs_tree`'s `Straight/Grammar.antt` has the relation that decides what is right.
+-- Reading the tokens of a straight program from left to right. Each function gives what it read and the tokens after it, or
+-- nothing; `Grammar.antt` has the relation that decides what is right.
 --     Gives view result read              what a function returned is what reading gives
 --     first_at, mark_at, marks_at         any token, one with a given text, several with given texts
 --     is_at text tokens                   the first token has that text
@@ -16,7 +16,8 @@ use Rattle.hs_base.specs.declared.pos.Pos.{Pos}
 use Rattle.hs_base.specs.Text.{is_digit}
 use Rattle.hs_tree.specs.Straight.Names.{begins_with_letter}
 use Rattle.hs_tree.specs.Straight.Fine.{is_declared, is_fine_name, is_fine_step}
-use Rattle.hs_tree.specs.declared.straight.token.Token.{Token}
+use Rattle.hs_tokens.specs.declared.token.SourceToken.{SourceToken}
+use Rattle.hs_tokens.specs.declared.token.Token.{Token}
 use Rattle.hs_tree.specs.declared.straight.tree.Kind.{Kind}
 use Rattle.hs_tree.specs.declared.straight.tree.Kind.TheVariants.{Handle, Pointer, Letter}
 use Rattle.hs_tree.specs.declared.straight.tree.Variable.{Variable}
@@ -37,22 +38,22 @@ None >>= f = None
 (Some x) >>= f = f x
 
 -- the first token, whichever it is
-unfoldable pub first_at : List Token → Option (Token × List Token)
+unfoldable pub first_at : List SourceToken → Option (Token × List SourceToken)
 first_at [] = None
-first_at (token ∷ rest) = Some (token, rest)
+first_at (source ∷ rest) = Some (source.token, rest)
 
 -- the place of the first token, which has that text
-unfoldable pub mark_at : List ℕ → List Token → Option (Pos × List Token)
+unfoldable pub mark_at : List ℕ → List SourceToken → Option (Pos × List SourceToken)
 mark_at text tokens = do
   first ← first_at tokens
   if bytes_eq first.0.text text then Some (first.0.pos, first.1) else None
 
 -- the first token has that text
-unfoldable pub is_at : List ℕ → List Token → Bool
+unfoldable pub is_at : List ℕ → List SourceToken → Bool
 is_at text tokens = is_some (mark_at text tokens)
 
 -- what follows tokens with these texts
-unfoldable pub marks_at : List (List ℕ) → List Token → Option (List Token)
+unfoldable pub marks_at : List (List ℕ) → List SourceToken → Option (List SourceToken)
 marks_at [] tokens = Some tokens
 marks_at (text ∷ texts) tokens = do
   first ← mark_at text tokens
@@ -79,7 +80,7 @@ unfoldable pub numeral : ℕ → List ℕ → Option ℕ
 numeral most text = if is_numeral text && nat_le (digits_value 10 text) most then Some (digits_value 10 text) else None
 
 -- a token that is a number
-unfoldable pub number_at : ℕ → List Token → Option (ℕ × List Token)
+unfoldable pub number_at : ℕ → List SourceToken → Option (ℕ × List SourceToken)
 number_at most tokens = do
   first ← first_at tokens
   number ← numeral most first.0.text
@@ -90,14 +91,14 @@ unfoldable pub number_of : List Variable → List ℕ → Option ℕ
 number_of variables name = position (λ variable. bytes_eq variable.name name) variables
 
 -- a token that names a variable
-unfoldable pub variable_at : List Variable → List Token → Option (ℕ × List Token)
+unfoldable pub variable_at : List Variable → List SourceToken → Option (ℕ × List SourceToken)
 variable_at variables tokens = do
   first ← first_at tokens
   number ← number_of variables first.0.text
   Some (number, first.1)
 
 -- the second star of a handle, where it stands
-unfoldable pub second_star_at : List Token → Option (Kind × List Token)
+unfoldable pub second_star_at : List SourceToken → Option (Kind × List SourceToken)
 second_star_at tokens =
     if is_at (codes "*") tokens then (do
       star ← mark_at (codes "*") tokens
@@ -105,7 +106,7 @@ second_star_at tokens =
     else Some (Pointer, tokens)
 
 -- the stars in front of a name
-unfoldable pub kind_at : List Token → Option (Kind × List Token)
+unfoldable pub kind_at : List SourceToken → Option (Kind × List SourceToken)
 kind_at tokens =
     if is_at (codes "*") tokens then (do
       star ← mark_at (codes "*") tokens
@@ -113,7 +114,7 @@ kind_at tokens =
     else Some (Letter, tokens)
 
 -- a declaration, whose name may follow those before it
-unfoldable pub declaration_at : List Variable → List Token → Option (Variable × List Token)
+unfoldable pub declaration_at : List Variable → List SourceToken → Option (Variable × List SourceToken)
 declaration_at earlier tokens = do
   word ← mark_at (codes "char") tokens
   kind ← kind_at word.1
@@ -132,25 +133,25 @@ word_value variables token =
       Some (expr.Number value))
 
 -- an expression of one token
-unfoldable pub word_at : List Variable → List Token → Option (Expr × List Token)
+unfoldable pub word_at : List Variable → List SourceToken → Option (Expr × List SourceToken)
 word_at variables tokens = do
   first ← first_at tokens
   value ← word_value variables first.0
   Some (value, first.1)
 
 -- what a pointer points to
-unfoldable pub load_at : List Variable → List Token → Option (Expr × List Token)
+unfoldable pub load_at : List Variable → List SourceToken → Option (Expr × List SourceToken)
 load_at variables tokens = do
   star ← mark_at (codes "*") tokens
   pointer ← variable_at variables star.1
   Some (expr.Load star.0 pointer.0, pointer.1)
 
 -- an expression: only what is loaded begins with a star
-unfoldable pub expr_at : List Variable → List Token → Option (Expr × List Token)
+unfoldable pub expr_at : List Variable → List SourceToken → Option (Expr × List SourceToken)
 expr_at variables tokens = if is_at (codes "*") tokens then load_at variables tokens else word_at variables tokens
 
 -- a handle in parentheses
-unfoldable pub handle_at : List Variable → List Token → Option (ℕ × List Token)
+unfoldable pub handle_at : List Variable → List SourceToken → Option (ℕ × List SourceToken)
 handle_at variables tokens = do
   left ← mark_at (codes "(") tokens
   handle ← variable_at variables left.1
@@ -158,21 +159,21 @@ handle_at variables tokens = do
   Some (handle.0, right.1)
 
 -- `HLock(handle)`
-unfoldable pub lock_at : List Variable → List Token → Option (Step × List Token)
+unfoldable pub lock_at : List Variable → List SourceToken → Option (Step × List SourceToken)
 lock_at variables tokens = do
   word ← mark_at (codes "HLock") tokens
   handle ← handle_at variables word.1
   Some (step.HLock word.0 handle.0, handle.1)
 
 -- `HUnlock(handle)`
-unfoldable pub unlock_at : List Variable → List Token → Option (Step × List Token)
+unfoldable pub unlock_at : List Variable → List SourceToken → Option (Step × List SourceToken)
 unlock_at variables tokens = do
   word ← mark_at (codes "HUnlock") tokens
   handle ← handle_at variables word.1
   Some (step.HUnlock word.0 handle.0, handle.1)
 
 -- `putchar(value)`
-unfoldable pub putchar_at : List Variable → List Token → Option (Step × List Token)
+unfoldable pub putchar_at : List Variable → List SourceToken → Option (Step × List SourceToken)
 putchar_at variables tokens = do
   word ← mark_at (codes "putchar") tokens
   left ← mark_at (codes "(") word.1
@@ -181,7 +182,7 @@ putchar_at variables tokens = do
   Some (step.Putchar value.0, right.1)
 
 -- `*pointer = value`
-unfoldable pub store_at : List Variable → List Token → Option (Step × List Token)
+unfoldable pub store_at : List Variable → List SourceToken → Option (Step × List SourceToken)
 store_at variables tokens = do
   star ← mark_at (codes "*") tokens
   pointer ← variable_at variables star.1
@@ -190,7 +191,7 @@ store_at variables tokens = do
   Some (step.Store sign.0 pointer.0 value.0, value.1)
 
 -- `NewHandle(number)`, for the handle
-unfoldable pub new_handle_at : ℕ → List Token → Option (Step × List Token)
+unfoldable pub new_handle_at : ℕ → List SourceToken → Option (Step × List SourceToken)
 new_handle_at handle tokens = do
   word ← mark_at (codes "NewHandle") tokens
   left ← mark_at (codes "(") word.1
@@ -199,34 +200,34 @@ new_handle_at handle tokens = do
   Some (step.NewHandle handle size.0, right.1)
 
 -- `*handle`, for the pointer
-unfoldable pub derive_at : List Variable → ℕ → List Token → Option (Step × List Token)
+unfoldable pub derive_at : List Variable → ℕ → List SourceToken → Option (Step × List SourceToken)
 derive_at variables pointer tokens = do
   star ← mark_at (codes "*") tokens
   handle ← variable_at variables star.1
   Some (step.Derive star.0 pointer handle.0, handle.1)
 
 -- a value, for the letter
-unfoldable pub set_at : List Variable → ℕ → List Token → Option (Step × List Token)
+unfoldable pub set_at : List Variable → ℕ → List SourceToken → Option (Step × List SourceToken)
 set_at variables letter tokens = do
   value ← expr_at variables tokens
   Some (step.Set letter value.0, value.1)
 
 -- what stands behind the `=` of an assignment to the variable of that number
-unfoldable pub source_at : List Variable → ℕ → List Token → Option (Step × List Token)
+unfoldable pub source_at : List Variable → ℕ → List SourceToken → Option (Step × List SourceToken)
 source_at variables number tokens =
     if is_declared Handle variables number then new_handle_at number tokens
     else if is_declared Pointer variables number then derive_at variables number tokens
     else set_at variables number tokens
 
 -- an assignment to a variable: its kind decides the form
-unfoldable pub assign_at : List Variable → List Token → Option (Step × List Token)
+unfoldable pub assign_at : List Variable → List SourceToken → Option (Step × List SourceToken)
 assign_at variables tokens = do
   target ← variable_at variables tokens
   sign ← mark_at (codes "=") target.1
   source_at variables target.0 sign.1
 
 -- a step without its semicolon
-unfoldable pub form_at : List Variable → List Token → Option (Step × List Token)
+unfoldable pub form_at : List Variable → List SourceToken → Option (Step × List SourceToken)
 form_at variables tokens =
     if is_at (codes "*") tokens then store_at variables tokens
     else if is_at (codes "HLock") tokens then lock_at variables tokens
@@ -235,7 +236,7 @@ form_at variables tokens =
     else assign_at variables tokens
 
 -- a step, which may follow those done
-unfoldable pub step_at : List Variable → List Step → List Token → Option (Step × List Token)
+unfoldable pub step_at : List Variable → List Step → List SourceToken → Option (Step × List SourceToken)
 step_at variables done tokens = do
   step ← form_at variables tokens
   mark ← mark_at (codes ";") step.1

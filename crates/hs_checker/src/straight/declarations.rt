@@ -5,12 +5,13 @@ ghost use Rattle.hs_checker.specs.Straight.Rows.{AreDeclarations, NoDeclarations
 use crate::straight::marks::{first, is_at, mark};
 use crate::straight::names::is_fine_name;
 use hs_base::{Bytes, NoMemory};
-use hs_tree::straight::{Kind, Token, Variable};
+use hs_tokens::SourceToken;
+use hs_tree::straight::{Kind, Variable};
 use std::alloc::Global;
 
 /// Reads the second star of a handle, where it stands.
 #[tactic(auto, unfolding(crate::specs::Straight::Reading::second_star_at))]
-fn second_star(tokens: &[Token]) -> Option<(Kind, &[Token])>
+fn second_star(tokens: &[SourceToken]) -> Option<(Kind, &[SourceToken])>
     ensures { Gives (λ x. (x.0, x.1.now)) result (second_star_at tokens.now) }
 {
     if is_at(b"*", tokens) {
@@ -23,7 +24,7 @@ fn second_star(tokens: &[Token]) -> Option<(Kind, &[Token])>
 
 /// Reads the stars of a declaration.
 #[tactic(auto, unfolding(crate::specs::Straight::Reading::kind_at))]
-fn kind(tokens: &[Token]) -> Option<(Kind, &[Token])>
+fn kind(tokens: &[SourceToken]) -> Option<(Kind, &[SourceToken])>
     ensures { Gives (λ x. (x.0, x.1.now)) result (kind_at tokens.now) }
 {
     if is_at(b"*", tokens) {
@@ -38,8 +39,8 @@ fn kind(tokens: &[Token]) -> Option<(Kind, &[Token])>
 #[tactic(auto, unfolding(crate::specs::Straight::Reading::declaration_at))]
 fn declaration<'a>(
     earlier: &[Variable],
-    tokens: &'a [Token],
-) -> Option<(Kind, &'a [u8], &'a [Token])>
+    tokens: &'a [SourceToken],
+) -> Option<(Kind, &'a [u8], &'a [SourceToken])>
     ensures { Gives (λ x. (record { kind = x.0; name = x.1.now }, x.2.now)) result (declaration_at earlier.now tokens.now) }
 {
     let (_, rest) = mark(b"char", tokens)?;
@@ -58,8 +59,8 @@ fn declaration<'a>(
 /// begins and does not go on as one, or may not follow those before it.
 pub(crate) fn declarations(
     alloc: Global,
-    tokens: &[Token],
-) -> Result<Option<(Vec<Variable>, &[Token])>, NoMemory>
+    tokens: &[SourceToken],
+) -> Result<Option<(Vec<Variable>, &[SourceToken])>, NoMemory>
     ensures found { IfOk result (λ read. IfSome read (λ x. AreDeclarations tokens.now x.0.items x.1.now)) }
     ensures few { IfOk result (λ read. IfSome read (λ x. length x.0.items ≤ length tokens.now)) }
     ensures none { IfOk result (λ read. IfNone read (NoDeclarations tokens.now)) }

@@ -1,15 +1,16 @@
-ghost use Rattle.std.specs.Prelude.{◌≡◌, ◌≤◌, length};
+ghost use Rattle.std.specs.Prelude.{◌≡◌, ◌<◌, ◌^◌, length};
 ghost use Rattle.hs_checker.specs.Straight.Reading.{Gives, word_value, word_at, load_at, expr_at};
 
 use crate::straight::marks::{first, is_at, mark};
 use crate::straight::names::{begins_with_letter, number_of, variable};
 use crate::straight::numbers::numeral;
-use hs_tree::straight::{Expr, Token, Variable};
+use hs_tokens::{SourceToken, Token};
+use hs_tree::straight::{Expr, Variable};
 
 /// The value that one token stands for.
 #[tactic(auto, unfolding(crate::specs::Straight::Reading::word_value))]
 fn word_value(variables: &[Variable], token: &Token) -> Option<Expr>
-    requires { length variables.now ≤ 4194304 }
+    requires { length variables.now < 2 ^ 32 }
     ensures { result ≡ word_value variables.now token.now }
 {
     let text = token.text.items();
@@ -27,8 +28,8 @@ fn word_value(variables: &[Variable], token: &Token) -> Option<Expr>
 
 /// Reads a name or a number.
 #[tactic(auto, unfolding(crate::specs::Straight::Reading::word_at))]
-fn word<'a>(variables: &[Variable], tokens: &'a [Token]) -> Option<(Expr, &'a [Token])>
-    requires { length variables.now ≤ 4194304 }
+fn word<'a>(variables: &[Variable], tokens: &'a [SourceToken]) -> Option<(Expr, &'a [SourceToken])>
+    requires { length variables.now < 2 ^ 32 }
     ensures { Gives (λ x. (x.0, x.1.now)) result (word_at variables.now tokens.now) }
 {
     let (token, rest) = first(tokens)?;
@@ -38,8 +39,8 @@ fn word<'a>(variables: &[Variable], tokens: &'a [Token]) -> Option<(Expr, &'a [T
 
 /// Reads what a pointer points to.
 #[tactic(auto, unfolding(crate::specs::Straight::Reading::load_at))]
-fn load<'a>(variables: &[Variable], tokens: &'a [Token]) -> Option<(Expr, &'a [Token])>
-    requires { length variables.now ≤ 4194304 }
+fn load<'a>(variables: &[Variable], tokens: &'a [SourceToken]) -> Option<(Expr, &'a [SourceToken])>
+    requires { length variables.now < 2 ^ 32 }
     ensures { Gives (λ x. (x.0, x.1.now)) result (load_at variables.now tokens.now) }
 {
     let (pos, rest) = mark(b"*", tokens)?;
@@ -49,8 +50,11 @@ fn load<'a>(variables: &[Variable], tokens: &'a [Token]) -> Option<(Expr, &'a [T
 
 /// Reads an expression. Kinds, and whether its variable has a value, are tested with its step.
 #[tactic(auto, unfolding(crate::specs::Straight::Reading::expr_at))]
-pub(crate) fn expr<'a>(variables: &[Variable], tokens: &'a [Token]) -> Option<(Expr, &'a [Token])>
-    requires { length variables.now ≤ 4194304 }
+pub(crate) fn expr<'a>(
+    variables: &[Variable],
+    tokens: &'a [SourceToken],
+) -> Option<(Expr, &'a [SourceToken])>
+    requires { length variables.now < 2 ^ 32 }
     ensures { Gives (λ x. (x.0, x.1.now)) result (expr_at variables.now tokens.now) }
 {
     if is_at(b"*", tokens) {

@@ -1,4 +1,4 @@
-ghost use Rattle.std.specs.Prelude.{◌≡◌, ◌≤◌, length, map};
+ghost use Rattle.std.specs.Prelude.{◌≡◌, ◌<◌, ◌^◌, length, map};
 ghost use Rattle.std.specs.List.{list_any, list_all};
 ghost use Rattle.std.specs.Str.{bytes_eq};
 ghost use Rattle.hs_base.specs.Text.{is_word_byte};
@@ -8,7 +8,8 @@ ghost use Rattle.hs_checker.specs.Straight.Reading.{Gives, number_of, variable_a
 
 use crate::straight::marks::first;
 use hs_base::{is_letter, is_word_byte};
-use hs_tree::straight::{Token, Variable};
+use hs_tokens::SourceToken;
+use hs_tree::straight::Variable;
 
 /// The words that no variable may have as its name.
 const RESERVED: [&str; 38] = [
@@ -118,7 +119,7 @@ fn place_of(variables: &[Variable], name: &[u8]) -> Option<usize>
 /// The number of the variable of that name. The bound keeps it within its type.
 #[tactic(auto, using(crate::proofs::Names::number_within))]
 pub(crate) fn number_of(variables: &[Variable], name: &[u8]) -> Option<u32>
-    requires { length variables.now ≤ 4194304 }
+    requires { length variables.now < 2 ^ 32 }
     ensures { result ≡ number_of variables.now name.now }
 {
     let place = place_of(variables, name)?;
@@ -129,9 +130,9 @@ pub(crate) fn number_of(variables: &[Variable], name: &[u8]) -> Option<u32>
 #[tactic(auto, unfolding(crate::specs::Straight::Reading::variable_at))]
 pub(crate) fn variable<'a>(
     variables: &[Variable],
-    tokens: &'a [Token],
-) -> Option<(u32, &'a [Token])>
-    requires { length variables.now ≤ 4194304 }
+    tokens: &'a [SourceToken],
+) -> Option<(u32, &'a [SourceToken])>
+    requires { length variables.now < 2 ^ 32 }
     ensures { Gives (λ x. (x.0, x.1.now)) result (variable_at variables.now tokens.now) }
 {
     let (token, rest) = first(tokens)?;

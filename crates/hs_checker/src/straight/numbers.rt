@@ -5,7 +5,7 @@ ghost use Rattle.hs_checker.specs.Straight.Reading.{Gives, is_numeral, numeral, 
 
 use crate::straight::marks::first;
 use hs_base::is_digit;
-use hs_tree::straight::Token;
+use hs_tokens::SourceToken;
 
 /// Whether all bytes are digits.
 fn are_digits(text: &[u8]) -> bool
@@ -47,7 +47,7 @@ pub(crate) fn numeral(most: u32, text: &[u8]) -> Option<u32>
 
 /// Reads a number, at most `most`.
 #[tactic(auto, unfolding(crate::specs::Straight::Reading::number_at))]
-pub(crate) fn number(most: u32, tokens: &[Token]) -> Option<(u32, &[Token])>
+pub(crate) fn number(most: u32, tokens: &[SourceToken]) -> Option<(u32, &[SourceToken])>
     requires { most ≤ 32767 }
     ensures value { Gives (λ x. (x.0, x.1.now)) result (number_at most tokens.now) }
     ensures low { IfSome result (λ x. x.0 ≤ most) }

@@ -1,4 +1,4 @@
-ghost use Rattle.std.specs.Prelude.{◌≡◌, ◌≤◌, length, [], IsTrue, IfOk, IfSome, IfNone};
+ghost use Rattle.std.specs.Prelude.{◌≡◌, ◌<◌, ◌^◌, length, [], IsTrue, IfOk, IfSome, IfNone};
 ghost use Rattle.hs_tree.specs.Straight.Fine.{kind_eq, is_declared, assigns, was_assigned, is_readable, is_fine_expr, is_fine_step, are_fine_names};
 ghost use Rattle.hs_checker.specs.Straight.Reading.{Gives, handle_at, lock_at, unlock_at, putchar_at, store_at, new_handle_at, derive_at, set_at, source_at, assign_at, form_at, step_at};
 ghost use Rattle.hs_checker.specs.Straight.Rows.{AreSteps, NoSteps};
@@ -8,7 +8,8 @@ use crate::straight::marks::{is_at, mark};
 use crate::straight::names::variable;
 use crate::straight::numbers::number;
 use hs_base::NoMemory;
-use hs_tree::straight::{Expr, Kind, Step, Token, Variable};
+use hs_tokens::SourceToken;
+use hs_tree::straight::{Expr, Kind, Step, Variable};
 use std::alloc::Global;
 
 /// Whether the variable of that number has that kind.
@@ -92,8 +93,8 @@ fn is_fine_step(variables: &[Variable], done: &[Step], step: Step) -> bool
 
 /// Reads a handle in parentheses.
 #[tactic(auto, unfolding(crate::specs::Straight::Reading::handle_at))]
-fn handle<'a>(variables: &[Variable], tokens: &'a [Token]) -> Option<(u32, &'a [Token])>
-    requires { length variables.now ≤ 4194304 }
+fn handle<'a>(variables: &[Variable], tokens: &'a [SourceToken]) -> Option<(u32, &'a [SourceToken])>
+    requires { length variables.now < 2 ^ 32 }
     ensures { Gives (λ x. (x.0, x.1.now)) result (handle_at variables.now tokens.now) }
 {
     let (_, rest) = mark(b"(", tokens)?;
@@ -104,8 +105,8 @@ fn handle<'a>(variables: &[Variable], tokens: &'a [Token]) -> Option<(u32, &'a [
 
 /// Reads `HLock(handle)`.
 #[tactic(auto, unfolding(crate::specs::Straight::Reading::lock_at))]
-fn lock<'a>(variables: &[Variable], tokens: &'a [Token]) -> Option<(Step, &'a [Token])>
-    requires { length variables.now ≤ 4194304 }
+fn lock<'a>(variables: &[Variable], tokens: &'a [SourceToken]) -> Option<(Step, &'a [SourceToken])>
+    requires { length variables.now < 2 ^ 32 }
     ensures { Gives (λ x. (x.0, x.1.now)) result (lock_at variables.now tokens.now) }
 {
     let (pos, rest) = mark(b"HLock", tokens)?;
@@ -115,8 +116,11 @@ fn lock<'a>(variables: &[Variable], tokens: &'a [Token]) -> Option<(Step, &'a [T
 
 /// Reads `HUnlock(handle)`.
 #[tactic(auto, unfolding(crate::specs::Straight::Reading::unlock_at))]
-fn unlock<'a>(variables: &[Variable], tokens: &'a [Token]) -> Option<(Step, &'a [Token])>
-    requires { length variables.now ≤ 4194304 }
+fn unlock<'a>(
+    variables: &[Variable],
+    tokens: &'a [SourceToken],
+) -> Option<(Step, &'a [SourceToken])>
+    requires { length variables.now < 2 ^ 32 }
     ensures { Gives (λ x. (x.0, x.1.now)) result (unlock_at variables.now tokens.now) }
 {
     let (pos, rest) = mark(b"HUnlock", tokens)?;
@@ -126,8 +130,11 @@ fn unlock<'a>(variables: &[Variable], tokens: &'a [Token]) -> Option<(Step, &'a 
 
 /// Reads `putchar(value)`.
 #[tactic(auto, unfolding(crate::specs::Straight::Reading::putchar_at))]
-fn putchar<'a>(variables: &[Variable], tokens: &'a [Token]) -> Option<(Step, &'a [Token])>
-    requires { length variables.now ≤ 4194304 }
+fn putchar<'a>(
+    variables: &[Variable],
+    tokens: &'a [SourceToken],
+) -> Option<(Step, &'a [SourceToken])>
+    requires { length variables.now < 2 ^ 32 }
     ensures { Gives (λ x. (x.0, x.1.now)) result (putchar_at variables.now tokens.now) }
 {
     let (_, rest) = mark(b"putchar", tokens)?;
@@ -139,8 +146,8 @@ fn putchar<'a>(variables: &[Variable], tokens: &'a [Token]) -> Option<(Step, &'a
 
 /// Reads `*pointer = value`.
 #[tactic(auto, unfolding(crate::specs::Straight::Reading::store_at))]
-fn store<'a>(variables: &[Variable], tokens: &'a [Token]) -> Option<(Step, &'a [Token])>
-    requires { length variables.now ≤ 4194304 }
+fn store<'a>(variables: &[Variable], tokens: &'a [SourceToken]) -> Option<(Step, &'a [SourceToken])>
+    requires { length variables.now < 2 ^ 32 }
     ensures { Gives (λ x. (x.0, x.1.now)) result (store_at variables.now tokens.now) }
 {
     let (_, rest) = mark(b"*", tokens)?;
@@ -159,7 +166,7 @@ fn store<'a>(variables: &[Variable], tokens: &'a [Token]) -> Option<(Step, &'a [
 
 /// Reads `NewHandle(number)`, which is assigned to the handle.
 #[tactic(auto, unfolding(crate::specs::Straight::Reading::new_handle_at))]
-fn new_handle(handle: u32, tokens: &[Token]) -> Option<(Step, &[Token])>
+fn new_handle(handle: u32, tokens: &[SourceToken]) -> Option<(Step, &[SourceToken])>
     ensures { Gives (λ x. (x.0, x.1.now)) result (new_handle_at handle tokens.now) }
 {
     let (_, rest) = mark(b"NewHandle", tokens)?;
@@ -180,9 +187,9 @@ fn new_handle(handle: u32, tokens: &[Token]) -> Option<(Step, &[Token])>
 fn derive<'a>(
     variables: &[Variable],
     pointer: u32,
-    tokens: &'a [Token],
-) -> Option<(Step, &'a [Token])>
-    requires { length variables.now ≤ 4194304 }
+    tokens: &'a [SourceToken],
+) -> Option<(Step, &'a [SourceToken])>
+    requires { length variables.now < 2 ^ 32 }
     ensures { Gives (λ x. (x.0, x.1.now)) result (derive_at variables.now pointer tokens.now) }
 {
     let (pos, rest) = mark(b"*", tokens)?;
@@ -199,8 +206,12 @@ fn derive<'a>(
 
 /// Reads a value, which is assigned to the letter.
 #[tactic(auto, unfolding(crate::specs::Straight::Reading::set_at))]
-fn set<'a>(variables: &[Variable], letter: u32, tokens: &'a [Token]) -> Option<(Step, &'a [Token])>
-    requires { length variables.now ≤ 4194304 }
+fn set<'a>(
+    variables: &[Variable],
+    letter: u32,
+    tokens: &'a [SourceToken],
+) -> Option<(Step, &'a [SourceToken])>
+    requires { length variables.now < 2 ^ 32 }
     ensures { Gives (λ x. (x.0, x.1.now)) result (set_at variables.now letter tokens.now) }
 {
     let (value, rest) = expr(variables, tokens)?;
@@ -212,9 +223,9 @@ fn set<'a>(variables: &[Variable], letter: u32, tokens: &'a [Token]) -> Option<(
 fn source<'a>(
     variables: &[Variable],
     number: u32,
-    tokens: &'a [Token],
-) -> Option<(Step, &'a [Token])>
-    requires { length variables.now ≤ 4194304 }
+    tokens: &'a [SourceToken],
+) -> Option<(Step, &'a [SourceToken])>
+    requires { length variables.now < 2 ^ 32 }
     ensures { Gives (λ x. (x.0, x.1.now)) result (source_at variables.now number tokens.now) }
 {
     if is_declared(Kind::Handle, variables, number) {
@@ -228,8 +239,11 @@ fn source<'a>(
 
 /// Reads an assignment to a variable.
 #[tactic(auto, unfolding(crate::specs::Straight::Reading::assign_at))]
-fn assign<'a>(variables: &[Variable], tokens: &'a [Token]) -> Option<(Step, &'a [Token])>
-    requires { length variables.now ≤ 4194304 }
+fn assign<'a>(
+    variables: &[Variable],
+    tokens: &'a [SourceToken],
+) -> Option<(Step, &'a [SourceToken])>
+    requires { length variables.now < 2 ^ 32 }
     ensures { Gives (λ x. (x.0, x.1.now)) result (assign_at variables.now tokens.now) }
 {
     let (target, rest) = variable(variables, tokens)?;
@@ -239,8 +253,8 @@ fn assign<'a>(variables: &[Variable], tokens: &'a [Token]) -> Option<(Step, &'a 
 
 /// Reads a step without its semicolon.
 #[tactic(auto, unfolding(crate::specs::Straight::Reading::form_at))]
-fn form<'a>(variables: &[Variable], tokens: &'a [Token]) -> Option<(Step, &'a [Token])>
-    requires { length variables.now ≤ 4194304 }
+fn form<'a>(variables: &[Variable], tokens: &'a [SourceToken]) -> Option<(Step, &'a [SourceToken])>
+    requires { length variables.now < 2 ^ 32 }
     ensures { Gives (λ x. (x.0, x.1.now)) result (form_at variables.now tokens.now) }
 {
     if is_at(b"*", tokens) {
@@ -261,9 +275,9 @@ fn form<'a>(variables: &[Variable], tokens: &'a [Token]) -> Option<(Step, &'a [T
 fn step<'a>(
     variables: &[Variable],
     done: &[Step],
-    tokens: &'a [Token],
-) -> Option<(Step, &'a [Token])>
-    requires { length variables.now ≤ 4194304 }
+    tokens: &'a [SourceToken],
+) -> Option<(Step, &'a [SourceToken])>
+    requires { length variables.now < 2 ^ 32 }
     ensures { Gives (λ x. (x.0, x.1.now)) result (step_at variables.now done.now tokens.now) }
 {
     let (step, rest) = form(variables, tokens)?;
@@ -280,9 +294,9 @@ fn step<'a>(
 pub(crate) fn steps<'a>(
     alloc: Global,
     variables: &[Variable],
-    tokens: &'a [Token],
-) -> Result<Option<(Vec<Step>, &'a [Token])>, NoMemory>
-    requires few { length variables.now ≤ 4194304 }
+    tokens: &'a [SourceToken],
+) -> Result<Option<(Vec<Step>, &'a [SourceToken])>, NoMemory>
+    requires few { length variables.now < 2 ^ 32 }
     requires named { IsTrue (are_fine_names [] variables.now) }
     ensures found { IfOk result (λ read. IfSome read (λ x. AreSteps variables.now tokens.now x.0.items x.1.now)) }
     ensures none { IfOk result (λ read. IfNone read (NoSteps variables.now tokens.now)) }

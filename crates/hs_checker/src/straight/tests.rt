@@ -1,7 +1,7 @@
 use super::read;
-use super::scanner::scan;
 use hs_base::Pos;
-use hs_tree::straight::{Expr, Step, Straight};
+use hs_tokens::{Origin, SourceToken, scan};
+use hs_tree::straight::{Expr, Step};
 use std::alloc::Global;
 use std::test::Fail;
 
@@ -11,13 +11,22 @@ const ROW: &str =
 const PRELUDE: &str =
     "char **NewHandle(long n); void HLock(char **h); void HUnlock(char **h); int putchar(int c); int main(void) { ";
 
-// The places are those of the `*` and of the `=` in the third line.
+/// The tokens of a short text, all of one origin.
+fn tokens_of(alloc: Global, text: &str, origin: Origin) -> Result<Vec<SourceToken>, Fail> {
+    let bytes = text.as_bytes();
+    if bytes.len() > 4096 {
+        return Err(Fail::new("the text is short"));
+    }
+    let mut tokens = Vec::new(alloc);
+    for token in scan(alloc, bytes, 0, 4096)? {
+        tokens.push(SourceToken { token, origin })?;
+    }
+    Ok(tokens)
+}
+
+// The places are those of the `*` and of the `=` in the third line. What comes from a macro is read as the rest.
 #[test]
 fn a_row_has_its_steps_and_their_places(rt: HostRuntime) -> Result<(), Fail> {
-    let tree = read(rt.alloc(), ROW.as_bytes())
-        .ok()
-        .ok_or("memory is there")?
-        .ok_or("the text is a straight file")?;
     let on = |col: u32| Pos {
         file: 0,
         line: 3,
@@ -43,25 +52,34 @@ fn a_row_has_its_steps_and_their_places(rt: HostRuntime) -> Result<(), Fail> {
             },
         },
     ];
-    assert_eq!(rt; tree.steps.items(), steps.as_slice());
-    assert_eq!(rt; tree.variables.items().len(), 3);
+    for origin in [Origin::Plain, Origin::Macro] {
+        let tokens = tokens_of(rt.alloc(), ROW, origin)?;
+        let tree = read(rt.alloc(), &tokens)
+            .ok()
+            .ok_or("memory is there")?
+            .ok_or("the tokens spell a straight program")?;
+        assert_eq!(rt; tree.steps.items(), steps.as_slice());
+        assert_eq!(rt; tree.variables.items().len(), 3);
+    }
     Ok(())
 }
 
-/// Whether the reader finds a tree in a `main` with this body.
-fn is_read(alloc: Global, body: &str) -> Result<bool, Fail> {
-    let text = format!(in alloc; "{PRELUDE}{body}")?;
-    let bytes = text.as_bytes();
-    if bytes.len() > 4096 {
-        return Err(Fail::new("the body is short"));
-    }
-    let tree = read(alloc, bytes).ok().ok_or("memory is there")?;
+/// Whether the reader finds a tree in the tokens of this text.
+fn is_read(alloc: Global, text: &str) -> Result<bool, Fail> {
+    let tokens = tokens_of(alloc, text, Origin::Plain)?;
+    let tree = read(alloc, &tokens).ok().ok_or("memory is there")?;
     Ok(tree.is_some())
+}
+
+/// Whether it finds one in a `main` with this body.
+fn is_body_read(alloc: Global, body: &str) -> Result<bool, Fail> {
+    let text = format!(in alloc; "{PRELUDE}{body}")?;
+    is_read(alloc, &text)
 }
 
 // Most of them are a text of the next table with one thing changed.
 #[test]
-fn what_is_no_straight_file_is_refused(rt: HostRuntime) -> Result<(), Fail> {
+fn what_is_no_straight_program_is_refused(rt: HostRuntime) -> Result<(), Fail> {
     let bodies = [
         "",
         "return 0;",
@@ -79,23 +97,23 @@ fn what_is_no_straight_file_is_refused(rt: HostRuntime) -> Result<(), Fail> {
         "char **h; char *p; p = *h; return 0; }",
         "char x; x = 1; char y; return 0; }",
         "char x; x = 1 return 0; }",
-        "char x; x = \x00 1; return 0; }",
+        "char x; x = + 1; return 0; }",
         "char x; x = 1; return 0",
         "char x; x = 1; return 1; }",
     ];
     for body in bodies {
-        assert!(rt; !is_read(rt.alloc(), body)?);
+        assert!(rt; !is_body_read(rt.alloc(), body)?);
     }
-    assert!(rt; matches!(read(rt.alloc(), b""), Ok(None)));
-    assert!(rt; matches!(read(rt.alloc(), b"char **NewHandle(lo"), Ok(None)));
+    assert!(rt; !is_read(rt.alloc(), "")?);
+    assert!(rt; !is_read(rt.alloc(), "char **NewHandle(lo")?);
     let joined =
         "char **NewHandle(long n); void HLock(char **h); void HUnlock(char **h); int putchar(int c); intmain(void) { return 0; }";
-    assert!(rt; matches!(read(rt.alloc(), joined.as_bytes()), Ok(None)));
+    assert!(rt; !is_read(rt.alloc(), joined)?);
     Ok(())
 }
 
 #[test]
-fn what_is_a_straight_file_is_read(rt: HostRuntime) -> Result<(), Fail> {
+fn what_is_a_straight_program_is_read(rt: HostRuntime) -> Result<(), Fail> {
     let bodies = [
         "return 0; }",
         "\r\n\treturn\r0;\n}\n",
@@ -107,23 +125,7 @@ fn what_is_a_straight_file_is_read(rt: HostRuntime) -> Result<(), Fail> {
         "char **h; char *p; h = NewHandle(0); p = *h; *p = *p; return 0; }",
     ];
     for body in bodies {
-        assert!(rt; is_read(rt.alloc(), body)?);
-    }
-    Ok(())
-}
-
-// C 3.1: a run of the bytes of names and numbers is one token. A CR LF ends one line.
-#[test]
-fn tokens_have_their_places(rt: HostRuntime) -> Result<(), Fail> {
-    let tokens = scan(rt.alloc(), b"a1=\r\n  b_;")
-        .ok()
-        .ok_or("memory is there")?;
-    let texts: [&[u8]; 4] = [b"a1", b"=", b"b_", b";"];
-    let places = [(1, 1), (1, 3), (2, 3), (2, 5)];
-    assert_eq!(rt; tokens.len(), 4);
-    for (token, (text, (line, col))) in tokens.iter().zip(texts.into_iter().zip(places)) {
-        assert_eq!(rt; token.text.items(), text);
-        assert_eq!(rt; token.pos, Pos { file: 0, line, col });
+        assert!(rt; is_body_read(rt.alloc(), body)?);
     }
     Ok(())
 }

@@ -1,4 +1,4 @@
--- What the tree of a straight file keeps, beside its shape.
+-- What the tree of a straight program keeps, beside its shape.
 --     * a name is declared once
 --     * each variable of a step is declared, with the kind that its form asks for
 --     * a number is at most 32767 as a size and at most 127 elsewhere

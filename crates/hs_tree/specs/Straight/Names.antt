@@ -1,4 +1,4 @@
--- The names that a straight file may declare: identifiers (X3.159-1989 3.1.2) that are no keyword (3.1.1), not
+-- The names that a straight program may declare: identifiers (X3.159-1989 3.1.2) that are no keyword (3.1.1), not
 -- `pascal` (a keyword of the Macintosh's compilers), not `main`, and no routine of the prelude.
 use Rattle.std.specs.Prelude.{ℕ, Bool, false, not, ◌&&◌, List, [], ◌∷◌, codes}
 use Rattle.std.specs.List.{list_any, list_all}

@@ -3,7 +3,7 @@ ghost use Rattle.std.specs.Prelude.{◌≡◌};
 use crate::straight::{Step, Variable};
 use std::marker::Model;
 
-/// The declared variables of a straight file, in the order of the text. Contracts see the list.
+/// The declared variables of a straight program, in the order of the text. Contracts see the list.
 #[derive(Debug, Drop)]
 pub struct Variables {
     vec: Vec<Variable>,
@@ -34,7 +34,7 @@ impl Variables {
     }
 }
 
-/// The steps of a straight file, in the order of the text. Contracts see the list.
+/// The steps of a straight program, in the order of the text. Contracts see the list.
 #[derive(Debug, Drop)]
 pub struct Steps {
     vec: Vec<Step>,

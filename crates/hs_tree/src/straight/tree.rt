@@ -4,7 +4,7 @@ ghost use Rattle.hs_tree.specs.Straight.Fine.{is_fine};
 use crate::straight::{Steps, Variables};
 use hs_base::{Bytes, Pos};
 
-/// What a variable of a straight file holds.
+/// What a variable of a straight program holds.
 #[derive(Clone, Copy, Debug, PartialEq, Eq)]
 pub enum Kind {
     /// `char **`: a handle.
@@ -52,7 +52,7 @@ pub enum Step {
     Putchar { value: Expr },
 }
 
-/// The tree of a straight file.
+/// The tree of a straight program.
 #[derive(Debug, Drop)]
 pub struct Straight {
     pub variables: Variables,

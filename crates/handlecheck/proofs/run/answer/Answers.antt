@@ -1,19 +1,7 @@
--- The report that was put is right.
-use Rattle.handlecheck.specs.declared.report.Report.TheVariants.{Usage, NoMemory}
+-- What the words ask for was done, or they ask for nothing.
+use Rattle.std.proofs.Common.{[], refl, inl, rules}
+use Rattle.handlecheck.proofs.Answering.{nothing_asked}
 use Rattle.handlecheck.proofs.run.answer.Goals as goal
 
-pub returns-in_default-clause-answered : goal.returns-in_default-clause-answered
-returns-in_default-clause-answered g c = record {
-  report = Usage;
-  is_report = c.in_default.ensures.none;
-  is_put = rw c.as_bytes.ensures.value at c.put.ensures;
-}
-
-pub returns-clause-answered : goal.returns-clause-answered
-returns-clause-answered g c =
-    let named = c.in-Some.ensures.some in
-    record {
-      report = NoMemory;
-      is_report = (named.0, named.1, tt);
-      is_put = rw c.as_bytes-in-Err.ensures.value at c.put-in-Err.ensures;
-    }
+pub returns-in-Err-clause-answered : goal.returns-in-Err-clause-answered
+returns-in-Err-clause-answered g c = nothing_asked g.F.Files.leads_to c.args.files.now _ c.refuse.result c.in-Err.error c.in-Err.ensures c.refuse.ensures.usage c.refuse.ensures.memory

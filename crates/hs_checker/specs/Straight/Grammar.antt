@@ -1,18 +1,18 @@
--- The grammar of straight files: the relation between a tree and the bytes of a file. Own, a part of X3.159-1989.
+-- The grammar of straight programs: the relation between a tree and the tokens of a unit. Own, a part of X3.159-1989.
 --     straight = prelude "int" "main" "(" "void" ")" "{" { declared } { step } "return" "0" ";" "}"
 --     declared = "char" "*" "*" handle ";" | "char" "*" pointer ";" | "char" letter ";"
 --     step     = handle "=" "NewHandle" "(" number ")" ";" | "HLock" "(" handle ")" ";" | "HUnlock" "(" handle ")" ";"
 --              | pointer "=" "*" handle ";" | letter "=" value ";" | "*" pointer "=" value ";" | "putchar" "(" value ")" ";"
 --     value    = letter | "*" pointer | number
--- The prelude is the tokens of the four prototypes. What each form asks of its names and numbers is in `Fine.antt`.
+-- The prelude is the tokens of the four prototypes. What each form asks of its names and numbers is in `Fine.antt` of
+-- `hs_tree`. A token is told by its text: the texts of two kinds differ.
 --     spelling variables steps    the texts of the tokens, in order, and the places that the tree has
---     IsStraight text tree        the text is spelled so
+--     IsStraight tokens tree      the tokens are spelled so
 use Rattle.std.specs.Prelude.{◌≡◌, ℕ, List, [], ◌∷◌, ◌++◌, map, codes, Option, Some, None, IfSome, slice_get}
 use Rattle.std.specs.List.{flat_map}
 use Rattle.std.specs.Fmt.{decimal}
 use Rattle.hs_base.specs.declared.pos.Pos.{Pos}
-use Rattle.hs_tree.specs.Straight.Text.{tokens_of}
-use Rattle.hs_tree.specs.declared.straight.token.Token.{Token}
+use Rattle.hs_tokens.specs.declared.token.SourceToken.{SourceToken}
 use Rattle.hs_tree.specs.declared.straight.tree.Kind.{Kind}
 use Rattle.hs_tree.specs.declared.straight.tree.Kind.TheVariants.{Handle, Pointer, Letter}
 use Rattle.hs_tree.specs.declared.straight.tree.Variable.{Variable}
@@ -81,15 +81,20 @@ declaration_spelling variable = word (codes "char") ∷ (stars_of variable.kind 
 abbrev pub ended : List Piece → List Piece
 ended pieces = pieces ++ word (codes ";") ∷ []
 
--- the prelude, and the beginning of `main`
+-- the prelude, a line for each prototype, and the beginning of `main`
 unfoldable pub opening : List (List ℕ)
-opening = map (λ token. token.text) (tokens_of (codes "char **NewHandle(long n); void HLock(char **h); void HUnlock(char **h); int putchar(int c); int main(void) {"))
+opening =
+    codes "char" ∷ codes "*" ∷ codes "*" ∷ codes "NewHandle" ∷ codes "(" ∷ codes "long" ∷ codes "n" ∷ codes ")" ∷ codes ";"
+    ∷ codes "void" ∷ codes "HLock" ∷ codes "(" ∷ codes "char" ∷ codes "*" ∷ codes "*" ∷ codes "h" ∷ codes ")" ∷ codes ";"
+    ∷ codes "void" ∷ codes "HUnlock" ∷ codes "(" ∷ codes "char" ∷ codes "*" ∷ codes "*" ∷ codes "h" ∷ codes ")" ∷ codes ";"
+    ∷ codes "int" ∷ codes "putchar" ∷ codes "(" ∷ codes "int" ∷ codes "c" ∷ codes ")" ∷ codes ";"
+    ∷ codes "int" ∷ codes "main" ∷ codes "(" ∷ codes "void" ∷ codes ")" ∷ codes "{" ∷ []
 
 -- the end of `main`
 abbrev pub closing : List (List ℕ)
 closing = codes "return" ∷ codes "0" ∷ codes ";" ∷ codes "}" ∷ []
 
--- the tokens of a file
+-- the tokens of a program
 abbrev pub spelling : List Variable → List Step → List Piece
 spelling variables steps =
     map word opening
@@ -98,12 +103,13 @@ spelling variables steps =
     ++ map word closing
 
 -- the tokens have these texts, and the places that are given
-abbrev pub Spells : List Piece → List Token → Type 0
+abbrev pub Spells : List Piece → List SourceToken → Type 0
 Spells [] [] = Unit {0}
-Spells (piece ∷ pieces) (token ∷ tokens) = (token.text ≡ piece.text) × IfSome piece.pos (λ pos. token.pos ≡ pos) × Spells pieces tokens
-Spells [] (token ∷ tokens) = ⊥
+Spells (piece ∷ pieces) (source ∷ sources) =
+    (source.token.text ≡ piece.text) × IfSome piece.pos (λ pos. source.token.pos ≡ pos) × Spells pieces sources
+Spells [] (source ∷ sources) = ⊥
 Spells (piece ∷ pieces) [] = ⊥
 
--- the bytes of a file spell the tree
-abbrev pub IsStraight : List ℕ → Straight → Type 0
-IsStraight text tree = Spells (spelling tree.variables tree.steps) (tokens_of text)
+-- the tokens of a unit spell the tree
+abbrev pub IsStraight : List SourceToken → Straight → Type 0
+IsStraight tokens tree = Spells (spelling tree.variables tree.steps) tokens

@@ -1,0 +1,97 @@
+-- What a report that is right says of the outcome of reading, where the listing is told and no fault rose.
+use Rattle.std.proofs.Common.{◌≡◌, ℕ, suc, ◌<◌, List, [], ◌∷◌, sym, subst, ap, ◌∙◌, inl, inr, arith, Option, Some, None, Result, Ok, Err}
+use Rattle.std.specs.Prelude.{IfSome}
+use Rattle.hs_base.specs.Count.{HasRisen, IsSteady}
+use Rattle.hs_base.specs.Files.{Listing, Counts}
+use Rattle.hs_base.specs.declared.pos.Pos.{Pos}
+use Rattle.hs_tree.specs.declared.straight.tree.Straight.{Straight}
+use Rattle.hs_meaning.specs.Straight.StaleUses.{HasStaleUses, IsCountOf, IsStaleUse, uses}
+use Rattle.hs_directives.specs.Preprocessing.{preprocessed}
+use Rattle.hs_directives.specs.declared.error.ReadError.{ReadError}
+use Rattle.hs_directives.specs.declared.error.ReadError.TheVariants as reading
+use Rattle.hs_directives.specs.declared.source.Source.{Source}
+use Rattle.hs_tokens.specs.declared.token.SourceToken.{SourceToken}
+use Rattle.hs_words.specs.Words.{IsCheck, IsNoCheck}
+use Rattle.hs_checker.specs.Straight.Grammar.{IsStraight}
+use Rattle.hs_checker.specs.Source.{IsTheProgram, SpellsNone, IsReadAs, IsRefusedAs}
+use Rattle.handlecheck.specs.Causes.{Asks, Spells}
+use Rattle.handlecheck.specs.Faults.{placed_by}
+use Rattle.handlecheck.specs.Report.{Call, IsReport}
+use Rattle.handlecheck.specs.declared.fault.Fault.{Fault}
+use Rattle.handlecheck.specs.declared.report.Report.{Report}
+use Rattle.handlecheck.specs.declared.report.Report.TheVariants.{Accepted, Hazards, Refused, Unbuilt, Usage, Missing, Unread, Limited, NoMemory}
+
+-- what the report says of the outcome
+abbrev pub Agrees : Report → Result Source ReadError → Type 0
+Agrees Accepted outcome = (source : Source) × (outcome ≡ Ok source) × ((tree : Straight) × IsTheProgram source tree × HasStaleUses tree 0)
+Agrees (Hazards count) outcome =
+    (0 < count) × ((source : Source) × (outcome ≡ Ok source) × ((tree : Straight) × IsTheProgram source tree × HasStaleUses tree count))
+Agrees (Refused refusal) outcome = (error : ReadError) × (outcome ≡ Err error) × ((place : Fault × Pos) × (placed_by error ≡ Some place))
+Agrees Unbuilt outcome = (source : Source) × (outcome ≡ Ok source) × SpellsNone source
+Agrees (Missing name) outcome = outcome ≡ Err (reading.Missing name)
+Agrees (Limited limit) outcome = outcome ≡ Err (reading.Limit limit)
+Agrees NoMemory outcome = Unit {0}
+Agrees (Unread name) outcome = ⊥
+Agrees Usage outcome = ⊥
+
+module _ (call : Call) (outcome : Result Source ReadError) (asks : Asks call outcome) where
+  -- the words name the files that are asked for
+  same_names : (names : List (List ℕ)) → IsCheck call.words names → names ≡ asks.names
+  same_names names is_check = is_check.read ∙ sym asks.is_check.read
+
+  -- reading them gives the outcome
+  gives : (names : List (List ℕ)) → IsCheck call.words names → preprocessed asks.files names ≡ outcome
+  gives names is_check = ap (preprocessed asks.files) (same_names names is_check) ∙ asks.is_read
+
+  -- sources as which they are read are the outcome's
+  read_as : (names : List (List ℕ)) (source : Source) → IsCheck call.words names → IsReadAs call.told names source → outcome ≡ Ok source
+  read_as names source is_check read =
+      sym (gives names is_check)
+      ∙ subst (λ (told : Option Listing). IfSome told (λ listing. preprocessed listing names ≡ Ok source)) asks.is_told read.0
+
+  -- and so is a refusal
+  refused_as : (names : List (List ℕ)) (error : ReadError) → IsCheck call.words names → IsRefusedAs call.told names call.before call.now error → outcome ≡ Err error
+  refused_as names error is_check refused =
+      sym (gives names is_check)
+      ∙ subst (λ (told : Option Listing). IfSome told (λ listing. IsSteady call.before.faults call.now.faults → preprocessed listing names ≡ Err error)) asks.is_told refused.1 asks.is_steady
+
+  -- no fault rose
+  no_fault : HasRisen call.before.faults call.now.faults → ⊥
+  no_fault risen = absurd (omega (arith, risen asks.is_steady.0, asks.is_steady.1))
+
+  -- the words are those of a check
+  no_usage : IsNoCheck call.words → ⊥
+  no_usage (inl other) = other asks.is_check.command
+  no_usage (inr refused) = refused asks.is_check.taken
+
+  -- a report that is right agrees with the outcome
+  pub agrees : (reads : List (List ℕ)) (report : Report) → IsReport call.told call.words reads call.before call.now report → Agrees report outcome
+  agrees reads Accepted (names, is_check, is) = (is.0, read_as names is.0 is_check is.1, is.2)
+  agrees reads (Hazards count) (names, is_check, is) = (is.0, (is.1.0, read_as names is.1.0 is_check is.1.1, is.1.2))
+  agrees reads (Refused refusal) (names, is_check, is) = (is.0, refused_as names is.0 is_check is.2, ((refusal.fault, refusal.pos), is.1))
+  agrees reads Unbuilt (names, is_check, is) = (is.0, read_as names is.0 is_check is.1, is.2)
+  agrees reads Usage is = no_usage is
+  agrees reads (Missing name) (names, is_check, is) = refused_as names (reading.Missing name) is_check is
+  agrees reads (Unread name) (names, is_check, is) = no_fault is.0.0
+  agrees reads (Limited limit) (names, is_check, is) = refused_as names (reading.Limit limit) is_check is
+  agrees reads NoMemory is = tt
+
+-- two counts of one list are equal
+IsCountOf-unique : {A : Type 0} (P : A → Type 0) (xs : List A) (m n : ℕ) → IsCountOf P xs m → IsCountOf P xs n → m ≡ n
+IsCountOf-unique P [] m n one other = one ∙ sym other
+IsCountOf-unique P (x ∷ xs) m n (inl one) (inl other) = one.3 ∙ ap suc (IsCountOf-unique P xs one.0 other.0 one.2 other.2) ∙ sym other.3
+IsCountOf-unique P (x ∷ xs) m n (inl one) (inr other) = absurd (other.0 one.1)
+IsCountOf-unique P (x ∷ xs) m n (inr one) (inl other) = absurd (one.0 other.1)
+IsCountOf-unique P (x ∷ xs) m n (inr one) (inr other) = IsCountOf-unique P xs m n one.1 other.1
+
+-- one unit is one unit
+same_unit : (one other : List SourceToken) → one ∷ [] ≡ other ∷ [] → one ≡ other
+same_unit one other same = cc
+
+-- the program that is spelled is the one of which a report speaks, and has its number of stale uses
+pub same_count : (source : Source) (tree : Straight) (m n : ℕ) → Spells source tree → HasStaleUses tree m
+    → (other : Straight) → IsTheProgram source other → HasStaleUses other n → m ≡ n
+same_count source tree m n spells counted other program counted' =
+    let unit = same_unit spells.0 program.0 (sym spells.1 ∙ program.1) in
+    let same : tree ≡ other = program.2.1 tree (subst (λ (tokens : List SourceToken). IsStraight tokens tree) unit spells.2) in
+    IsCountOf-unique IsStaleUse (uses other.steps) m n (subst (λ (t : Straight). HasStaleUses t m) same counted) counted'

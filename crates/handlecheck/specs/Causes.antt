@@ -1,0 +1,98 @@
+-- The causes of each status of the program, and the headline. Own to this project.
+--     Asks call outcome           the words ask for files that are told, and reading gives this outcome
+--     Headline call answer        an accepted program is safe
+--     HasCauses call answer       when each status comes, and when it must come
+use Rattle.std.specs.Prelude.{◌≡◌, ◌⊎◌, ℕ, ◌<◌, List, [], ◌∷◌, Option, Some, Result, Ok, Err}
+use Rattle.hs_base.specs.Count.{HasRisen, IsSteady}
+use Rattle.hs_base.specs.Files.{Listing}
+use Rattle.hs_base.specs.declared.limit.Limit.{Limit}
+use Rattle.hs_base.specs.declared.pos.Pos.{Pos}
+use Rattle.hs_tokens.specs.declared.token.SourceToken.{SourceToken}
+use Rattle.hs_tree.specs.declared.straight.tree.Straight.{Straight}
+use Rattle.hs_meaning.specs.Straight.Run.{IsSafe}
+use Rattle.hs_meaning.specs.Straight.StaleUses.{HasStaleUses}
+use Rattle.hs_directives.specs.Preprocessing.{preprocessed}
+use Rattle.hs_directives.specs.declared.error.ReadError.{ReadError}
+use Rattle.hs_directives.specs.declared.error.ReadError.TheVariants as reading
+use Rattle.hs_directives.specs.declared.source.Source.{Source}
+use Rattle.hs_words.specs.Words.{IsCheck, IsNoCheck}
+use Rattle.hs_checker.specs.Straight.Grammar.{IsStraight}
+use Rattle.hs_checker.specs.Source.{IsTheProgram, SpellsNone, IsReadAs, IsRefusedAs}
+use Rattle.handlecheck.specs.Faults.{placed_by}
+use Rattle.handlecheck.specs.Report.{Call, IsPutAs, text_of, HasProgramOf, AreUnbuilt}
+use Rattle.handlecheck.specs.declared.fault.Fault.{Fault}
+use Rattle.handlecheck.specs.declared.report.Report.TheVariants.{Hazards}
+use Rattle.handlecheck.specs.declared.status.Status.{Status}
+use Rattle.handlecheck.specs.declared.status.Status.TheVariants as status
+
+-- The words ask for the check of files, the listing is told, reading these files gives this outcome, and no fault rose in the call.
+pub record Asks (call : Call) (outcome : Result Source ReadError) : Type 0 where
+  pub files : Listing
+  pub names : List (List ℕ)
+  pub is_told : call.told ≡ Some files
+  pub is_check : IsCheck call.words names
+  pub is_read : preprocessed files names ≡ outcome
+  pub is_steady : IsSteady call.before.faults call.now.faults
+
+-- the sources are one unit whose tokens spell the tree
+abbrev pub Spells : Source → Straight → Type 0
+Spells source tree = (tokens : List SourceToken) × (source.units ≡ tokens ∷ []) × IsStraight tokens tree
+
+-- the answer is this status, but for a write fault and for want of memory
+abbrev pub IsBut : Status → Status → Type 0
+IsBut wanted answer = (answer ≡ wanted) ⊎ (answer ≡ status.Unwritten) ⊎ (answer ≡ status.NoMemory)
+
+-- the words ask for the check of files, of whose names this holds
+abbrev pub Checks : Call → (List (List ℕ) → Type 0) → Type 0
+Checks call P = (names : List (List ℕ)) × IsCheck call.words names × P names
+
+-- The named files are one straight program, and it is safe, for every input, number of turns and schedule of moves.
+abbrev pub AreSafe : Option Listing → List (List ℕ) → Type 0
+AreSafe told names = (source : Source) × IsReadAs told names source × ((tree : Straight) × IsTheProgram source tree × IsSafe tree)
+
+-- the headline: accepted files are a straight program and safe
+abbrev pub Headline : Call → Status → Type 0
+Headline call answer = answer ≡ status.Done → Checks call (AreSafe call.told)
+
+-- the program has stale uses, and their number was put
+abbrev pub IsRejected : Call → List (List ℕ) → Type 0
+IsRejected call names =
+    (count : ℕ) × (0 < count) × HasProgramOf count call.told names × IsPutAs (text_of (Hazards count)) status.Hazards call.old call.new status.Hazards
+
+-- reading refuses, at a place
+abbrev pub AreFaulty : Call → List (List ℕ) → Type 0
+AreFaulty call names =
+    (error : ReadError) × ((place : Fault × Pos) × (placed_by error ≡ Some place)) × IsRefusedAs call.told names call.before call.now error
+
+-- a file that is asked for is missing, or its read failed
+abbrev pub AreUnread : Call → List (List ℕ) → Type 0
+AreUnread call names =
+    (name : List ℕ) × (IsRefusedAs call.told names call.before call.now (reading.Missing name) ⊎ IsRefusedAs call.told names call.before call.now (reading.ReadFault name))
+
+-- a quantity passed its limit
+abbrev pub ArePast : Call → List (List ℕ) → Type 0
+ArePast call names = (limit : Limit) × IsRefusedAs call.told names call.before call.now (reading.Limit limit)
+
+-- The causes of each status. A field with `only` in its name says what is so where the status came; its fellow says where
+-- it must come, but for a write fault and want of memory.
+pub record HasCauses (call : Call) (answer : Status) : Type 0 where
+  -- Done
+  pub accepted : (source : Source) (tree : Straight) → Asks call (Ok source) → Spells source tree → HasStaleUses tree 0 → IsBut status.Done answer
+  -- Hazards: a stale use exists, and the number that was put is their count
+  pub hazards_only : answer ≡ status.Hazards → Checks call (IsRejected call)
+  pub hazards : (source : Source) (tree : Straight) (count : ℕ) → Asks call (Ok source) → Spells source tree → HasStaleUses tree count → 0 < count → IsBut status.Hazards answer
+  -- Refused: reading refuses at a place, or the files are no straight program
+  pub refused_only : answer ≡ status.Refused → Checks call (λ names. AreFaulty call names ⊎ AreUnbuilt call.told names)
+  pub refused : (error : ReadError) (place : Fault × Pos) → Asks call (Err error) → placed_by error ≡ Some place → IsBut status.Refused answer
+  pub unbuilt : (source : Source) → Asks call (Ok source) → SpellsNone source → IsBut status.Refused answer
+  -- Usage: the first word is no command, or `clap` refuses the words
+  pub usage_only : answer ≡ status.Usage → IsNoCheck call.words
+  pub usage : IsNoCheck call.words → IsBut status.Usage answer
+  -- Unread: a file is missing, or its read failed
+  pub unread_only : answer ≡ status.Unread → Checks call (AreUnread call)
+  pub missing : (name : List ℕ) → Asks call (Err (reading.Missing name)) → IsBut status.Unread answer
+  -- Limited: a quantity passed its limit
+  pub limited_only : answer ≡ status.Limited → Checks call (ArePast call)
+  pub limited : (limit : Limit) → Asks call (Err (reading.Limit limit)) → IsBut status.Limited answer
+  -- Unwritten: the sink failed
+  pub unwritten_only : answer ≡ status.Unwritten → HasRisen call.old.faults call.new.faults

@@ -1,0 +1,51 @@
+-- What a source is refused for: the number and the word of each fault, and where reading found it. Own to this project.
+--     number_of fault, word_of fault      how a line names it
+--     placed_by error                     the fault of a refusal, and its place, where the refusal has one
+use Rattle.std.specs.Prelude.{ℕ, List, codes, Option, Some, None}
+use Rattle.hs_base.specs.declared.pos.Pos.{Pos}
+use Rattle.hs_directives.specs.declared.error.ReadError.{ReadError}
+use Rattle.hs_directives.specs.declared.error.ReadError.TheVariants as reading
+use Rattle.hs_directives.specs.declared.error.ScanKind.TheVariants as scanning
+use Rattle.hs_directives.specs.declared.error.MacroKind.TheVariants as macro
+use Rattle.handlecheck.specs.declared.fault.Fault.{Fault}
+use Rattle.handlecheck.specs.declared.fault.Fault.TheVariants.{BadByte, OpenComment, OpenString, BadMacro, ArgCount, BadDirective, OpenIf, IncludeDepth, BadCondition}
+
+-- its number
+abbrev pub number_of : Fault → ℕ
+number_of BadByte = 1
+number_of OpenComment = 2
+number_of OpenString = 3
+number_of BadMacro = 4
+number_of ArgCount = 5
+number_of BadDirective = 6
+number_of OpenIf = 7
+number_of IncludeDepth = 8
+number_of BadCondition = 9
+
+-- its word
+abbrev pub word_of : Fault → List ℕ
+word_of BadByte = codes "BadByte"
+word_of OpenComment = codes "OpenComment"
+word_of OpenString = codes "OpenString"
+word_of BadMacro = codes "BadMacro"
+word_of ArgCount = codes "ArgCount"
+word_of BadDirective = codes "BadDirective"
+word_of OpenIf = codes "OpenIf"
+word_of IncludeDepth = codes "IncludeDepth"
+word_of BadCondition = codes "BadCondition"
+
+-- the fault that a refusal of reading is, and its place
+abbrev pub placed_by : ReadError → Option (Fault × Pos)
+placed_by (reading.Scan scanning.BadByte pos) = Some (BadByte, pos)
+placed_by (reading.Scan scanning.OpenComment pos) = Some (OpenComment, pos)
+placed_by (reading.Scan scanning.OpenString pos) = Some (OpenString, pos)
+placed_by (reading.Macro macro.BadMacro pos) = Some (BadMacro, pos)
+placed_by (reading.Macro macro.ArgCount pos) = Some (ArgCount, pos)
+placed_by (reading.BadDirective pos) = Some (BadDirective, pos)
+placed_by (reading.OpenIf pos) = Some (OpenIf, pos)
+placed_by (reading.IncludeDepth pos) = Some (IncludeDepth, pos)
+placed_by (reading.BadCondition pos) = Some (BadCondition, pos)
+placed_by (reading.Missing name) = None
+placed_by (reading.ReadFault name) = None
+placed_by (reading.Limit limit) = None
+placed_by reading.NoMemory = None

@@ -1,0 +1,85 @@
+ghost use Rattle.std.specs.Prelude.{◌≡◌};
+ghost use Rattle.handlecheck.specs.Faults.{number_of, word_of, placed_by};
+
+use hs_base::Pos;
+use hs_directives::{MacroKind, ReadError, ScanKind};
+
+/// What a source is refused for. `docs/READING.md` says when each comes, and where it stands.
+#[derive(Clone, Copy, Debug, PartialEq, Eq)]
+pub enum Fault {
+    /// A byte that begins no token, or an escape that is none (X3.159-1989 3.1, 3.1.3.4).
+    BadByte,
+    /// A comment that the file leaves open (3.1.9).
+    OpenComment,
+    /// A string or a character constant that its line leaves open, or an empty constant (3.1.3.4, 3.1.4).
+    OpenString,
+    /// A `#define` that is no definition, or differs from one that stands (3.8.3).
+    BadMacro,
+    /// An invocation of a macro with another number of arguments, or one that is left open (3.8.3).
+    ArgCount,
+    /// A directive of no form, or `#error` (3.8).
+    BadDirective,
+    /// A conditional section that the file leaves open (3.8.1).
+    OpenIf,
+    /// More levels of inclusion than 32 (3.8.2).
+    IncludeDepth,
+    /// A condition that is no constant expression, or divides by 0 (3.8.1).
+    BadCondition,
+}
+
+impl Fault {
+    /// The number that a line names it by.
+    pub fn number(self) -> u8
+        ensures { result ≡ number_of self }
+    {
+        match self {
+            Fault::BadByte => 1,
+            Fault::OpenComment => 2,
+            Fault::OpenString => 3,
+            Fault::BadMacro => 4,
+            Fault::ArgCount => 5,
+            Fault::BadDirective => 6,
+            Fault::OpenIf => 7,
+            Fault::IncludeDepth => 8,
+            Fault::BadCondition => 9,
+        }
+    }
+
+    /// The word that a line names it by.
+    pub fn word(self) -> &'static str
+        ensures { result.now ≡ word_of self }
+    {
+        match self {
+            Fault::BadByte => "BadByte",
+            Fault::OpenComment => "OpenComment",
+            Fault::OpenString => "OpenString",
+            Fault::BadMacro => "BadMacro",
+            Fault::ArgCount => "ArgCount",
+            Fault::BadDirective => "BadDirective",
+            Fault::OpenIf => "OpenIf",
+            Fault::IncludeDepth => "IncludeDepth",
+            Fault::BadCondition => "BadCondition",
+        }
+    }
+}
+
+/// The fault that a refusal of reading is, and its place, where it has one.
+pub(crate) fn placed_by(error: &ReadError) -> Option<(Fault, Pos)>
+    ensures { result ≡ placed_by error.now }
+{
+    match error {
+        ReadError::Scan(ScanKind::BadByte, pos) => Some((Fault::BadByte, *pos)),
+        ReadError::Scan(ScanKind::OpenComment, pos) => Some((Fault::OpenComment, *pos)),
+        ReadError::Scan(ScanKind::OpenString, pos) => Some((Fault::OpenString, *pos)),
+        ReadError::Macro(MacroKind::BadMacro, pos) => Some((Fault::BadMacro, *pos)),
+        ReadError::Macro(MacroKind::ArgCount, pos) => Some((Fault::ArgCount, *pos)),
+        ReadError::BadDirective(pos) => Some((Fault::BadDirective, *pos)),
+        ReadError::OpenIf(pos) => Some((Fault::OpenIf, *pos)),
+        ReadError::IncludeDepth(pos) => Some((Fault::IncludeDepth, *pos)),
+        ReadError::BadCondition(pos) => Some((Fault::BadCondition, *pos)),
+        ReadError::Missing(_)
+        | ReadError::ReadFault(_)
+        | ReadError::Limit(_)
+        | ReadError::NoMemory => None,
+    }
+}

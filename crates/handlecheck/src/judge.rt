@@ -1,0 +1,128 @@
+ghost use Rattle.std.specs.Prelude.{◌≡◌, [], map, List, ℕ, Ok, Err, IfSome, Some};
+ghost use Rattle.std.specs.String.{string_bytes};
+ghost use Rattle.hs_base.specs.Files.{NeverFall};
+ghost use Rattle.hs_directives.specs.Reads.{Leads, AreFirstReads};
+ghost use Rattle.hs_checker.specs.Source.{IsSource};
+ghost use Rattle.handlecheck.specs.Names.{Names};
+ghost use Rattle.handlecheck.specs.Report.{AreNoted, IsFaultAt, IsReportOf, IsVerdict, unplaced};
+
+use crate::fault::placed_by;
+use crate::file_names::FileNames;
+use crate::named_files::NamedFiles;
+use crate::{Fault, Refusal, Report};
+use hs_base::{Bytes, Files, Pos};
+use hs_checker::{SourceError, check, read_program};
+use hs_directives::ReadError;
+use hs_tree::straight::Straight;
+use std::alloc::Global;
+
+/// Reads the program of the named files, and notes the names of the files that are read.
+fn read_named<F: Files>(
+    alloc: Global,
+    named: &mut NamedFiles<'_, F>,
+    roots: &[String],
+) -> Result<Straight, SourceError>
+    requires { named.old.names.now ≡ Some [] }
+    ensures same_files { named.new.files.ghost_name ≡ named.old.files.ghost_name }
+    ensures same_names { named.new.names.ghost_name ≡ named.old.names.ghost_name }
+    ensures listing_stays { F.listing named.new.files.now ≡ F.listing named.old.files.now }
+    ensures counts_stay_up { NeverFall (F.counts named.old.files.now) (F.counts named.new.files.now) }
+    ensures reads { (reads : List (List ℕ)) × Leads F.leads_to named.old.files.now reads named.new.files.now
+        × AreFirstReads (F.listing named.old.files.now) (map string_bytes roots.now) reads × AreNoted named.new.names.now reads }
+    ensures means { IsSource (F.listing named.old.files.now) (map string_bytes roots.now) (F.counts named.old.files.now) (F.counts named.new.files.now) result }
+{
+    read_program(alloc, named, roots)
+}
+
+/// The same, of files and of names.
+fn read_noting<F: Files>(
+    alloc: Global,
+    files: &mut F,
+    names: &mut FileNames,
+    roots: &[String],
+) -> Result<Straight, SourceError>
+    requires { names.old ≡ Some [] }
+    ensures listing_stays { F.listing files.new ≡ F.listing files.old }
+    ensures counts_stay_up { NeverFall (F.counts files.old) (F.counts files.new) }
+    ensures reads { (reads : List (List ℕ)) × Leads F.leads_to files.old reads files.new
+        × AreFirstReads (F.listing files.old) (map string_bytes roots.now) reads × AreNoted names.new reads }
+    ensures means { IsSource (F.listing files.old) (map string_bytes roots.now) (F.counts files.old) (F.counts files.new) result }
+{
+    let mut named = NamedFiles { files, names };
+    read_named(alloc, &mut named, roots)
+}
+
+/// The report of a fault at a place, with the name of the place's file.
+fn fault_at(alloc: Global, names: &FileNames, fault: Fault, pos: Pos) -> Report
+    ensures { IsFaultAt names.now fault pos result }
+{
+    let Some(name) = names.get(pos.file) else {
+        return Report::NoMemory;
+    };
+    match name.items().to_vec(alloc) {
+        Ok(bytes) => Report::Refused(Refusal {
+            fault,
+            file: Bytes::from_vec(bytes),
+            pos,
+        }),
+        Err(_) => Report::NoMemory,
+    }
+}
+
+/// The report of a refusal of reading that has no place.
+fn unplaced(error: ReadError) -> Report
+    ensures { result ≡ unplaced error }
+{
+    match error {
+        ReadError::Missing(name) => Report::Missing(name),
+        ReadError::ReadFault(name) => Report::Unread(name),
+        ReadError::Limit(limit) => Report::Limited(limit),
+        _ => Report::NoMemory,
+    }
+}
+
+/// The report of files that give no program.
+fn refused(alloc: Global, names: &FileNames, error: SourceError) -> Report
+    ensures { IsReportOf names.now (Err error) result }
+{
+    match error {
+        SourceError::Read(error) => match placed_by(&error) {
+            Some((fault, pos)) => fault_at(alloc, names, fault, pos),
+            None => unplaced(error),
+        },
+        SourceError::Limit(limit) => Report::Limited(limit),
+        SourceError::Unbuilt => Report::Unbuilt,
+        SourceError::NoMemory => Report::NoMemory,
+    }
+}
+
+/// The report of a program.
+fn verdict(alloc: Global, program: &Straight) -> Report
+    ensures { (noted : Names) → IsReportOf noted (Ok program.now) result }
+{
+    match check(alloc, program) {
+        Ok(count) => {
+            if count == 0 {
+                Report::Accepted
+            } else {
+                Report::Hazards(count)
+            }
+        }
+        Err(_) => Report::NoMemory,
+    }
+}
+
+/// What is to be said of the named files.
+pub(crate) fn judge<F: Files>(alloc: Global, files: &mut F, roots: &[String]) -> Report
+    ensures listing_stays { F.listing files.new ≡ F.listing files.old }
+    ensures counts_stay_up { NeverFall (F.counts files.old) (F.counts files.new) }
+    ensures means { (reads : List (List ℕ)) × Leads F.leads_to files.old reads files.new
+        × AreFirstReads (F.listing files.old) (map string_bytes roots.now) reads
+        × IsVerdict (F.listing files.old) (map string_bytes roots.now) reads (F.counts files.old) (F.counts files.new) result }
+{
+    let mut names = FileNames::new(alloc);
+    match read_noting(alloc, files, &mut names, roots) {
+        Ok(program) => verdict(alloc, &program),
+        Err(error) => refused(alloc, &names, error),
+    }
+}

@@ -1,0 +1,31 @@
+ghost use Rattle.std.specs.Prelude.{◌≡◌};
+ghost use Rattle.handlecheck.specs.Names.{IsNoted};
+
+use crate::file_names::FileNames;
+use hs_base::{FileEnd, Files};
+
+/// Files that pass each read on, and note the names that were read.
+#[derive(Drop)]
+pub(crate) struct NamedFiles<'a, F: Files> {
+    pub(crate) files: &'a mut F,
+    pub(crate) names: &'a mut FileNames,
+}
+
+impl<'a, F: Files> Files for NamedFiles<'a, F> {
+    ghost listing = { λ named. F.listing named.files.now };
+
+    ghost counts = { λ named. F.counts named.files.now };
+
+    ghost leads_to = { λ old name max new. (new.files.ghost_name ≡ old.files.ghost_name)
+        × (new.names.ghost_name ≡ old.names.ghost_name)
+        × F.leads_to old.files.now name max new.files.now × IsNoted old.names.now name new.names.now };
+
+    fn read(&mut self, name: &str, max: usize, into: &mut Vec<u8>) -> Result<(), FileEnd> {
+        let read = self.files.read(name, max, into);
+        if self.names.note(name).is_err() {
+            into.clear();
+            return Err(FileEnd::NoMemory);
+        }
+        read
+    }
+}
