@@ -1,5 +1,6 @@
-char **NewHandle(long n); void HLock(char **h);
-void HUnlock(char **h); int putchar(int c);
+#include "prelude.h"
+#define LETTER 65
+
 int main(void)
 {
     char **name;
@@ -8,7 +9,7 @@ int main(void)
     name = NewHandle(4);
     HLock(name);
     p = *name;
-    *p = 65;
+    *p = LETTER;
     other = NewHandle(4);
     putchar(*p);
     HUnlock(name);

@@ -1,5 +1,6 @@
-char **NewHandle(long n); void HLock(char **h);
-void HUnlock(char **h); int putchar(int c);
+#include "prelude.h"
+#define LETTER 65
+
 int main(void)
 {
     char **name;
@@ -7,7 +8,7 @@ int main(void)
     char *p;
     name = NewHandle(4);
     p = *name;
-    *p = 65;
+    *p = LETTER;
     other = NewHandle(4);
     putchar(*p);
     return 0;
