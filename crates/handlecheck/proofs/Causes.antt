@@ -1,5 +1,5 @@
 -- The causes of each status, from the report that was put: what is so where it came, and where it must come.
-use Rattle.std.proofs.Common.{rules, ◌≡◌, ◌⊎◌, ℕ, ◌<◌, List, [], ◌∷◌, sym, subst, ap, ◌∙◌, inl, inr, arith, refl, if◌then◌else◌, ◌==◌, false, Option, Some, None, Result, Ok, Err}
+use Rattle.std.proofs.Common.{◌≡◌, ◌⊎◌, ℕ, ◌<◌, List, sym, subst, ◌∙◌, inl, inr, arith, refl, if◌then◌else◌, ◌==◌, false, Some, None, Result, Ok, Err}
 use Rattle.std.proofs.lemmas.Bool.Decides.{nat_tests}
 use Rattle.hs_base.specs.Count.{HasRisen}
 use Rattle.hs_base.specs.Sink.{IsPut}
@@ -15,7 +15,7 @@ use Rattle.hs_directives.specs.declared.source.Source.{Source}
 use Rattle.hs_words.specs.Words.{IsCheck, IsNoCheck}
 use Rattle.hs_directives.specs.Reads.{Leads}
 use Rattle.hs_checker.specs.Source.{IsTheProgram, SpellsNone}
-use Rattle.handlecheck.specs.Causes.{Asks, Spells, IsBut, Checks, AreSafe, AreFaulty, ArePast, AreUnread, Headline, HasCauses, IsRejected}
+use Rattle.handlecheck.specs.Causes.{Spells, IsBut, Checks, AreFaulty, ArePast, AreUnread, Headline, HasCauses, IsRejected}
 use Rattle.handlecheck.specs.Faults.{placed_by}
 use Rattle.handlecheck.specs.Report.{text_of, status_of, AreAsked, AreUnbuilt, IsReport, Written, IsPutAs, Call, IsAnswered, status_after}
 use Rattle.handlecheck.specs.declared.fault.Fault.{Fault}

@@ -1,8 +1,8 @@
 -- What a report that is right says of the outcome of reading, where the listing is told and no fault rose.
-use Rattle.std.proofs.Common.{◌≡◌, ℕ, suc, ◌<◌, List, [], ◌∷◌, sym, subst, ap, ◌∙◌, inl, inr, arith, Option, Some, None, Result, Ok, Err}
+use Rattle.std.proofs.Common.{◌≡◌, ℕ, suc, ◌<◌, List, [], ◌∷◌, sym, subst, ap, ◌∙◌, inl, inr, arith, Option, Some, Result, Ok, Err}
 use Rattle.std.specs.Prelude.{IfSome}
 use Rattle.hs_base.specs.Count.{HasRisen, IsSteady}
-use Rattle.hs_base.specs.Files.{Listing, Counts}
+use Rattle.hs_base.specs.Files.{Listing}
 use Rattle.hs_base.specs.declared.pos.Pos.{Pos}
 use Rattle.hs_tree.specs.declared.straight.tree.Straight.{Straight}
 use Rattle.hs_meaning.specs.Straight.StaleUses.{HasStaleUses, IsCountOf, IsStaleUse, uses}

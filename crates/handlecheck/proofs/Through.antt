@@ -1,8 +1,6 @@
 -- Reads through named files are reads of the files behind them, and their names are noted in order.
-use Rattle.std.proofs.Common.{◌≡◌, ℕ, List, [], ◌∷◌, ◌++◌, Option, Some, None, refl, sym, ap, subst, ◌∙◌, append-nil, append_assoc}
+use Rattle.std.proofs.Common.{◌≡◌, ℕ, List, [], ◌∷◌, ◌++◌, Some, None, sym, ap, subst, ◌∙◌, append-nil, append_assoc}
 use Rattle.std.specs.Prelude.{IfSome, IsSomeAnd}
-use Rattle.hs_base.specs.Limit.{number_of}
-use Rattle.hs_base.specs.declared.limit.LimitKind.TheVariants.{FileBytes}
 use Rattle.hs_directives.specs.Reads.{Leads}
 use Rattle.handlecheck.specs.Names.{Names, IsNoted}
 

@@ -1,4 +1,4 @@
-ghost use Rattle.std.specs.Prelude.{◌≡◌, [], Some, IfSome, IsSomeAnd, slice_get};
+ghost use Rattle.std.specs.Prelude.{◌≡◌, [], ◌∷◌, ◌++◌, Some, None, IfSome, IfNone, IsSomeAnd, OnOk, slice_get};
 ghost use Rattle.handlecheck.specs.Names.{IsNoted};
 
 use hs_base::Bytes;
@@ -36,7 +36,8 @@ impl FileNames {
 
     /// The name of that number, from 0, where it is there.
     pub(crate) fn get(&self, number: u16) -> Option<&Bytes>
-        ensures { IfSome result (λ name. IsSomeAnd self.now (λ names. slice_get names number ≡ Some name.now)) }
+        ensures some { IfSome result (λ name. IsSomeAnd self.now (λ names. slice_get names number ≡ Some name.now)) }
+        ensures none { IfNone result (IfSome self.now (λ names. slice_get names number ≡ None)) }
     {
         if self.is_whole {
             self.vec.get(usize::from(number))
@@ -47,7 +48,8 @@ impl FileNames {
 
     /// Notes one more name. Where memory is refused, the names are no more whole.
     pub(crate) fn note(&mut self, name: &str) -> Result<(), AllocError>
-        ensures { IsNoted self.old name.now self.new }
+        ensures noted { IsNoted self.old name.now self.new }
+        ensures kept { OnOk result (IfSome self.old (λ names. self.new ≡ Some (names ++ name.now ∷ []))) }
     {
         let is_whole = self.is_whole;
         self.is_whole = false;

@@ -1,5 +1,5 @@
 -- What the reader said of the files, the report says.
-use Rattle.std.proofs.Common.{map, Ok, Err}
+use Rattle.std.proofs.Common.{map}
 use Rattle.std.specs.String.{string_bytes}
 use Rattle.handlecheck.proofs.judge.judge.Goals as goal
 

@@ -1,5 +1,4 @@
 -- What the words ask for was done, or they ask for nothing.
-use Rattle.std.proofs.Common.{[], refl, inl, rules}
 use Rattle.handlecheck.proofs.Answering.{nothing_asked}
 use Rattle.handlecheck.proofs.run.answer.Goals as goal
 

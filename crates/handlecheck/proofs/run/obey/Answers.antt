@@ -1,5 +1,5 @@
 -- The files were judged, and the line of the report was put.
-use Rattle.std.proofs.Common.{map, ap, rules}
+use Rattle.std.proofs.Common.{map, rules}
 use Rattle.std.specs.String.{string_bytes}
 use Rattle.handlecheck.proofs.Answering.{obeyed}
 use Rattle.handlecheck.proofs.run.obey.Goals as goal
