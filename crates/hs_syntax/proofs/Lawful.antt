@@ -1,0 +1,51 @@
+-- The laws follow from the tests that the grammar's forms have.
+use Rattle.std.proofs.Common.{◌≡◌, ◌<◌, ◌≤◌, ℕ, suc, ◌+◌, Bool, true, false, List, leb, refl, sym, ◌∙◌, arith}
+use Rattle.std.specs.Prelude.{nat_le, not, ◌&&◌, codes}
+use Rattle.std.proofs.lemmas.Bool.{and_parts, leb-true}
+use Rattle.hs_syntax.specs.Forms.{Form, ◌⨾◌, mark, mark_at}
+use Rattle.hs_syntax.specs.Grammar.{expression_form, direct_form, declarator_form, declaration_form, items_form, statement_form, test_form, specification_form}
+use Rattle.hs_syntax.specs.Laws.{GroupsLeft, ElseIsNearest, TypesBeginParameters, SpecifiersGoOn}
+use Rattle.hs_syntax.specs.Operators.{level_of}
+use Rattle.hs_syntax.specs.Parts.{in_parens}
+use Rattle.hs_syntax.specs.Phrases.{begins_none, begins_parameters, has_specifiers, is_empty, is_typed, rank}
+use Rattle.hs_syntax.specs.Trees as tree
+
+-- the first of two, and the second
+left_of : (one other : Bool) → (one && other) ≡ true → one ≡ true
+left_of one other both = (and_parts one other both).0
+
+right_of : (one other : Bool) → (one && other) ≡ true → other ≡ true
+right_of one other both = (and_parts one other both).1
+
+pub groups_left : GroupsLeft
+groups_left known a b c first second at place = (
+  λ fits.
+      let low : nat_le (2 + level_of second) (2 + level_of first) ≡ true = left_of _ _ (left_of _ _ fits) in
+      omega (arith, leb-true (2 + level_of second) (2 + level_of first) low),
+  λ fits.
+      let high : nat_le (2 + suc (level_of first)) (2 + level_of second) ≡ true = left_of _ _ (right_of _ _ fits) in
+      omega (arith, leb-true (2 + suc (level_of first)) (2 + level_of second) high),
+)
+
+-- a test that fails, behind another
+none_behind : (one : Bool) → (one && false) ≡ false
+none_behind true = refl
+none_behind false = refl
+
+pub else_is_nearest : ElseIsNearest
+else_is_nearest known outer inner body otherwise at place = none_behind (test_form known outer).fits
+
+-- what is not so is false
+not_true : (one : Bool) → not one ≡ true → one ≡ false
+not_true true is = absurd cc
+not_true false is = refl
+
+pub types_begin_parameters : TypesBeginParameters
+types_begin_parameters known it fits =
+    let begins = begins_parameters known (declarator_form known true it).pieces in
+    let inside = not begins && (declarator_form known true it).fits in
+    not_true begins (left_of (not begins) (declarator_form known true it).fits
+    (right_of (not (is_empty it)) inside (left_of (not (is_empty it) && inside) true fits)))
+
+pub specifiers_go_on : SpecifiersGoOn
+specifiers_go_on known it fits = left_of _ _ (right_of _ _ (right_of _ _ fits))

@@ -1,0 +1,13 @@
+pub mod Counting
+pub mod InitialiserRows
+pub mod Lawful
+pub mod Nestings
+pub mod Opening
+pub mod RowViews
+pub mod Rows
+pub mod Sourced
+pub mod StatementRows
+pub mod StatementViews
+pub mod ViewRows
+pub mod Written
+pub mod WrittenDeclarations

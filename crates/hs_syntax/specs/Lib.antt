@@ -1,0 +1,17 @@
+pub mod Appends
+pub mod Counts
+pub mod Forms
+pub mod Grammar
+pub mod Laws
+pub mod Lists
+pub mod Names
+pub mod Nesting
+pub mod Operators
+pub mod Parts
+pub mod Phrases
+pub mod Places
+pub mod RowViews
+pub mod Spelling
+pub mod StatementViews
+pub mod Trees
+pub mod Views

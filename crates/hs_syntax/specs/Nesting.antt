@@ -1,0 +1,141 @@
+-- How deep the tokens of a unit are nested. Own to this project: it is counted over the tokens, before the grammar.
+-- There is an outermost level. Each `(`, `[` and `{` begins a level, and the next closing bracket of any kind that stands on that
+-- level ends it. Marks are the keywords `if`, `while`, `do`, `for`, `switch` and `sizeof`, and all punctuators but `,` `;` `:` `)`
+-- `]` `}`. A mark counts on the level on which it stands; so does an opening bracket, which then begins the next one.
+--     mark_of token           the mark that the token is
+--     after levels token next the marks on each open level behind the token
+--     nestings levels tokens  the nesting at each token
+--     IsShallow tokens        it is at most 256 at every token
+use Rattle.std.specs.Prelude.{◌≡◌, ◌+◌, ℕ, nat_le, Bool, true, false, ◌&&◌, ◌||◌, List, [], ◌∷◌, length, codes, Option, Some, None, if◌then◌else◌}
+use Rattle.std.specs.List.{filter, list_all, list_any}
+use Rattle.std.specs.Str.{bytes_eq}
+use Rattle.hs_base.specs.Limit.{number_of}
+use Rattle.hs_base.specs.declared.limit.LimitKind.TheVariants.{Depth}
+use Rattle.hs_tokens.specs.Marks.{is_identifier, is_mark, is_same_kind}
+use Rattle.hs_tokens.specs.declared.token.SourceToken.{SourceToken}
+use Rattle.hs_tokens.specs.declared.token.TokenKind.TheVariants.{Punctuator}
+
+-- a mark: `do`, another keyword, `?`, or any other punctuator
+pub data Mark : Type 0 where
+  do_ : Mark
+  keyword : Mark
+  query : Mark
+  other : Mark
+
+-- the marks that stand on each open level, the innermost level first, and the newest mark first
+abbrev pub Levels : Type 0
+Levels = List (List Mark)
+
+-- the token has this word
+abbrev pub is_word : List ℕ → SourceToken → Bool
+is_word word source = is_identifier source.token && bytes_eq source.token.text word
+
+-- the token is this punctuator
+abbrev pub is_punctuator : List ℕ → SourceToken → Bool
+is_punctuator mark source = is_mark mark source.token
+
+-- `(`, `[` or `{`
+abbrev pub opens : SourceToken → Bool
+opens source = is_punctuator (codes "(") source || is_punctuator (codes "[") source || is_punctuator (codes "{") source
+
+-- `)`, `]` or `}`
+abbrev pub closes : SourceToken → Bool
+closes source = is_punctuator (codes ")") source || is_punctuator (codes "]") source || is_punctuator (codes "}") source
+
+-- one of the keywords that are marks, but for `do`
+abbrev pub is_marking_word : SourceToken → Bool
+is_marking_word source =
+    is_word (codes "if") source || is_word (codes "while") source || is_word (codes "for") source || is_word (codes "switch") source
+    || is_word (codes "sizeof") source
+
+-- a punctuator that is no mark
+abbrev pub is_unmarked : SourceToken → Bool
+is_unmarked source =
+    is_punctuator (codes ",") source || is_punctuator (codes ";") source || is_punctuator (codes ":") source || closes source
+
+-- the mark of a punctuator
+abbrev pub punctuator_mark : SourceToken → Option Mark
+punctuator_mark source =
+    if is_unmarked source then None
+    else if is_punctuator (codes "?") source then Some query
+    else Some other
+
+-- the mark that a token is
+abbrev pub mark_of : SourceToken → Option Mark
+mark_of source =
+    if is_word (codes "do") source then Some do_
+    else if is_marking_word source then Some keyword
+    else if is_same_kind source.token.kind Punctuator then punctuator_mark source
+    else None
+
+-- a keyword
+abbrev pub is_keyword : Mark → Bool
+is_keyword do_ = true
+is_keyword keyword = true
+is_keyword query = false
+is_keyword other = false
+
+-- `do`
+abbrev pub is_do : Mark → Bool
+is_do do_ = true
+is_do _ = false
+
+-- what stays at a `,`: keywords and `?`
+abbrev pub stays_at_comma : Mark → Bool
+stays_at_comma other = false
+stays_at_comma _ = true
+
+-- The statement goes on behind its end: the next token is `else`, or it is `while` and a `do` is open.
+abbrev pub goes_on : List Mark → List SourceToken → Bool
+goes_on marks [] = false
+goes_on marks (next ∷ rest) = is_word (codes "else") next || (is_word (codes "while") next && list_any is_do marks)
+
+-- the marks of a level behind a statement's end
+abbrev pub ended : List Mark → List SourceToken → List Mark
+ended marks rest = if goes_on marks rest then filter is_keyword marks else []
+
+-- the level's marks, changed
+abbrev pub on_level : (List Mark → List Mark) → Levels → Levels
+on_level change [] = []
+on_level change (marks ∷ levels) = change marks ∷ levels
+
+-- the innermost level ends, but for the outermost one
+abbrev pub closed : Levels → Levels
+closed [] = []
+closed (marks ∷ []) = marks ∷ []
+closed (marks ∷ around ∷ levels) = around ∷ levels
+
+-- A `}` that ends a level ends the marks of the level around it.
+abbrev pub closed_block : Levels → List SourceToken → Levels
+closed_block [] rest = []
+closed_block (marks ∷ []) rest = marks ∷ []
+closed_block (marks ∷ around ∷ levels) rest = ended around rest ∷ levels
+
+-- the token's own mark, on the innermost level
+abbrev pub marked : Option Mark → Levels → Levels
+marked None levels = levels
+marked (Some mark) levels = on_level (λ marks. mark ∷ marks) levels
+
+-- the levels behind a token, where these tokens follow it
+abbrev pub after : Levels → SourceToken → List SourceToken → Levels
+after levels source rest =
+    if is_punctuator (codes ",") source then on_level (filter stays_at_comma) levels
+    else if is_punctuator (codes ";") source then on_level (λ marks. ended marks rest) levels
+    else if is_punctuator (codes "}") source then closed_block levels rest
+    else if closes source then closed levels
+    else if opens source then [] ∷ marked (mark_of source) levels
+    else marked (mark_of source) levels
+
+-- the number of marks on all levels
+abbrev pub count : Levels → ℕ
+count [] = 0
+count (marks ∷ levels) = length marks + count levels
+
+-- the nesting at each token, that token included
+abbrev pub nestings : Levels → List SourceToken → List ℕ
+nestings levels [] = []
+nestings levels (source ∷ rest) = count (after levels source rest) ∷ nestings (after levels source rest) rest
+
+-- the nesting is at most 256 at every token
+abbrev pub IsShallow : List SourceToken → Type 0
+IsShallow tokens = list_all (λ nesting. nat_le nesting (number_of Depth)) (nestings ([] ∷ []) tokens) ≡ true

@@ -1,0 +1,6 @@
+//! Copies of trees: each has the same view.
+mod decl;
+mod expr;
+mod stmt;
+mod unit;
+mod word;

@@ -1,0 +1,23 @@
+ghost use Rattle.hs_syntax.specs.Laws.{ElseIsNearest, GroupsLeft, SpecifiersGoOn, TypesBeginParameters};
+
+/// A law on the grammar: binary operators that bind tighter are applied first, and those of a level group to the left
+/// (X3.159-1989 3.3).
+pub fn binary_operators_group_to_the_left()
+    ensures { GroupsLeft }
+{}
+
+/// A law on the grammar: an `else` belongs to the nearest open `if` (3.6.4.1).
+pub fn else_belongs_to_the_nearest_if()
+    ensures { ElseIsNearest }
+{}
+
+/// A law on the grammar: in a parameter or a type name, a typedef name or a word that means nothing begins a parameter list where it
+/// stands directly behind a `(` (3.5.4.3).
+pub fn typedef_names_begin_parameter_lists()
+    ensures { TypesBeginParameters }
+{}
+
+/// A law on the grammar: the specifiers of a declaration take all that can be one (3.5).
+pub fn specifiers_take_what_they_can()
+    ensures { SpecifiersGoOn }
+{}

@@ -1,0 +1,36 @@
+//! The syntax of C as it is read here (X3.159-1989 3.3 and 3.5 to 3.7): trees of units. `specs/Grammar.antt` has the grammar,
+//! which relates trees and tokens.
+#![tactic(auto)]
+
+mod copy;
+mod decl;
+mod expr;
+mod laws;
+mod level;
+mod mark;
+mod nesting;
+mod operators;
+#[cfg(test)]
+mod spell_tests;
+mod spelling;
+mod stmt;
+#[cfg(test)]
+mod tests;
+mod unit;
+mod word;
+
+pub use decl::{Decl, Initialiser, Item};
+pub use expr::{Constant, Declarator, Direct, Expr, Member, Parameter, Specifier, TypeName};
+pub use laws::{
+    binary_operators_group_to_the_left, else_belongs_to_the_nearest_if,
+    specifiers_take_what_they_can, typedef_names_begin_parameter_lists,
+};
+pub use nesting::shallow;
+pub use operators::{
+    Access, AssignOperator, Basic, BinaryOperator, Dropped, Pointer, PostfixOperator,
+    PrefixOperator, Storage,
+};
+pub use spelling::spell;
+pub use stmt::{Block, Label, Labelled, Stmt};
+pub use unit::{External, Unit};
+pub use word::{Place, Word};

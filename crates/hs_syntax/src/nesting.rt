@@ -1,0 +1,154 @@
+ghost use Rattle.std.specs.Prelude.{◌≡◌, ◌↔◌, ◌≤◌, ◌<◌, ◌∷◌, [], length, IsTrue};
+ghost use Rattle.std.specs.List.{filter};
+ghost use Rattle.hs_syntax.specs.Counts.{counts, all_marks, meaning, Follows};
+ghost use Rattle.hs_syntax.specs.Nesting.{IsShallow, Levels, after, closed, closed_block, ended, marked, on_level, stays_at_comma};
+ghost use Rattle.hs_syntax.specs.Nesting.Mark.{other};
+
+use crate::level::Level;
+use crate::mark::{Mark, closes, is_punctuator, mark_of, opens};
+use hs_base::LimitKind;
+use hs_tokens::SourceToken;
+use std::marker::Model;
+
+/// The most levels around the innermost one. Each has the mark of a bracket, and there is one mark too many at most.
+const AROUND: usize = 257;
+
+/// The marks on the open levels.
+#[derive(Drop)]
+struct Nesting {
+    /// The innermost level.
+    level: Level,
+    /// The levels around it, the innermost first, behind the entries that are free.
+    around: [Level; AROUND],
+    free: usize,
+    /// The number of marks on the levels around.
+    outside: u64,
+}
+
+impl Model for Nesting {
+    ghost use Rattle.std.specs.Prelude.{◌≡◌, ◌+◌, ◌≤◌, ◌∷◌, List, drop};
+    ghost use Rattle.hs_syntax.specs.Counts.{AllMarked, all_marks, marks_on};
+    ghost use Rattle.hs_syntax.specs.declared.level.Level.{Level};
+
+    ghost Value = { List Level };
+
+    ghost view = { λ n. n.level ∷ drop n.free n.around };
+
+    ghost invariant = { λ n. (n.free ≤ 257) × AllMarked (drop n.free n.around)
+        × (n.outside ≡ all_marks (drop n.free n.around)) × (marks_on n.level + n.outside ≤ 257) };
+}
+
+impl Nesting {
+    /// The outermost level, with no marks.
+    fn new() -> Nesting
+        ensures { result ≡ counts [] ∷ [] }
+    {
+        Nesting {
+            level: Level::bare(),
+            around: [Level::bare(); AROUND],
+            free: AROUND,
+            outside: 0,
+        }
+    }
+
+    /// The number of marks on all levels.
+    fn marks(&self) -> u64
+        ensures { result ≡ all_marks self.now }
+    {
+        self.level.marks() + self.outside
+    }
+
+    /// A mark on the innermost level.
+    fn mark(&mut self, mark: Mark)
+        requires { all_marks self.old ≤ 256 }
+        ensures { Follows self.old self.new (marked (Some (meaning mark))) }
+    {
+        self.level = self.level.with(mark);
+    }
+
+    /// An opening bracket, and the level that it begins.
+    fn open(&mut self)
+        requires { all_marks self.old ≤ 256 }
+        ensures { Follows self.old self.new (λ levels. [] ∷ marked (Some other) levels) }
+    {
+        let level = self.level.with(Mark::Other);
+        self.free -= 1;
+        self.around[self.free] = level;
+        self.outside += level.marks();
+        self.level = Level::bare();
+    }
+
+    /// A closing bracket. Answers whether it ends a level.
+    fn close(&mut self) -> bool
+        ensures closed { Follows self.old self.new closed }
+        ensures ends { IsTrue result ↔ 1 < length self.old }
+    {
+        if self.free == AROUND {
+            return false;
+        }
+        self.level = self.around[self.free];
+        self.free += 1;
+        self.outside -= self.level.marks();
+        true
+    }
+
+    /// A `,`.
+    fn comma(&mut self)
+        ensures { Follows self.old self.new (on_level (filter stays_at_comma)) }
+    {
+        self.level = self.level.behind_comma();
+    }
+
+    /// The end of a statement on the innermost level.
+    fn end(&mut self, rest: &[SourceToken])
+        ensures { Follows self.old self.new (on_level (λ marks. ended marks rest.now)) }
+    {
+        self.level = self.level.ended(rest);
+    }
+
+    /// A `}`.
+    fn close_block(&mut self, rest: &[SourceToken])
+        ensures { Follows self.old self.new (λ levels. closed_block levels rest.now) }
+    {
+        if self.close() {
+            self.end(rest);
+        }
+    }
+
+    /// A token, where these follow it.
+    #[tactic(auto, using(crate::proofs::Opening::mark_of_open))]
+    fn pass(&mut self, source: &SourceToken, rest: &[SourceToken])
+        requires { all_marks self.old ≤ 256 }
+        ensures { Follows self.old self.new (λ levels. after levels source.now rest.now) }
+    {
+        if is_punctuator(b",", source) {
+            self.comma();
+        } else if is_punctuator(b";", source) {
+            self.end(rest);
+        } else if is_punctuator(b"}", source) {
+            self.close_block(rest);
+        } else if closes(source) {
+            self.close();
+        } else if opens(source) {
+            self.open();
+        } else if let Some(mark) = mark_of(source) {
+            self.mark(mark);
+        }
+    }
+}
+
+/// Whether the nesting is at most 256 at every token. It takes no memory.
+pub fn shallow(tokens: &[SourceToken]) -> bool
+    ensures { IsTrue result ↔ IsShallow tokens.now }
+{
+    let mut nesting = Nesting::new();
+    let mut left = tokens;
+    'tokens: while let Some((source, rest)) = left.split_first() {
+        nesting.pass(source, rest);
+        if nesting.marks() > LimitKind::Depth.number() {
+            return false;
+        }
+        left = rest;
+    }
+    true
+}

@@ -1,0 +1,141 @@
+use crate::{
+    Basic, Block, Decl, Declarator, Direct, Expr, External, Item, Labelled, Place, Specifier, Stmt,
+    Unit, Word, spell,
+};
+use hs_base::{Bytes, Pos};
+use hs_tokens::{Origin, Token};
+use std::alloc::{AllocError, Global};
+use std::test::Fail;
+
+/// A place on that line.
+fn place(line: u32) -> Place {
+    Place {
+        pos: Pos {
+            file: 0,
+            line,
+            col: 1,
+        },
+        origin: Origin::Plain,
+    }
+}
+
+fn word(alloc: Global, text: &[u8], line: u32) -> Result<Word, AllocError> {
+    Ok(Word {
+        text: Bytes::from_vec(text.to_vec(alloc)?),
+        place: place(line),
+    })
+}
+
+/// The list of this item alone.
+fn only<T: Drop>(alloc: Global, item: T) -> Result<Vec<T>, AllocError> {
+    let mut items = Vec::new(alloc);
+    items.push(item)?;
+    Ok(items)
+}
+
+/// A type's word.
+fn basic(alloc: Global, word: Basic, line: u32) -> Result<Vec<Specifier>, AllocError> {
+    only(alloc, Specifier::Basic(word, place(line)))
+}
+
+/// The declarator of a function of `(void)`.
+fn of_void(alloc: Global, name: &[u8], line: u32) -> Result<Declarator, AllocError> {
+    Ok(Declarator {
+        pointers: Vec::new(alloc),
+        direct: Direct::FunctionOfVoid {
+            base: Box::new(alloc, Direct::Name(word(alloc, name, line)?))?,
+            at: place(line),
+        },
+    })
+}
+
+/// A statement with no labels.
+fn bare(alloc: Global, statement: Stmt) -> Labelled {
+    Labelled {
+        labels: Vec::new(alloc),
+        statement,
+    }
+}
+
+/// `{ Foo(); return 0; }`
+fn body(alloc: Global) -> Result<Block, AllocError> {
+    let call = Expr::Call {
+        callee: Box::new(alloc, Expr::Name(word(alloc, b"Foo", 3)?))?,
+        arguments: Vec::new(alloc),
+    };
+    let mut statements = only(alloc, bare(alloc, Stmt::Expr(call)))?;
+    let zero = Expr::Number(word(alloc, b"0", 4)?);
+    let end = Stmt::Return {
+        at: place(4),
+        value: Some(zero),
+    };
+    statements.push(bare(alloc, end))?;
+    Ok(Block {
+        opening: place(2),
+        declarations: Vec::new(alloc),
+        statements,
+        closing: place(5),
+    })
+}
+
+/// `void Foo(void); int main(void) { Foo(); return 0; }`
+fn unit(alloc: Global) -> Result<Unit, AllocError> {
+    let item = Item {
+        declarator: of_void(alloc, b"Foo", 1)?,
+        initialiser: None,
+    };
+    let first = Decl {
+        specifiers: basic(alloc, Basic::Void, 1)?,
+        items: only(alloc, item)?,
+    };
+    let mut externals = only(alloc, External::Declaration(first))?;
+    let main = External::Function {
+        specifiers: basic(alloc, Basic::Int, 2)?,
+        declarator: of_void(alloc, b"main", 2)?,
+        body: body(alloc)?,
+    };
+    externals.push(main)?;
+    Ok(Unit { externals })
+}
+
+/// The texts of tokens, with a space behind each.
+fn texts(alloc: Global, tokens: &[Token]) -> Result<Vec<u8>, AllocError> {
+    let mut text = Vec::new(alloc);
+    for token in tokens {
+        text.extend_from_slice(token.text.items())?;
+        text.push(b' ')?;
+    }
+    Ok(text)
+}
+
+// X3.159-1989 3.7: a declaration, and the definition of a function.
+#[test]
+fn a_small_unit_is_spelled_so(rt: HostRuntime) -> Result<(), Fail> {
+    let tokens = spell(rt.alloc(), &unit(rt.alloc())?)?;
+    assert!(rt; tokens.len() == 20);
+    let text = texts(rt.alloc(), tokens.as_slice())?;
+    let expected: &[u8] = b"void Foo ( void ) ; int main ( void ) { Foo ( ) ; return 0 ; } ";
+    assert!(rt; text.as_slice() == expected);
+    Ok(())
+}
+
+// Own: a token has the place that the tree has of it, and else none.
+#[test]
+fn places_are_those_of_the_tree(rt: HostRuntime) -> Result<(), Fail> {
+    let tokens = spell(rt.alloc(), &unit(rt.alloc())?)?;
+    let lines: [u32; 20] = [1, 1, 0, 1, 0, 0, 2, 2, 0, 2, 0, 2, 3, 0, 0, 0, 4, 4, 0, 5];
+    assert!(rt; tokens.len() == lines.len());
+    for (token, line) in tokens.iter().zip(lines.iter()) {
+        assert!(rt; token.pos.line == *line);
+    }
+    Ok(())
+}
+
+#[test]
+fn a_copy_is_spelled_as_its_original(rt: HostRuntime) -> Result<(), Fail> {
+    let original = unit(rt.alloc())?;
+    let copy = original.copied(rt.alloc())?;
+    let tokens = spell(rt.alloc(), &original)?;
+    assert!(rt; spell(rt.alloc(), &copy)?.as_slice() == tokens.as_slice());
+    Ok(())
+}
