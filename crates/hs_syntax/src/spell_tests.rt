@@ -135,7 +135,8 @@ fn places_are_those_of_the_tree(rt: HostRuntime) -> Result<(), Fail> {
 fn a_copy_is_spelled_as_its_original(rt: HostRuntime) -> Result<(), Fail> {
     let original = unit(rt.alloc())?;
     let copy = original.copied(rt.alloc())?;
-    let tokens = spell(rt.alloc(), &original)?;
-    assert!(rt; spell(rt.alloc(), &copy)?.as_slice() == tokens.as_slice());
+    let text = texts(rt.alloc(), spell(rt.alloc(), &original)?.as_slice())?;
+    let copied = texts(rt.alloc(), spell(rt.alloc(), &copy)?.as_slice())?;
+    assert!(rt; copied.as_slice() == text.as_slice());
     Ok(())
 }
