@@ -10,6 +10,7 @@ mod level;
 mod mark;
 mod nesting;
 mod operators;
+mod same;
 #[cfg(test)]
 mod spell_tests;
 mod spelling;

@@ -140,3 +140,30 @@ fn a_copy_is_spelled_as_its_original(rt: HostRuntime) -> Result<(), Fail> {
     assert!(rt; copied.as_slice() == text.as_slice());
     Ok(())
 }
+
+/// `void NAME(void);` on that line.
+fn prototype(alloc: Global, name: &[u8], line: u32) -> Result<Unit, AllocError> {
+    let item = Item {
+        declarator: of_void(alloc, name, line)?,
+        initialiser: None,
+    };
+    let it = Decl {
+        specifiers: basic(alloc, Basic::Void, line)?,
+        items: only(alloc, item)?,
+    };
+    Ok(Unit {
+        externals: only(alloc, External::Declaration(it))?,
+    })
+}
+
+#[test]
+fn units_are_compared_with_their_places_or_but_for_them(rt: HostRuntime) -> Result<(), Fail> {
+    let it = prototype(rt.alloc(), b"Foo", 1)?;
+    assert!(rt; it.is_same(&it.copied(rt.alloc())?));
+    let elsewhere = prototype(rt.alloc(), b"Foo", 2)?;
+    assert!(rt; !it.is_same(&elsewhere));
+    assert!(rt; it.is_same_but_places(&elsewhere));
+    let other = prototype(rt.alloc(), b"Fop", 1)?;
+    assert!(rt; !it.is_same_but_places(&other));
+    Ok(())
+}
