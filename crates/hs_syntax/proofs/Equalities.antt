@@ -8,9 +8,9 @@ use Rattle.std.proofs.lemmas.Slice.Eq.{bytes_eq-Decides}
 use Rattle.std.specs.Str.{bytes_eq}
 use Rattle.hs_tokens.specs.declared.token.Origin.{Origin}
 use Rattle.hs_tokens.specs.declared.token.Origin.TheVariants as origin
-use Rattle.hs_syntax.specs.Equality.{equal_origin, equal_place, equal_word, equal_words, equal_option, equal_bool, equal_access, equal_assign, equal_basic, equal_binary, equal_dropped, equal_postfix, equal_prefix, equal_storage, equal_pointer, equal_pointers, equal_expression, equal_expressions, equal_type, equal_specifier, equal_specification, equal_members, equal_constants, equal_declarator, equal_declarators, equal_direct, equal_parameters}
+use Rattle.hs_syntax.specs.Equality.{equal_origin, equal_place, equal_word, equal_words, equal_option, equal_bool, equal_access, equal_assign, equal_basic, equal_binary, equal_dropped, equal_postfix, equal_prefix, equal_storage, equal_pointer, equal_pointers, equal_expression, equal_expressions, equal_lefts, equal_type, equal_specifier, equal_specification, equal_members, equal_constants, equal_declarator, equal_declarators, equal_direct, equal_parameters}
 use Rattle.hs_syntax.specs.Trees as tree
-use Rattle.hs_syntax.specs.Trees.{Expression, Expressions, NamedType, Specified, Specification, Members, Constants, Declared, Declarators, Directly, Parameters}
+use Rattle.hs_syntax.specs.Trees.{Expression, Expressions, Lefts, NamedType, Specified, Specification, Members, Constants, Declared, Declarators, Directly, Parameters}
 use Rattle.hs_syntax.specs.contracts.operators.Access as access
 use Rattle.hs_syntax.specs.contracts.operators.AssignOperator as assign
 use Rattle.hs_syntax.specs.contracts.operators.Basic as basic
@@ -220,11 +220,17 @@ mutual
   equal_expression-itself (tree.binary a b c d) = all_true (equal_expression a a) (equal_binary b b && (equal_place c c && (equal_expression d d))) (equal_expression-itself a) (all_true (equal_binary b b) (equal_place c c && (equal_expression d d)) (equal_binary-itself b) (all_true (equal_place c c) (equal_expression d d) (equal_place-itself c) (equal_expression-itself d)))
   equal_expression-itself (tree.conditional a b c d) = all_true (equal_expression a a) (equal_place b b && (equal_expression c c && (equal_expression d d))) (equal_expression-itself a) (all_true (equal_place b b) (equal_expression c c && (equal_expression d d)) (equal_place-itself b) (all_true (equal_expression c c) (equal_expression d d) (equal_expression-itself c) (equal_expression-itself d)))
   equal_expression-itself (tree.assign a b c d) = all_true (equal_expression a a) (equal_assign b b && (equal_place c c && (equal_expression d d))) (equal_expression-itself a) (all_true (equal_assign b b) (equal_place c c && (equal_expression d d)) (equal_assign-itself b) (all_true (equal_place c c) (equal_expression d d) (equal_place-itself c) (equal_expression-itself d)))
-  equal_expression-itself (tree.comma a b c) = all_true (equal_expression a a) (equal_place b b && (equal_expression c c)) (equal_expression-itself a) (all_true (equal_place b b) (equal_expression c c) (equal_place-itself b) (equal_expression-itself c))
+  equal_expression-itself (tree.comma a b) = all_true (equal_lefts a a) (equal_expression b b) (equal_lefts-itself a) (equal_expression-itself b)
 
   pub equal_expressions-itself : (it : Expressions) → equal_expressions it it ≡ true
   equal_expressions-itself tree.no_expressions = refl
   equal_expressions-itself (tree.more_expressions a b) = all_true (equal_expression a a) (equal_expressions b b) (equal_expression-itself a) (equal_expressions-itself b)
+
+  pub equal_lefts-itself : (it : Lefts) → equal_lefts it it ≡ true
+  equal_lefts-itself tree.no_lefts = refl
+  equal_lefts-itself (tree.more_lefts a b c) =
+      all_true (equal_expression a a) (equal_place b b && equal_lefts c c) (equal_expression-itself a)
+      (all_true (equal_place b b) (equal_lefts c c) (equal_place-itself b) (equal_lefts-itself c))
 
   pub equal_type-itself : (it : NamedType) → equal_type it it ≡ true
   equal_type-itself (tree.typed_as a b) = all_true (equal_specification a a) (equal_declarator b b) (equal_specification-itself a) (equal_declarator-itself b)
@@ -290,13 +296,25 @@ mutual
   equal_expression-same (tree.binary a b c d) (tree.binary a2 b2 c2 d2) h = ap (λ it. tree.binary it b c d) (equal_expression-same a a2 (left_true (equal_expression a a2) (equal_binary b b2 && (equal_place c c2 && (equal_expression d d2))) h)) ∙ ap (λ it. tree.binary a2 it c d) (equal_binary-same b b2 (left_true (equal_binary b b2) (equal_place c c2 && (equal_expression d d2)) (right_true (equal_expression a a2) (equal_binary b b2 && (equal_place c c2 && (equal_expression d d2))) h))) ∙ ap (λ it. tree.binary a2 b2 it d) (equal_place-same c c2 (left_true (equal_place c c2) (equal_expression d d2) (right_true (equal_binary b b2) (equal_place c c2 && (equal_expression d d2)) (right_true (equal_expression a a2) (equal_binary b b2 && (equal_place c c2 && (equal_expression d d2))) h)))) ∙ ap (λ it. tree.binary a2 b2 c2 it) (equal_expression-same d d2 (right_true (equal_place c c2) (equal_expression d d2) (right_true (equal_binary b b2) (equal_place c c2 && (equal_expression d d2)) (right_true (equal_expression a a2) (equal_binary b b2 && (equal_place c c2 && (equal_expression d d2))) h))))
   equal_expression-same (tree.conditional a b c d) (tree.conditional a2 b2 c2 d2) h = ap (λ it. tree.conditional it b c d) (equal_expression-same a a2 (left_true (equal_expression a a2) (equal_place b b2 && (equal_expression c c2 && (equal_expression d d2))) h)) ∙ ap (λ it. tree.conditional a2 it c d) (equal_place-same b b2 (left_true (equal_place b b2) (equal_expression c c2 && (equal_expression d d2)) (right_true (equal_expression a a2) (equal_place b b2 && (equal_expression c c2 && (equal_expression d d2))) h))) ∙ ap (λ it. tree.conditional a2 b2 it d) (equal_expression-same c c2 (left_true (equal_expression c c2) (equal_expression d d2) (right_true (equal_place b b2) (equal_expression c c2 && (equal_expression d d2)) (right_true (equal_expression a a2) (equal_place b b2 && (equal_expression c c2 && (equal_expression d d2))) h)))) ∙ ap (λ it. tree.conditional a2 b2 c2 it) (equal_expression-same d d2 (right_true (equal_expression c c2) (equal_expression d d2) (right_true (equal_place b b2) (equal_expression c c2 && (equal_expression d d2)) (right_true (equal_expression a a2) (equal_place b b2 && (equal_expression c c2 && (equal_expression d d2))) h))))
   equal_expression-same (tree.assign a b c d) (tree.assign a2 b2 c2 d2) h = ap (λ it. tree.assign it b c d) (equal_expression-same a a2 (left_true (equal_expression a a2) (equal_assign b b2 && (equal_place c c2 && (equal_expression d d2))) h)) ∙ ap (λ it. tree.assign a2 it c d) (equal_assign-same b b2 (left_true (equal_assign b b2) (equal_place c c2 && (equal_expression d d2)) (right_true (equal_expression a a2) (equal_assign b b2 && (equal_place c c2 && (equal_expression d d2))) h))) ∙ ap (λ it. tree.assign a2 b2 it d) (equal_place-same c c2 (left_true (equal_place c c2) (equal_expression d d2) (right_true (equal_assign b b2) (equal_place c c2 && (equal_expression d d2)) (right_true (equal_expression a a2) (equal_assign b b2 && (equal_place c c2 && (equal_expression d d2))) h)))) ∙ ap (λ it. tree.assign a2 b2 c2 it) (equal_expression-same d d2 (right_true (equal_place c c2) (equal_expression d d2) (right_true (equal_assign b b2) (equal_place c c2 && (equal_expression d d2)) (right_true (equal_expression a a2) (equal_assign b b2 && (equal_place c c2 && (equal_expression d d2))) h))))
-  equal_expression-same (tree.comma a b c) (tree.comma a2 b2 c2) h = ap (λ it. tree.comma it b c) (equal_expression-same a a2 (left_true (equal_expression a a2) (equal_place b b2 && (equal_expression c c2)) h)) ∙ ap (λ it. tree.comma a2 it c) (equal_place-same b b2 (left_true (equal_place b b2) (equal_expression c c2) (right_true (equal_expression a a2) (equal_place b b2 && (equal_expression c c2)) h))) ∙ ap (λ it. tree.comma a2 b2 it) (equal_expression-same c c2 (right_true (equal_place b b2) (equal_expression c c2) (right_true (equal_expression a a2) (equal_place b b2 && (equal_expression c c2)) h)))
+  equal_expression-same (tree.comma a b) (tree.comma a2 b2) h =
+      ap (λ it. tree.comma it b) (equal_lefts-same a a2 (left_true (equal_lefts a a2) (equal_expression b b2) h))
+      ∙ ap (λ it. tree.comma a2 it) (equal_expression-same b b2 (right_true (equal_lefts a a2) (equal_expression b b2) h))
   equal_expression-same _ _ h = absurd (true≢false (sym h))
 
   pub equal_expressions-same : (it other : Expressions) → equal_expressions it other ≡ true → it ≡ other
   equal_expressions-same tree.no_expressions tree.no_expressions h = refl
   equal_expressions-same (tree.more_expressions a b) (tree.more_expressions a2 b2) h = ap (λ it. tree.more_expressions it b) (equal_expression-same a a2 (left_true (equal_expression a a2) (equal_expressions b b2) h)) ∙ ap (λ it. tree.more_expressions a2 it) (equal_expressions-same b b2 (right_true (equal_expression a a2) (equal_expressions b b2) h))
   equal_expressions-same _ _ h = absurd (true≢false (sym h))
+
+  pub equal_lefts-same : (it other : Lefts) → equal_lefts it other ≡ true → it ≡ other
+  equal_lefts-same tree.no_lefts tree.no_lefts h = refl
+  equal_lefts-same (tree.more_lefts a b c) (tree.more_lefts a2 b2 c2) h =
+      ap (λ it. tree.more_lefts it b c) (equal_expression-same a a2 (left_true (equal_expression a a2) (equal_place b b2 && equal_lefts c c2) h))
+      ∙ ap (λ it. tree.more_lefts a2 it c) (equal_place-same b b2
+      (left_true (equal_place b b2) (equal_lefts c c2) (right_true (equal_expression a a2) (equal_place b b2 && equal_lefts c c2) h)))
+      ∙ ap (λ it. tree.more_lefts a2 b2 it) (equal_lefts-same c c2
+      (right_true (equal_place b b2) (equal_lefts c c2) (right_true (equal_expression a a2) (equal_place b b2 && equal_lefts c c2) h)))
+  equal_lefts-same _ _ h = absurd (true≢false (sym h))
 
   pub equal_type-same : (it other : NamedType) → equal_type it other ≡ true → it ≡ other
   equal_type-same (tree.typed_as a b) (tree.typed_as a2 b2) h = ap (λ it. tree.typed_as it b) (equal_specification-same a a2 (left_true (equal_specification a a2) (equal_declarator b b2) h)) ∙ ap (λ it. tree.typed_as a2 it) (equal_declarator-same b b2 (right_true (equal_specification a a2) (equal_declarator b b2) h))

@@ -1,6 +1,5 @@
 pub mod Counting
 pub mod Equalities
-pub mod InitialiserRows
 pub mod Lawful
 pub mod LeafPairs
 pub mod Nestings
@@ -8,17 +7,13 @@ pub mod NodeTests
 pub mod Opening
 pub mod Pairs
 pub mod RowPairs
-pub mod RowViews
 pub mod Rows
 pub mod Sameness
 pub mod Seeing
 pub mod Sourced
 pub mod StatementEqualities
 pub mod StatementPairs
-pub mod StatementRows
 pub mod StatementSeeing
-pub mod StatementViews
-pub mod ViewRows
 pub mod Written
 pub mod WrittenDeclarations
 pub mod StatementNodes

@@ -1,19 +1,20 @@
 -- What the test of a node with a list or a type name comes to: the tests of its parts, and of its entries in pairs.
---     test-call, test-cast, test-struct, ..      each node, with its tests grouped as in the code
+--     test-call, test-comma, test-cast, ..        each node, with its tests grouped as in the code
 --     when_true, when_false                      the last of the tests, where the others hold and where they do not
 use Rattle.std.proofs.Common.{◌≡◌, Bool, true, false, ◌&&◌, map, refl, ap, sym, ◌∙◌, Vec, Box, Option}
 use Rattle.std.specs.Bool.{beq}
 use Rattle.std.specs.Global.{Global}
-use Rattle.hs_syntax.specs.Equality.{equal_place, equal_option, equal_bool, equal_direct, equal_declarators, equal_type}
+use Rattle.hs_syntax.specs.Equality.{equal_place, equal_option, equal_bool, equal_declarators}
 use Rattle.hs_syntax.specs.Pairwise.{pairwise}
-use Rattle.hs_syntax.specs.RowEquality.{boxed_view, equal_member, seen_member}
-use Rattle.hs_syntax.specs.RowTests.{test_expression, test_specifier, test_member, test_constant, test_declarator, test_parameter}
+use Rattle.hs_syntax.specs.RowEquality.{equal_member, seen_member}
+use Rattle.hs_syntax.specs.RowTests.{test_expression, test_left, test_type, test_specifier, test_member, test_constant, test_declarator, test_direct, test_parameter}
 use Rattle.hs_syntax.specs.RowViews.{view_member, one_member, declarators_from}
-use Rattle.hs_syntax.specs.Seen.{seen_place, seen_option, seen_direct, seen_type, seen_declarators}
-use Rattle.hs_syntax.specs.Views.{view_declarator, view_direct, specification_of}
+use Rattle.hs_syntax.specs.Seen.{seen_place, seen_option, seen_declarators}
+use Rattle.hs_syntax.specs.Views.{view_declarator, specification_of}
 use Rattle.hs_syntax.specs.declared.expr.Constant.{Constant}
 use Rattle.hs_syntax.specs.declared.expr.Direct.{Direct, Function}
-use Rattle.hs_syntax.specs.declared.expr.Expr.{Expr, Call, SizeofType, Cast}
+use Rattle.hs_syntax.specs.declared.expr.Expr.{Expr, Call, SizeofType, Cast, Comma}
+use Rattle.hs_syntax.specs.declared.expr.Left.{Left}
 use Rattle.hs_syntax.specs.declared.expr.Member.{Member, out-Member}
 use Rattle.hs_syntax.specs.declared.expr.Parameter.{Parameter}
 use Rattle.hs_syntax.specs.declared.expr.Specifier.{Specifier, Struct, Enum}
@@ -21,8 +22,8 @@ use Rattle.hs_syntax.specs.declared.expr.TypeName.{TypeName}
 use Rattle.hs_syntax.specs.declared.same.word.Places.{Places}
 use Rattle.hs_syntax.specs.declared.word.Place.{Place}
 use Rattle.hs_syntax.specs.declared.word.Word.{Word}
-use Rattle.hs_syntax.proofs.RowPairs.{and_regroup, expressions-pairs, specification-pairs, specification_of-pairs, members-pairs, constants-pairs, declarators_from-pairs, parameters-pairs}
-use Rattle.hs_syntax.proofs.RowViews.{view_member-out}
+use Rattle.hs_syntax.proofs.RowPairs.{and_regroup, expressions-pairs, lefts-pairs, specification-pairs, specification_of-pairs, members-pairs, constants-pairs, declarators_from-pairs, parameters-pairs}
+use Rattle.hs_syntax.specs.RowLaws.{view_member-out}
 
 -- The last test of a node decides where the others hold,
 pub when_true : {whole a b result : Bool} → whole ≡ (a && b) → a ≡ true → result ≡ b → result ≡ whole
@@ -39,14 +40,6 @@ same_comma true false = refl
 same_comma false true = refl
 same_comma false false = refl
 
--- the test of a type name behind a pointer
-abbrev pub test_type : Places → TypeName → TypeName → Bool
-test_type places it other = equal_type (seen_type places (boxed_view it)) (seen_type places (boxed_view other))
-
--- the test of what stands behind the pointers of a declarator
-abbrev pub test_direct : Places → Direct → Direct → Bool
-test_direct places it other = equal_direct (seen_direct places (view_direct it)) (seen_direct places (view_direct other))
-
 -- the arguments of calls
 pub test-call : (places : Places) (self other : Expr) (callee callee2 : Box Expr Global) (v w : Vec Expr Global)
     → self ≡ Call callee v → other ≡ Call callee2 w
@@ -54,6 +47,14 @@ pub test-call : (places : Places) (self other : Expr) (callee callee2 : Box Expr
 test-call places self other callee callee2 v w is there =
     ap (λ it. test_expression places it other) is ∙ ap (test_expression places (Call callee v)) there
     ∙ ap (λ rows. test_expression places callee.value callee2.value && rows) (expressions-pairs places v w)
+
+-- the left operands of commas
+pub test-comma : (places : Places) (self other : Expr) (v w : Vec Left Global) (right right2 : Box Expr Global)
+    → self ≡ Comma v right → other ≡ Comma w right2
+    → test_expression places self other ≡ (pairwise (test_left places) v.items w.items && test_expression places right.value right2.value)
+test-comma places self other v w right right2 is there =
+    ap (λ it. test_expression places it other) is ∙ ap (test_expression places (Comma v right)) there
+    ∙ ap (λ rows. rows && test_expression places right.value right2.value) (lefts-pairs places v w)
 
 -- the type of `sizeof`
 pub test-sizeof_type : (places : Places) (self other : Expr) (at at2 : Place) (type type2 : Box TypeName Global)

@@ -7,7 +7,7 @@ use Rattle.hs_syntax.specs.Names.{keywords}
 use Rattle.hs_syntax.specs.Spelling.{nowhere}
 use Rattle.hs_syntax.specs.Trees as tree
 use Rattle.hs_syntax.specs.Phrases.{specifier_words}
-use Rattle.hs_syntax.specs.Trees.{Expression, Specification, Declared, Statement, Compound, ExternalDeclaration, TranslationUnit}
+use Rattle.hs_syntax.specs.Trees.{Expression, Lefts, Specification, Declared, Statement, Compound, ExternalDeclaration, TranslationUnit}
 use Rattle.hs_syntax.specs.declared.operators.Basic.{Basic}
 use Rattle.hs_syntax.specs.declared.operators.Basic.TheVariants.{Int, Void}
 use Rattle.hs_syntax.specs.declared.operators.Storage.TheVariants.{Typedef}
@@ -85,6 +85,20 @@ nearest : (texts (statement_form [] inner_else) ≡ texts (statement_form [] out
     × ((statement_form [] outer_else).fits ≡ false)
 unfolding keywords
 nearest = (refl, refl, refl)
+
+-- `a, b, c`: a comma is no left operand of another, and there is a left operand
+abbrev before_comma : Expression → Lefts → Lefts
+before_comma e rest = tree.more_lefts e nowhere rest
+
+abbrev commas : Expression
+commas = tree.comma (before_comma (variable (codes "a")) (before_comma (variable (codes "b")) tree.no_lefts)) (variable (codes "c"))
+
+flat : ((expression_form [] commas).fits ≡ true)
+    × (texts (expression_form [] commas) ≡ codes "a" ∷ codes "," ∷ codes "b" ∷ codes "," ∷ codes "c" ∷ [])
+    × ((expression_form [] (tree.comma (before_comma commas tree.no_lefts) (variable (codes "d")))).fits ≡ false)
+    × ((expression_form [] (tree.comma tree.no_lefts (variable (codes "a")))).fits ≡ false)
+unfolding keywords
+flat = (refl, refl, refl, refl)
 
 -- `void Foo(void); int main(void) { Foo(); return 0; }`
 abbrev basic_type : Basic → Specification

@@ -1,10 +1,10 @@
 -- What is seen where places are compared is the tree, and where they are passed over, the tree but for its places.
 use Rattle.std.proofs.Common.{◌≡◌, List, [], ◌∷◌, map, Option, Some, None, option_map, refl, ap, ◌∙◌}
-use Rattle.hs_syntax.specs.Places.{erased_word, erased_pointer, erased, erased_expressions, erased_type, erased_specifier, erased_specification, erased_members, erased_constants, erased_declarator, erased_declarators, erased_direct, erased_parameters}
-use Rattle.hs_syntax.specs.Seen.{seen_place, seen_word, seen_words, seen_option, seen_pointer, seen_pointers, seen_expression, seen_expressions, seen_type, seen_specifier, seen_specification, seen_members, seen_constants, seen_declarator, seen_declarators, seen_direct, seen_parameters}
+use Rattle.hs_syntax.specs.Places.{erased_word, erased_pointer, erased, erased_expressions, erased_lefts, erased_type, erased_specifier, erased_specification, erased_members, erased_constants, erased_declarator, erased_declarators, erased_direct, erased_parameters}
+use Rattle.hs_syntax.specs.Seen.{seen_place, seen_word, seen_words, seen_option, seen_pointer, seen_pointers, seen_expression, seen_expressions, seen_lefts, seen_type, seen_specifier, seen_specification, seen_members, seen_constants, seen_declarator, seen_declarators, seen_direct, seen_parameters}
 use Rattle.hs_syntax.specs.Spelling.{nowhere}
 use Rattle.hs_syntax.specs.Trees as tree
-use Rattle.hs_syntax.specs.Trees.{Expression, Expressions, NamedType, Specified, Specification, Members, Constants, Declared, Declarators, Directly, Parameters}
+use Rattle.hs_syntax.specs.Trees.{Expression, Expressions, Lefts, NamedType, Specified, Specification, Members, Constants, Declared, Declarators, Directly, Parameters}
 use Rattle.hs_syntax.specs.declared.operators.Pointer.{Pointer}
 use Rattle.hs_syntax.specs.declared.operators.Pointer.TheVariants as pointer
 use Rattle.hs_syntax.specs.declared.same.word.Places.TheVariants.{Compared, PassedOver}
@@ -60,11 +60,17 @@ mutual
   seen_expression-compared (tree.binary a b c d) = ap (λ it. tree.binary it b (seen_place Compared c) (seen_expression Compared d)) (seen_expression-compared a) ∙ ap (λ it. tree.binary a b c it) (seen_expression-compared d)
   seen_expression-compared (tree.conditional a b c d) = ap (λ it. tree.conditional it (seen_place Compared b) (seen_expression Compared c) (seen_expression Compared d)) (seen_expression-compared a) ∙ ap (λ it. tree.conditional a b it (seen_expression Compared d)) (seen_expression-compared c) ∙ ap (λ it. tree.conditional a b c it) (seen_expression-compared d)
   seen_expression-compared (tree.assign a b c d) = ap (λ it. tree.assign it b (seen_place Compared c) (seen_expression Compared d)) (seen_expression-compared a) ∙ ap (λ it. tree.assign a b c it) (seen_expression-compared d)
-  seen_expression-compared (tree.comma a b c) = ap (λ it. tree.comma it (seen_place Compared b) (seen_expression Compared c)) (seen_expression-compared a) ∙ ap (λ it. tree.comma a b it) (seen_expression-compared c)
+  seen_expression-compared (tree.comma a b) =
+      ap (λ it. tree.comma it (seen_expression Compared b)) (seen_lefts-compared a) ∙ ap (λ it. tree.comma a it) (seen_expression-compared b)
 
   pub seen_expressions-compared : (it : Expressions) → seen_expressions Compared it ≡ it
   seen_expressions-compared tree.no_expressions = refl
   seen_expressions-compared (tree.more_expressions a b) = ap (λ it. tree.more_expressions it (seen_expressions Compared b)) (seen_expression-compared a) ∙ ap (λ it. tree.more_expressions a it) (seen_expressions-compared b)
+
+  pub seen_lefts-compared : (it : Lefts) → seen_lefts Compared it ≡ it
+  seen_lefts-compared tree.no_lefts = refl
+  seen_lefts-compared (tree.more_lefts a b c) =
+      ap (λ it. tree.more_lefts it b (seen_lefts Compared c)) (seen_expression-compared a) ∙ ap (λ it. tree.more_lefts a b it) (seen_lefts-compared c)
 
   pub seen_type-compared : (it : NamedType) → seen_type Compared it ≡ it
   seen_type-compared (tree.typed_as a b) = ap (λ it. tree.typed_as it (seen_declarator Compared b)) (seen_specification-compared a) ∙ ap (λ it. tree.typed_as a it) (seen_declarator-compared b)
@@ -130,11 +136,19 @@ mutual
   seen_expression-passed (tree.binary a b c d) = ap (λ it. tree.binary it b (seen_place PassedOver c) (seen_expression PassedOver d)) (seen_expression-passed a) ∙ ap (λ it. tree.binary (erased a) b nowhere it) (seen_expression-passed d)
   seen_expression-passed (tree.conditional a b c d) = ap (λ it. tree.conditional it (seen_place PassedOver b) (seen_expression PassedOver c) (seen_expression PassedOver d)) (seen_expression-passed a) ∙ ap (λ it. tree.conditional (erased a) nowhere it (seen_expression PassedOver d)) (seen_expression-passed c) ∙ ap (λ it. tree.conditional (erased a) nowhere (erased c) it) (seen_expression-passed d)
   seen_expression-passed (tree.assign a b c d) = ap (λ it. tree.assign it b (seen_place PassedOver c) (seen_expression PassedOver d)) (seen_expression-passed a) ∙ ap (λ it. tree.assign (erased a) b nowhere it) (seen_expression-passed d)
-  seen_expression-passed (tree.comma a b c) = ap (λ it. tree.comma it (seen_place PassedOver b) (seen_expression PassedOver c)) (seen_expression-passed a) ∙ ap (λ it. tree.comma (erased a) nowhere it) (seen_expression-passed c)
+  seen_expression-passed (tree.comma a b) =
+      ap (λ it. tree.comma it (seen_expression PassedOver b)) (seen_lefts-passed a)
+      ∙ ap (λ it. tree.comma (erased_lefts a) it) (seen_expression-passed b)
 
   pub seen_expressions-passed : (it : Expressions) → seen_expressions PassedOver it ≡ erased_expressions it
   seen_expressions-passed tree.no_expressions = refl
   seen_expressions-passed (tree.more_expressions a b) = ap (λ it. tree.more_expressions it (seen_expressions PassedOver b)) (seen_expression-passed a) ∙ ap (λ it. tree.more_expressions (erased a) it) (seen_expressions-passed b)
+
+  pub seen_lefts-passed : (it : Lefts) → seen_lefts PassedOver it ≡ erased_lefts it
+  seen_lefts-passed tree.no_lefts = refl
+  seen_lefts-passed (tree.more_lefts a b c) =
+      ap (λ it. tree.more_lefts it nowhere (seen_lefts PassedOver c)) (seen_expression-passed a)
+      ∙ ap (λ it. tree.more_lefts (erased a) nowhere it) (seen_lefts-passed c)
 
   pub seen_type-passed : (it : NamedType) → seen_type PassedOver it ≡ erased_type it
   seen_type-passed (tree.typed_as a b) = ap (λ it. tree.typed_as it (seen_declarator PassedOver b)) (seen_specification-passed a) ∙ ap (λ it. tree.typed_as (erased_specification a) it) (seen_declarator-passed b)

@@ -25,7 +25,7 @@ use Rattle.hs_syntax.specs.declared.unit.External.TheVariants as external
 use Rattle.hs_syntax.specs.declared.word.Place.{Place}
 use Rattle.hs_syntax.proofs.RowPairs.{and_regroup, specification_of-pairs}
 use Rattle.hs_syntax.proofs.StatementPairs.{initialisers-pairs, items-pairs, declarations-pairs, labels-pairs, statements_from-pairs}
-use Rattle.hs_syntax.proofs.StatementViews.{view_block-out}
+use Rattle.hs_syntax.specs.StatementLaws.{view_block-out}
 
 -- the initialisers in braces
 pub test-list : (places : Places) (self other : Initialiser) (at at2 : Place) (v w : Vec Initialiser Global) (comma comma2 : Bool)

@@ -18,7 +18,7 @@ use Rattle.hs_syntax.specs.declared.stmt.Labelled.{Labelled}
 use Rattle.hs_syntax.specs.declared.stmt.Stmt.TheBlock.{hidden-the_row-Labelled-0}
 use Rattle.hs_syntax.specs.declared.unit.External.{External}
 use Rattle.hs_syntax.proofs.Pairs.{pairwise-map}
-use Rattle.hs_syntax.proofs.StatementViews.{view_initialisers-row, view_statements-row}
+use Rattle.hs_syntax.specs.StatementLaws.{view_initialisers-row, view_statements-row}
 
 and_regroup : (a b c : Bool) → (a && (b && c)) ≡ ((a && b) && c)
 and_regroup true b c = refl

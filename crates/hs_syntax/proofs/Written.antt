@@ -7,9 +7,9 @@ use Rattle.std.proofs.lemmas.Bool.Decides.{nat_tests}
 use Rattle.std.specs.Prelude.{codes, Result, Ok, Err, OnOk}
 use Rattle.hs_base.specs.declared.errors.NoMemory.{NoMemory}
 use Rattle.hs_tokens.specs.declared.token.Token.{Token}
-use Rattle.hs_syntax.specs.Forms.{Piece, mark}
-use Rattle.hs_syntax.specs.Grammar.{expression_form, arguments_form, specification_form, specifier_form, constants_form, declarator_form, declarators_form, parameters_form}
-use Rattle.hs_syntax.specs.Lists.{expressions_of, constants_of, declarators_of, parameters_of}
+use Rattle.hs_syntax.specs.Forms.{Piece, mark, mark_at}
+use Rattle.hs_syntax.specs.Grammar.{expression_form, lefts_form, arguments_form, specification_form, specifier_form, members_form, constants_form, declarator_form, declarators_form, parameters_form}
+use Rattle.hs_syntax.specs.RowViews.{view_left, view_member, view_constant, view_parameter, expressions_from, lefts_from, members_from, constants_from, declarators_from, parameters_from}
 use Rattle.hs_syntax.specs.Parts.{comma_form, identifier}
 use Rattle.hs_syntax.specs.Spelling.{token_of}
 use Rattle.hs_syntax.specs.Trees as tree
@@ -18,7 +18,10 @@ use Rattle.hs_syntax.specs.Views.{view, view_declarator, specification_of}
 use Rattle.hs_syntax.specs.declared.expr.Constant.{Constant, Plain, Valued'}
 use Rattle.hs_syntax.specs.declared.expr.Declarator.{Declarator}
 use Rattle.hs_syntax.specs.declared.expr.Expr.{Expr}
+use Rattle.hs_syntax.specs.declared.expr.Left.{Left}
+use Rattle.hs_syntax.specs.declared.expr.Member.{Member, out-Member}
 use Rattle.hs_syntax.specs.declared.expr.Parameter.{Parameter}
+use Rattle.hs_syntax.specs.RowLaws.{view_member-out}
 
 -- Pieces behind pieces are written one after the other.
 pub twice : (old : List Token) (first rest : List Piece) → old ++ map token_of (first ++ rest) ≡ (old ++ map token_of first) ++ map token_of rest
@@ -85,22 +88,38 @@ module _ {A : Type 0} (pieces : List A → List Piece) (all : List A) (i : ℕ) 
       next mid new whole _ (comma_form (nat_lt 0 (left - 1))).pieces _ behind refl comma
 
 -- The arguments of a call, one on.
-pub arguments_on : (known : List (List ℕ)) (it : Expr) (rest : List Expr) → (arguments_form known (expressions_of (it ∷ rest))).pieces
-    ≡ (expression_form known (view it)).pieces ++ ((comma_form (has_more rest)).pieces ++ (arguments_form known (expressions_of rest)).pieces)
+pub arguments_on : (known : List (List ℕ)) (it : Expr) (rest : List Expr) → (arguments_form known (expressions_from (map view (it ∷ rest)))).pieces
+    ≡ (expression_form known (view it)).pieces ++ ((comma_form (has_more rest)).pieces ++ (arguments_form known (expressions_from (map view rest))).pieces)
 arguments_on known it [] = refl
 arguments_on known it (other ∷ rest) = refl
 
+-- The left operands of commas, one on.
+pub lefts_on : (known : List (List ℕ)) (it : Left) (rest : List Left) → (lefts_form known (lefts_from (map view_left (it ∷ rest)))).pieces
+    ≡ ((expression_form known (view it.operand)).pieces ++ (mark_at it.at (codes ",")).pieces) ++ (lefts_form known (lefts_from (map view_left rest))).pieces
+lefts_on known it rest = sym (append_assoc (expression_form known (view it.operand)).pieces (mark_at it.at (codes ",")).pieces _)
+
 -- The declarators of a member, one on.
-pub declarators_on : (known : List (List ℕ)) (it : Declarator) (rest : List Declarator) → (declarators_form known (declarators_of (it ∷ rest))).pieces
+pub declarators_on : (known : List (List ℕ)) (it : Declarator) (rest : List Declarator) → (declarators_form known (declarators_from (map view_declarator (it ∷ rest)))).pieces
     ≡ (declarator_form known false (view_declarator it)).pieces
-    ++ ((comma_form (has_more rest)).pieces ++ (declarators_form known (declarators_of rest)).pieces)
+    ++ ((comma_form (has_more rest)).pieces ++ (declarators_form known (declarators_from (map view_declarator rest))).pieces)
 declarators_on known it [] = refl
 declarators_on known it (other ∷ rest) = refl
 
+-- The pieces of one member.
+abbrev pub member_pieces : List (List ℕ) → Member → List Piece
+member_pieces known it =
+    (specification_form known false (specification_of (out-Member it).specifiers.items)).pieces
+    ++ ((declarators_form known (declarators_from (map view_declarator (out-Member it).declarators.items))).pieces ++ (mark (codes ";")).pieces)
+
+-- Members, one on.
+pub members_on : (known : List (List ℕ)) (it : Member) (rest : List Member) → (members_form known (members_from (map view_member (it ∷ rest)))).pieces
+    ≡ member_pieces known it ++ (members_form known (members_from (map view_member rest))).pieces
+members_on known it rest = ap (λ one. (members_form known (members_from (one ∷ map view_member rest))).pieces) (view_member-out it)
+
 -- Parameters, one on.
-pub parameters_on : (known : List (List ℕ)) (it : Parameter) (rest : List Parameter) → (parameters_form known (parameters_of (it ∷ rest))).pieces
+pub parameters_on : (known : List (List ℕ)) (it : Parameter) (rest : List Parameter) → (parameters_form known (parameters_from (map view_parameter (it ∷ rest)))).pieces
     ≡ ((specification_form known false (specification_of it.specifiers.items)).pieces ++ (declarator_form known true (view_declarator it.declarator)).pieces)
-    ++ ((comma_form (has_more rest)).pieces ++ (parameters_form known (parameters_of rest)).pieces)
+    ++ ((comma_form (has_more rest)).pieces ++ (parameters_form known (parameters_from (map view_parameter rest))).pieces)
 parameters_on known it [] = refl
 parameters_on known it (other ∷ rest) = refl
 
@@ -109,8 +128,8 @@ nothing_between : (first rest : List Piece) → first ++ rest ≡ (first ++ []) 
 nothing_between first rest = ap (λ pieces. pieces ++ rest) (sym (append-nil first))
 
 -- Constants, one on.
-pub constants_on : (known : List (List ℕ)) (it : Constant) (rest : List Constant) → (constants_form known (constants_of (it ∷ rest))).pieces
-    ≡ (constants_form known (constants_of (it ∷ []))).pieces ++ ((comma_form (has_more rest)).pieces ++ (constants_form known (constants_of rest)).pieces)
+pub constants_on : (known : List (List ℕ)) (it : Constant) (rest : List Constant) → (constants_form known (constants_from (map view_constant (it ∷ rest)))).pieces
+    ≡ (constants_form known (constants_from (map view_constant (it ∷ [])))).pieces ++ ((comma_form (has_more rest)).pieces ++ (constants_form known (constants_from (map view_constant rest))).pieces)
 constants_on known (Plain name) [] = refl
 constants_on known (Plain name) (Plain other ∷ rest) = refl
 constants_on known (Plain name) (Valued' other p e ∷ rest) = refl

@@ -3,7 +3,7 @@ use Rattle.std.proofs.Common.{◌≡◌, ℕ, false, List, [], ◌∷◌, ◌++�
 use Rattle.std.specs.Prelude.{codes, option_map}
 use Rattle.hs_syntax.specs.Forms.{mark, keyword_at}
 use Rattle.hs_syntax.specs.Grammar.{initialiser_form, initialisers_form, start_form, items_form, declarator_form, expression_form, labels_form}
-use Rattle.hs_syntax.specs.Lists.{initialisers_of}
+use Rattle.hs_syntax.specs.StatementViews.{initialisers_from}
 use Rattle.hs_syntax.specs.Parts.{comma_form}
 use Rattle.hs_syntax.specs.Views.{view, view_label, view_initialiser, view_item, view_declarator}
 use Rattle.hs_syntax.specs.declared.decl.Initialiser.{Initialiser}
@@ -13,8 +13,8 @@ use Rattle.hs_syntax.specs.declared.stmt.Label.TheVariants.{Case, Default}
 use Rattle.hs_syntax.proofs.Written.{has_more}
 
 -- Initialisers, one on.
-pub initialisers_on : (known : List (List ℕ)) (it : Initialiser) (rest : List Initialiser) → (initialisers_form known (initialisers_of (it ∷ rest))).pieces
-    ≡ (initialiser_form known (view_initialiser it)).pieces ++ ((comma_form (has_more rest)).pieces ++ (initialisers_form known (initialisers_of rest)).pieces)
+pub initialisers_on : (known : List (List ℕ)) (it : Initialiser) (rest : List Initialiser) → (initialisers_form known (initialisers_from (map view_initialiser (it ∷ rest)))).pieces
+    ≡ (initialiser_form known (view_initialiser it)).pieces ++ ((comma_form (has_more rest)).pieces ++ (initialisers_form known (initialisers_from (map view_initialiser rest))).pieces)
 initialisers_on known it [] = refl
 initialisers_on known it (other ∷ rest) = refl
 

@@ -1,4 +1,5 @@
--- What numbers of marks say of the marks. Own to this project: a scan of the tokens counts the marks, and keeps no list of them.
+-- What numbers of marks say of the marks. Own to this project: a scan of the tokens counts the marks, and keeps no list
+-- of them.
 --     counts marks                 how many of each kind the marks are
 --     Turns before now change      as the marks change on one level, so do the numbers
 --     Follows before now change    the same of all levels

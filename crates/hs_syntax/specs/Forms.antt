@@ -66,7 +66,8 @@ IsAt source place = (source.token.pos ≡ place.pos) × (source.origin ≡ place
 abbrev pub Spells : List Piece → List SourceToken → Type 0
 Spells [] [] = Unit {0}
 Spells (piece ∷ pieces) (source ∷ sources) =
-    (source.token.kind ≡ piece.kind) × (source.token.text ≡ piece.text) × IfSome piece.place (IsAt source) × Spells pieces sources
+    (source.token.kind ≡ piece.kind) × (source.token.text ≡ piece.text) × IfSome piece.place (IsAt source)
+    × Spells pieces sources
 Spells [] (source ∷ sources) = ⊥
 Spells (piece ∷ pieces) [] = ⊥
 

@@ -5,7 +5,8 @@
 --     SpecifiersGoOn             a list of specifiers takes what it can (3.5)
 use Rattle.std.specs.Prelude.{◌≡◌, ◌<◌, ◌≤◌, ℕ, true, false, List, codes}
 use Rattle.hs_syntax.specs.Forms.{◌⨾◌, mark}
-use Rattle.hs_syntax.specs.Grammar.{expression_form, direct_form, declarator_form, declaration_form, items_form, statement_form}
+use Rattle.hs_syntax.specs.Grammar.{expression_form, direct_form, declarator_form, declaration_form, items_form}
+use Rattle.hs_syntax.specs.Grammar.{statement_form}
 use Rattle.hs_syntax.specs.Operators.{level_of}
 use Rattle.hs_syntax.specs.Phrases.{begins_none, begins_parameters, is_typed}
 use Rattle.hs_syntax.specs.Trees as tree
@@ -13,24 +14,29 @@ use Rattle.hs_syntax.specs.Trees.{Expression, Declared, Declaration, Statement}
 use Rattle.hs_syntax.specs.declared.operators.BinaryOperator.{BinaryOperator}
 use Rattle.hs_syntax.specs.declared.word.Place.{Place}
 
--- Of two binary operators in a row, the first one is applied first where it binds as tightly as the second, and the second one where
--- it binds tighter.
+-- Of two binary operators in a row, the first one is applied first where it binds as tightly as the second, and the
+-- second one where it binds tighter.
 abbrev pub GroupsLeft : Type 0
 GroupsLeft = (known : List (List ℕ)) (a b c : Expression) (first second : BinaryOperator) (at place : Place)
-    → ((expression_form known (tree.binary (tree.binary a first at b) second place c)).fits ≡ true → level_of second ≤ level_of first)
-    × ((expression_form known (tree.binary a first at (tree.binary b second place c))).fits ≡ true → level_of first < level_of second)
+    → ((expression_form known (tree.binary (tree.binary a first at b) second place c)).fits ≡ true
+    → level_of second ≤ level_of first)
+    × ((expression_form known (tree.binary a first at (tree.binary b second place c))).fits ≡ true
+    → level_of first < level_of second)
 
 -- an `else` behind an `if` without one is not that of an outer `if`
 abbrev pub ElseIsNearest : Type 0
 ElseIsNearest = (known : List (List ℕ)) (outer inner : Expression) (body otherwise : Statement) (at place : Place)
     → (statement_form known (tree.if_else at outer (tree.if_ place inner body) otherwise)).fits ≡ false
 
--- In a parameter or a type name, no declarator in parentheses begins with a typedef name or with a word that means nothing.
+-- In a parameter or a type name, no declarator in parentheses begins with a typedef name or with a word that means
+-- nothing.
 abbrev pub TypesBeginParameters : Type 0
 TypesBeginParameters = (known : List (List ℕ)) (it : Declared)
-    → (direct_form known true (tree.parens_of it)).fits ≡ true → begins_parameters known (declarator_form known true it).pieces ≡ false
+    → (direct_form known true (tree.parens_of it)).fits ≡ true
+    → begins_parameters known (declarator_form known true it).pieces ≡ false
 
 -- what follows the specifiers of a declaration begins none
 abbrev pub SpecifiersGoOn : Type 0
 SpecifiersGoOn = (known : List (List ℕ)) (it : Declaration)
-    → (declaration_form known it).fits ≡ true → begins_none known (is_typed it.specifiers) (items_form known it.items ⨾ mark (codes ";")).pieces ≡ true
+    → (declaration_form known it).fits ≡ true
+    → begins_none known (is_typed it.specifiers) (items_form known it.items ⨾ mark (codes ";")).pieces ≡ true

@@ -5,7 +5,6 @@ pub mod Forms
 pub mod Grammar
 pub mod Laws
 pub mod LeafTests
-pub mod Lists
 pub mod Names
 pub mod Nesting
 pub mod Operators
@@ -14,11 +13,13 @@ pub mod Parts
 pub mod Phrases
 pub mod Places
 pub mod RowEquality
+pub mod RowLaws
 pub mod RowTests
 pub mod RowViews
 pub mod Seen
 pub mod Spelling
 pub mod StatementEquality
+pub mod StatementLaws
 pub mod StatementSeen
 pub mod StatementTests
 pub mod StatementViews

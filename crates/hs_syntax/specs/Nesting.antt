@@ -1,12 +1,14 @@
 -- How deep the tokens of a unit are nested. Own to this project: it is counted over the tokens, before the grammar.
--- There is an outermost level. Each `(`, `[` and `{` begins a level, and the next closing bracket of any kind that stands on that
--- level ends it. Marks are the keywords `if`, `while`, `do`, `for`, `switch` and `sizeof`, and all punctuators but `,` `;` `:` `)`
--- `]` `}`. A mark counts on the level on which it stands; so does an opening bracket, which then begins the next one.
+-- There is an outermost level. Each `(`, `[` and `{` begins a level, and the next closing bracket of any kind that
+-- stands on that level ends it. Marks are the keywords `if`, `while`, `do`, `for`, `switch` and `sizeof`, and all
+-- punctuators but `,` `;` `:` `)` `]` `}`. A mark counts on the level on which it stands; so does an opening bracket,
+-- which then begins the next one.
 --     mark_of token           the mark that the token is
 --     after levels token next the marks on each open level behind the token
 --     nestings levels tokens  the nesting at each token
 --     IsShallow tokens        it is at most 256 at every token
-use Rattle.std.specs.Prelude.{◌≡◌, ◌+◌, ℕ, nat_le, Bool, true, false, ◌&&◌, ◌||◌, List, [], ◌∷◌, length, codes, Option, Some, None, if◌then◌else◌}
+use Rattle.std.specs.Prelude.{◌≡◌, ◌+◌, ℕ, nat_le, Bool, true, false, ◌&&◌, ◌||◌, List, [], ◌∷◌, length, codes, Option}
+use Rattle.std.specs.Prelude.{Some, None, if◌then◌else◌}
 use Rattle.std.specs.List.{filter, list_all, list_any}
 use Rattle.std.specs.Str.{bytes_eq}
 use Rattle.hs_base.specs.Limit.{number_of}
@@ -45,13 +47,14 @@ closes source = is_punctuator (codes ")") source || is_punctuator (codes "]") so
 -- one of the keywords that are marks, but for `do`
 abbrev pub is_marking_word : SourceToken → Bool
 is_marking_word source =
-    is_word (codes "if") source || is_word (codes "while") source || is_word (codes "for") source || is_word (codes "switch") source
-    || is_word (codes "sizeof") source
+    is_word (codes "if") source || is_word (codes "while") source || is_word (codes "for") source
+    || is_word (codes "switch") source || is_word (codes "sizeof") source
 
 -- a punctuator that is no mark
 abbrev pub is_unmarked : SourceToken → Bool
 is_unmarked source =
-    is_punctuator (codes ",") source || is_punctuator (codes ";") source || is_punctuator (codes ":") source || closes source
+    is_punctuator (codes ",") source || is_punctuator (codes ";") source || is_punctuator (codes ":") source
+    || closes source
 
 -- the mark of a punctuator
 abbrev pub punctuator_mark : SourceToken → Option Mark

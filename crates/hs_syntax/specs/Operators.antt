@@ -1,6 +1,6 @@
 -- The spellings of operators and words, and how tightly operators bind.
 --     binary_text, assign_text, ..     the spelling
---     level_of operator                the binary operators bind from 10, the tightest, to 1 (X3.159-1989 3.3.5 to 3.3.14)
+--     level_of operator                the binary operators bind from 10, the tightest, to 1 (3.3.5 to 3.3.14)
 use Rattle.std.specs.Prelude.{ℕ, List, codes}
 use Rattle.hs_syntax.specs.declared.operators.Access.{Access}
 use Rattle.hs_syntax.specs.declared.operators.Access.TheVariants as access

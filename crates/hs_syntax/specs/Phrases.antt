@@ -6,23 +6,26 @@
 --     is_named, is_empty         of declarators
 --     ends_open statement        an `else` behind it would be its own
 --     made_by external           the typedef names that an external declaration makes
-use Rattle.std.specs.Prelude.{ℕ, suc, ◌+◌, nat_le, Bool, true, false, not, ◌&&◌, ◌||◌, List, [], ◌∷◌, codes, map, length, ◌==◌, if◌then◌else◌}
+use Rattle.std.specs.Prelude.{ℕ, suc, ◌+◌, nat_le, Bool, true, false, not, ◌&&◌, ◌||◌, List, [], ◌∷◌, codes, map}
+use Rattle.std.specs.Prelude.{length, ◌==◌, if◌then◌else◌}
 use Rattle.hs_tokens.specs.Marks.{is_same_kind}
 use Rattle.hs_tokens.specs.declared.token.TokenKind.TheVariants.{Identifier}
 use Rattle.hs_syntax.specs.Forms.{Piece, Form, when}
-use Rattle.hs_syntax.specs.Names.{is_among}
+use Rattle.hs_syntax.specs.Names.{is_among, is_type_name}
 use Rattle.hs_syntax.specs.Operators.{level_of}
 use Rattle.hs_syntax.specs.Trees as tree
-use Rattle.hs_syntax.specs.Trees.{Expression, Expressions, Specified, Specification, Members, Constants, Declared, Declarators, Directly, Parameters, Initialisers, Statement, ExternalDeclaration}
+use Rattle.hs_syntax.specs.Trees.{Expression, Expressions, Lefts, Specified, Specification, Members, Constants}
+use Rattle.hs_syntax.specs.Trees.{Declared, Declarators, Directly, Parameters, Initialisers, Statement}
+use Rattle.hs_syntax.specs.Trees.{ExternalDeclaration}
 use Rattle.hs_syntax.specs.declared.operators.Basic.TheVariants.{Void}
 use Rattle.hs_syntax.specs.declared.operators.Storage.TheVariants.{Typedef}
 
 -- ---- expressions
 
--- 0 for a comma, 1 for an assignment, 2 for a conditional, 3 to 12 for the binary operators by level, 13 for a cast, 14 for a unary,
--- 15 for a postfix and 16 for a primary expression
+-- 0 for a comma, 1 for an assignment, 2 for a conditional, 3 to 12 for the binary operators by level, 13 for a cast, 14
+-- for a unary, 15 for a postfix and 16 for a primary expression
 abbrev pub rank : Expression → ℕ
-rank (tree.comma left at right) = 0
+rank (tree.comma lefts right) = 0
 rank (tree.assign target operator at value) = 1
 rank (tree.conditional test at taken otherwise) = 2
 rank (tree.binary left operator at right) = 2 + level_of operator
@@ -84,14 +87,15 @@ dropped_words = codes "auto" ∷ codes "register" ∷ codes "const" ∷ codes "v
 -- the words that begin a specifier
 unfoldable pub specifier_words : List (List ℕ)
 specifier_words =
-    codes "typedef" ∷ codes "extern" ∷ codes "static" ∷ codes "auto" ∷ codes "register" ∷ codes "const" ∷ codes "volatile"
-    ∷ codes "pascal" ∷ codes "void" ∷ codes "char" ∷ codes "short" ∷ codes "int" ∷ codes "long" ∷ codes "signed" ∷ codes "unsigned"
-    ∷ codes "struct" ∷ codes "enum" ∷ []
+    codes "typedef" ∷ codes "extern" ∷ codes "static" ∷ codes "auto" ∷ codes "register" ∷ codes "const"
+    ∷ codes "volatile" ∷ codes "pascal" ∷ codes "void" ∷ codes "char" ∷ codes "short" ∷ codes "int" ∷ codes "long"
+    ∷ codes "signed" ∷ codes "unsigned" ∷ codes "struct" ∷ codes "enum" ∷ []
 
 -- The token begins a specifier: by its word, or as a typedef name where no type specifier stands before.
 abbrev pub begins_specifier : List (List ℕ) → Bool → Piece → Bool
 begins_specifier known typed piece =
-    is_same_kind piece.kind Identifier && (is_among specifier_words piece.text || (not typed && is_among known piece.text))
+    is_same_kind piece.kind Identifier
+    && (is_among specifier_words piece.text || (not typed && is_type_name known piece.text))
 
 -- the first token, if there is one, does not begin a specifier
 abbrev pub begins_none : List (List ℕ) → Bool → List Piece → Bool
@@ -131,7 +135,7 @@ is_empty (tree.pointing pointers direct) = (length pointers == 0) && is_nothing 
 abbrev pub begins_parameters : List (List ℕ) → List Piece → Bool
 begins_parameters known [] = false
 begins_parameters known (piece ∷ pieces) =
-    is_same_kind piece.kind Identifier && (is_among known piece.text || is_among dropped_words piece.text)
+    is_same_kind piece.kind Identifier && (is_type_name known piece.text || is_among dropped_words piece.text)
 
 -- `void` alone
 abbrev pub is_void : Specified → Bool
@@ -139,7 +143,8 @@ is_void (tree.basic Void at) = true
 is_void _ = false
 
 abbrev pub is_void_alone : Parameters → Bool
-is_void_alone (tree.more_parameters (tree.more_specifiers it tree.no_specifiers) declared tree.no_parameters) = is_void it && is_empty declared
+is_void_alone (tree.more_parameters (tree.more_specifiers it tree.no_specifiers) declared tree.no_parameters) =
+    is_void it && is_empty declared
 is_void_alone _ = false
 
 -- ---- lists with something in them
@@ -147,6 +152,10 @@ is_void_alone _ = false
 abbrev pub has_expressions : Expressions → Bool
 has_expressions tree.no_expressions = false
 has_expressions (tree.more_expressions e rest) = true
+
+abbrev pub has_lefts : Lefts → Bool
+has_lefts tree.no_lefts = false
+has_lefts (tree.more_lefts e at rest) = true
 
 abbrev pub has_specifiers : Specification → Bool
 has_specifiers tree.no_specifiers = false

@@ -1,8 +1,11 @@
 -- Tests of the entries of lists that have no type of their own in `Trees.antt`.
 use Rattle.std.specs.Prelude.{Bool, true, false, ◌&&◌}
-use Rattle.hs_syntax.specs.Equality.{equal_word, equal_expression, equal_specification, equal_declarator, equal_declarators}
-use Rattle.hs_syntax.specs.RowViews.{OneMember, one_member, OneConstant, plain_one, valued_one, OneParameter, one_parameter}
-use Rattle.hs_syntax.specs.Seen.{seen_word, seen_expression, seen_specification, seen_declarator, seen_declarators}
+use Rattle.hs_syntax.specs.Equality.{equal_place, equal_word, equal_expression, equal_specification, equal_declarator}
+use Rattle.hs_syntax.specs.Equality.{equal_declarators}
+use Rattle.hs_syntax.specs.RowViews.{OneLeft, one_left, OneMember, one_member, OneConstant, plain_one, valued_one}
+use Rattle.hs_syntax.specs.RowViews.{OneParameter, one_parameter}
+use Rattle.hs_syntax.specs.Seen.{seen_place, seen_word, seen_expression, seen_specification, seen_declarator}
+use Rattle.hs_syntax.specs.Seen.{seen_declarators}
 use Rattle.hs_syntax.specs.Trees as tree
 use Rattle.hs_syntax.specs.Trees.{NamedType}
 use Rattle.hs_syntax.specs.Views.{view_specifiers, view_declarator}
@@ -12,7 +15,14 @@ use Rattle.hs_syntax.specs.declared.same.word.Places.{Places}
 
 -- the view of a type name, as it stands behind a pointer
 abbrev pub boxed_view : TypeName → NamedType
-boxed_view it = tree.typed_as (view_specifiers (hidden-the_row-Specifier-0 it.specifiers)) (view_declarator it.declarator)
+boxed_view it =
+    tree.typed_as (view_specifiers (hidden-the_row-Specifier-0 it.specifiers)) (view_declarator it.declarator)
+
+abbrev pub equal_left : OneLeft → OneLeft → Bool
+equal_left (one_left a b) (one_left a2 b2) = equal_expression a a2 && equal_place b b2
+
+abbrev pub seen_left : Places → OneLeft → OneLeft
+seen_left places (one_left a b) = one_left (seen_expression places a) (seen_place places b)
 
 abbrev pub equal_member : OneMember → OneMember → Bool
 equal_member (one_member a b) (one_member a2 b2) = equal_specification a a2 && equal_declarators b b2

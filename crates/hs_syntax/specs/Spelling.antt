@@ -23,7 +23,14 @@ place_or_nowhere (Some place) = place
 
 -- the token of a piece: the first on no line, with white space before it
 abbrev pub token_of : Piece → Token
-token_of piece = record { kind = piece.kind; text = piece.text; pos = (place_or_nowhere piece.place).pos; first = false; spaced = true }
+token_of piece =
+    record {
+      kind = piece.kind;
+      text = piece.text;
+      pos = (place_or_nowhere piece.place).pos;
+      first = false;
+      spaced = true;
+    }
 
 -- and where it comes from
 abbrev pub source_of : Piece → SourceToken

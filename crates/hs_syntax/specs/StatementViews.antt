@@ -1,6 +1,6 @@
 -- The views of lists of initialisers and of labelled statements: each is made of the views of its entries.
---     view_labelled                              of one labelled statement, which has no type of its own in `Trees.antt`
---     initialisers_from, statements_from         the list of those entries
+--     view_labelled                       of one labelled statement, which has no type of its own in `Trees.antt`
+--     initialisers_from, statements_from  the list of those entries
 use Rattle.std.specs.Prelude.{List, [], ◌∷◌, map}
 use Rattle.hs_syntax.specs.declared.stmt.Labelled.{Labelled}
 use Rattle.hs_syntax.specs.Trees as tree

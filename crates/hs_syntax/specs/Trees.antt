@@ -1,5 +1,6 @@
--- Syntax trees, as contracts see them: without memory. A node for each production of the grammar (`Grammar.antt`), with the places
--- of its tokens that later phases name, and lists of nodes. `Views.antt` says which of them a tree of the code is.
+-- Syntax trees, as contracts see them: without memory. A node for each production of the grammar (`Grammar.antt`), with
+-- the places of its tokens that later phases name, and lists of nodes. `Views.antt` says which of them a tree of the
+-- code is.
 use Rattle.std.specs.Prelude.{Bool, List, Option}
 use Rattle.hs_syntax.specs.declared.word.Place.{Place}
 use Rattle.hs_syntax.specs.declared.word.Word.{Word}
@@ -32,11 +33,16 @@ mutual
     binary : Expression → BinaryOperator → Place → Expression → Expression
     conditional : Expression → Place → Expression → Expression → Expression
     assign : Expression → AssignOperator → Place → Expression → Expression
-    comma : Expression → Place → Expression → Expression
+    comma : Lefts → Expression → Expression
 
   pub data Expressions : Type 0 where
     no_expressions : Expressions
     more_expressions : Expression → Expressions → Expressions
+
+  -- the left operands of commas, each with the place of its comma (3.3.17)
+  pub data Lefts : Type 0 where
+    no_lefts : Lefts
+    more_lefts : Expression → Place → Lefts → Lefts
 
   -- type names (3.5.5)
   pub data NamedType : Type 0 where

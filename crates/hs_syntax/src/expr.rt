@@ -75,11 +75,20 @@ pub enum Expr {
         at: Place,
         value: Box<Expr>,
     },
+    /// Expressions with commas between them (3.3.17): the left operands, of which there is at least one in a tree of the
+    /// grammar, and the last right one.
     Comma {
-        left: Box<Expr>,
-        at: Place,
+        lefts: Vec<Left>,
         right: Box<Expr>,
     },
+}
+
+/// A left operand of a comma, and the place of the comma (3.3.17).
+#[cycle(expr)]
+#[derive(Drop)]
+pub struct Left {
+    pub operand: Expr,
+    pub at: Place,
 }
 
 /// The name of a type (3.5.5). Its declarator names nothing, and may be empty.

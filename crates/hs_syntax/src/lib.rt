@@ -21,7 +21,7 @@ mod unit;
 mod word;
 
 pub use decl::{Decl, Initialiser, Item};
-pub use expr::{Constant, Declarator, Direct, Expr, Member, Parameter, Specifier, TypeName};
+pub use expr::{Constant, Declarator, Direct, Expr, Left, Member, Parameter, Specifier, TypeName};
 pub use laws::{
     binary_operators_group_to_the_left, else_belongs_to_the_nearest_if,
     specifiers_take_what_they_can, typedef_names_begin_parameter_lists,

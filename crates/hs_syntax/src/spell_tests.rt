@@ -1,6 +1,6 @@
 use crate::{
-    Basic, Block, Decl, Declarator, Direct, Expr, External, Item, Labelled, Place, Specifier, Stmt,
-    Unit, Word, spell,
+    Basic, Block, Decl, Declarator, Direct, Expr, External, Item, Labelled, Left, Place, Specifier,
+    Stmt, Unit, Word, spell,
 };
 use hs_base::{Bytes, Pos};
 use hs_tokens::{Origin, Token};
@@ -165,5 +165,88 @@ fn units_are_compared_with_their_places_or_but_for_them(rt: HostRuntime) -> Resu
     assert!(rt; it.is_same_but_places(&elsewhere));
     let other = prototype(rt.alloc(), b"Fop", 1)?;
     assert!(rt; !it.is_same_but_places(&other));
+    Ok(())
+}
+
+/// An operand, and the comma behind it on that line.
+fn left(alloc: Global, name: &[u8], line: u32) -> Result<Left, AllocError> {
+    Ok(Left {
+        operand: Expr::Name(word(alloc, name, 1)?),
+        at: place(line),
+    })
+}
+
+/// `a, b, c`, with the second comma on that line.
+fn commas(alloc: Global, line: u32) -> Result<Expr, AllocError> {
+    let mut lefts = only(alloc, left(alloc, b"a", 1)?)?;
+    lefts.push(left(alloc, b"b", line)?)?;
+    Ok(Expr::Comma {
+        lefts,
+        right: Box::new(alloc, Expr::Name(word(alloc, b"c", 1)?))?,
+    })
+}
+
+/// `int main(void) { EXPRESSION; }`
+fn main_of(alloc: Global, e: Expr) -> Result<Unit, AllocError> {
+    let main = External::Function {
+        specifiers: basic(alloc, Basic::Int, 1)?,
+        declarator: of_void(alloc, b"main", 1)?,
+        body: Block {
+            opening: place(1),
+            declarations: Vec::new(alloc),
+            statements: only(alloc, bare(alloc, Stmt::Expr(e)))?,
+            closing: place(3),
+        },
+    };
+    Ok(Unit {
+        externals: only(alloc, main)?,
+    })
+}
+
+// X3.159-1989 3.3.17: a comma stands behind each left operand, at its place.
+#[test]
+fn commas_stand_behind_their_left_operands(rt: HostRuntime) -> Result<(), Fail> {
+    let original = main_of(rt.alloc(), commas(rt.alloc(), 2)?)?;
+    let copy = original.copied(rt.alloc())?;
+    let lines: [u32; 13] = [1, 1, 0, 1, 0, 1, 1, 1, 1, 2, 1, 0, 3];
+    for it in [&original, &copy] {
+        let tokens = spell(rt.alloc(), it)?;
+        let text = texts(rt.alloc(), tokens.as_slice())?;
+        assert!(rt; text.as_slice() == b"int main ( void ) { a , b , c ; } ".as_slice());
+        assert!(rt; tokens.len() == lines.len());
+        for (token, line) in tokens.iter().zip(lines.iter()) {
+            assert!(rt; token.pos.line == *line);
+        }
+    }
+    Ok(())
+}
+
+#[test]
+fn the_place_of_a_comma_is_compared_or_passed_over(rt: HostRuntime) -> Result<(), Fail> {
+    let it = commas(rt.alloc(), 1)?;
+    assert!(rt; it.is_same(&it.copied(rt.alloc())?));
+    assert!(rt; it.is_same(&commas(rt.alloc(), 1)?));
+    let elsewhere = commas(rt.alloc(), 2)?;
+    assert!(rt; !it.is_same(&elsewhere));
+    assert!(rt; it.is_same_but_places(&elsewhere));
+    let other = Expr::Name(word(rt.alloc(), b"c", 1)?);
+    assert!(rt; !it.is_same_but_places(&other));
+    Ok(())
+}
+
+// Own: commas stand in a list, so that many of them make no deep tree, and take no deep stack.
+#[test]
+fn a_hundred_thousand_commas_stand_in_one_expression(rt: HostRuntime) -> Result<(), Fail> {
+    let mut lefts = Vec::new(rt.alloc());
+    for _ in 0..100_000 {
+        lefts.push(left(rt.alloc(), b"", 1)?)?;
+    }
+    let it = Expr::Comma {
+        lefts,
+        right: Box::new(rt.alloc(), Expr::Name(word(rt.alloc(), b"", 1)?))?,
+    };
+    let copy = it.copied(rt.alloc())?;
+    assert!(rt; it.is_same(&copy));
+    assert!(rt; spell(rt.alloc(), &main_of(rt.alloc(), copy)?)?.len() == 200_009);
     Ok(())
 }

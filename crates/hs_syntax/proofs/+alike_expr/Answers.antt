@@ -1,10 +1,10 @@
 use Rattle.std.proofs.Common.{◌≡◌, rules, true, ◌&&◌, sym, ◌∙◌}
 use Rattle.hs_syntax.specs.Equality.{equal_place, equal_bool}
 use Rattle.hs_syntax.specs.Pairwise.{pairwise}
-use Rattle.hs_syntax.specs.RowTests.{test_expression, test_specifier, test_member, test_constant, test_declarator, test_parameter}
+use Rattle.hs_syntax.specs.RowTests.{test_expression, test_left, test_type, test_specifier, test_member, test_constant, test_declarator, test_direct, test_parameter}
 use Rattle.hs_syntax.specs.Seen.{seen_place}
 use Rattle.hs_syntax.specs.declared.expr.Member.{out-Member}
-use Rattle.hs_syntax.proofs.NodeTests.{when_true, when_false, same_comma, test_type, test_direct, test_front, test-call, test-sizeof_type, test-cast, test-function, test-struct, test-enum, test-type, test-parameter, test-member}
+use Rattle.hs_syntax.proofs.NodeTests.{when_true, when_false, same_comma, test_front, test-call, test-comma, test-sizeof_type, test-cast, test-function, test-struct, test-enum, test-type, test-parameter, test-member}
 use Rattle.hs_syntax.proofs.+alike_expr.Goals as goal
 
 -- the parameters of a function decide where its base is the same
@@ -24,6 +24,26 @@ expr::Expr::is_alike-returns-then-is_alike-3 t c =
     let callee : test_expression places it.callee.value it.other_callee.value ≡ true = search rules in
     let rows : c.expressions_alike.result ≡ pairwise (test_expression places) it.arguments.items it.other_arguments.items = search rules in
     when_true (test-call places c.args.self.now c.args.other.now it.callee it.other_callee it.arguments it.other_arguments it.is-0 it.is-1) callee rows
+
+-- the right operand of a comma, where the left ones are the same,
+pub expr::Expr::is_alike-returns-then-lefts_alike : goal.expr::Expr::is_alike-returns-then-lefts_alike
+expr::Expr::is_alike-returns-then-lefts_alike t c =
+    let places = c.args.places in
+    let it = c.in-Comma-Comma in
+    let lefts : c.lefts_alike.result ≡ pairwise (test_left places) it.lefts.items it.other_lefts.items = search rules in
+    let right : c.is_alike-then-lefts_alike.result ≡ test_expression places it.right.value it.other_right.value = search rules in
+    when_true (test-comma places c.args.self.now c.args.other.now it.lefts it.other_lefts it.right it.other_right it.is-0 it.is-1)
+    (sym lefts ∙ c.if-lefts_alike.true) right
+
+-- and where they are not
+pub expr::Expr::is_alike-returns-else-lefts_alike : goal.expr::Expr::is_alike-returns-else-lefts_alike
+expr::Expr::is_alike-returns-else-lefts_alike t c =
+    let places = c.args.places in
+    let it = c.in-Comma-Comma in
+    let lefts : c.lefts_alike.result ≡ pairwise (test_left places) it.lefts.items it.other_lefts.items = search rules in
+    when_false (test_expression places it.right.value it.other_right.value)
+    (test-comma places c.args.self.now c.args.other.now it.lefts it.other_lefts it.right it.other_right it.is-0 it.is-1)
+    lefts c.if-lefts_alike.false
 
 -- the type of `sizeof`, where the place is the same
 pub expr::Expr::is_alike-returns-then-are_alike-6 : goal.expr::Expr::is_alike-returns-then-are_alike-6

@@ -1,6 +1,6 @@
 use Rattle.std.proofs.Common.{◌≡◌, length, drop}
 use Rattle.hs_syntax.specs.Pairwise.{pairwise}
-use Rattle.hs_syntax.specs.RowTests.{test_expression, test_specifier, test_member, test_constant, test_declarator, test_parameter}
+use Rattle.hs_syntax.specs.RowTests.{test_expression, test_left, test_specifier, test_member, test_constant, test_declarator, test_parameter}
 use Rattle.hs_syntax.proofs.+alike_expr.Given as goal
 
 -- In each loop what is left decides.
@@ -8,6 +8,11 @@ abbrev pub invariant-same::expr::expressions_alike-expressions : goal.invariant-
 invariant-same::expr::expressions_alike-expressions l =
     (length l.its ≡ length l.others)
     × (pairwise (test_expression l.places) (drop l.i l.its) (drop l.i l.others) ≡ pairwise (test_expression l.places) l.its l.others)
+
+abbrev pub invariant-same::expr::lefts_alike-lefts : goal.invariant-same::expr::lefts_alike-lefts
+invariant-same::expr::lefts_alike-lefts l =
+    (length l.its ≡ length l.others)
+    × (pairwise (test_left l.places) (drop l.i l.its) (drop l.i l.others) ≡ pairwise (test_left l.places) l.its l.others)
 
 abbrev pub invariant-same::expr::specifiers_alike-specifiers : goal.invariant-same::expr::specifiers_alike-specifiers
 invariant-same::expr::specifiers_alike-specifiers l =

@@ -1,9 +1,9 @@
 ghost use Rattle.std.specs.Prelude.{◌≡◌, IfOk};
 ghost use Rattle.hs_syntax.specs.Views.{view, view_type, view_specifier, view_declarator, view_direct};
-ghost use Rattle.hs_syntax.specs.RowViews.{view_member, view_constant, view_parameter};
+ghost use Rattle.hs_syntax.specs.RowViews.{view_left, view_member, view_constant, view_parameter};
 
 use crate::copy::word::{copied_option, copied_pointers, copied_words};
-use crate::{Constant, Declarator, Direct, Expr, Member, Parameter, Specifier, TypeName};
+use crate::{Constant, Declarator, Direct, Expr, Left, Member, Parameter, Specifier, TypeName};
 use hs_base::NoMemory;
 use std::alloc::Global;
 
@@ -120,12 +120,32 @@ impl Expr {
                 at: *at,
                 value: Box::new(alloc, value.copied(alloc)?)?,
             }),
-            Expr::Comma { left, at, right } => Ok(Expr::Comma {
-                left: Box::new(alloc, left.copied(alloc)?)?,
-                at: *at,
-                right: Box::new(alloc, right.copied(alloc)?)?,
-            }),
+            Expr::Comma { lefts, right } => {
+                let mut copies = Vec::new(alloc);
+                'lefts: for left in lefts {
+                    copies.push(left.copied(alloc)?)?;
+                }
+                let right = Box::new(alloc, right.copied(alloc)?)?;
+                Ok(Expr::Comma {
+                    lefts: copies,
+                    right,
+                })
+            }
         }
+    }
+}
+
+impl Left {
+    /// A left operand of a comma whose view is the same.
+    #[cycle(copy_expr)]
+    pub fn copied(&self, alloc: Global) -> Result<Left, NoMemory>
+        ensures { IfOk result (λ copy. view_left copy ≡ view_left self.now) }
+    {
+        let operand = self.operand.copied(alloc)?;
+        Ok(Left {
+            operand,
+            at: self.at,
+        })
     }
 }
 

@@ -107,7 +107,8 @@ impl Decl {
 
     /// Whether the other one is the same declaration, but for its places.
     pub fn is_same_but_places(&self, other: &Decl) -> bool
-        ensures { (result ≡ true) ↔ (erased_declaration (view_declaration self.now) ≡ erased_declaration (view_declaration other.now)) }
+        ensures { (result ≡ true)
+            ↔ (erased_declaration (view_declaration self.now) ≡ erased_declaration (view_declaration other.now)) }
     {
         self.is_alike(other, Places::PassedOver)
     }

@@ -1,16 +1,13 @@
 ghost use Rattle.std.specs.Prelude.{◌≡◌, ◌↔◌, true};
-ghost use Rattle.hs_syntax.specs.Equality.{equal_expression, equal_type, equal_specifier, equal_declarator, equal_direct};
 ghost use Rattle.hs_syntax.specs.Pairwise.{pairwise};
 ghost use Rattle.hs_syntax.specs.Places.{erased};
-ghost use Rattle.hs_syntax.specs.RowEquality.{boxed_view, equal_member, equal_constant, equal_parameter, seen_member, seen_constant, seen_parameter};
-ghost use Rattle.hs_syntax.specs.RowTests.{test_expression, test_specifier, test_member, test_constant, test_declarator, test_parameter};
-ghost use Rattle.hs_syntax.specs.RowViews.{view_member, view_constant, view_parameter};
-ghost use Rattle.hs_syntax.specs.Seen.{seen_expression, seen_type, seen_specifier, seen_declarator, seen_direct};
-ghost use Rattle.hs_syntax.specs.Views.{view, view_specifier, view_declarator, view_direct};
+ghost use Rattle.hs_syntax.specs.RowTests.{test_expression, test_left, test_type, test_specifier};
+ghost use Rattle.hs_syntax.specs.RowTests.{test_member, test_constant, test_declarator, test_direct, test_parameter};
+ghost use Rattle.hs_syntax.specs.Views.{view};
 
 use crate::same::Places;
 use crate::same::word::{all_pointers_alike, options_alike, words_alike};
-use crate::{Constant, Declarator, Direct, Expr, Member, Parameter, Specifier, TypeName};
+use crate::{Constant, Declarator, Direct, Expr, Left, Member, Parameter, Specifier, TypeName};
 
 impl Expr {
     /// Whether the expressions are the same, with their places.
@@ -30,7 +27,7 @@ impl Expr {
     /// Whether their views are the same, but for what is not seen of their places.
     #[cycle(alike_expr)]
     pub(crate) fn is_alike(&self, other: &Expr, places: Places) -> bool
-        ensures { result ≡ equal_expression (seen_expression places (view self.now)) (seen_expression places (view other.now)) }
+        ensures { result ≡ test_expression places self.now other.now }
     {
         match (self, other) {
             (Expr::Name(word), Expr::Name(other_word)) => word.is_alike(other_word, places),
@@ -190,17 +187,24 @@ impl Expr {
                 && places.are_alike(*at, *other_at)
                 && value.is_alike(other_value, places),
             (
-                Expr::Comma { left, at, right },
+                Expr::Comma { lefts, right },
                 Expr::Comma {
-                    left: other_left,
-                    at: other_at,
+                    lefts: other_lefts,
                     right: other_right,
                 },
-            ) => left.is_alike(other_left, places)
-                && places.are_alike(*at, *other_at)
-                && right.is_alike(other_right, places),
+            ) => lefts_alike(lefts, other_lefts, places) && right.is_alike(other_right, places),
             _ => false,
         }
+    }
+}
+
+impl Left {
+    /// Whether their views are the same, but for what is not seen of their places.
+    #[cycle(alike_expr)]
+    pub(crate) fn is_alike(&self, other: &Left, places: Places) -> bool
+        ensures { result ≡ test_left places self.now other.now }
+    {
+        self.operand.is_alike(&other.operand, places) && places.are_alike(self.at, other.at)
     }
 }
 
@@ -208,7 +212,7 @@ impl TypeName {
     /// Whether their views are the same, but for what is not seen of their places.
     #[cycle(alike_expr)]
     pub(crate) fn is_alike(&self, other: &TypeName, places: Places) -> bool
-        ensures { result ≡ equal_type (seen_type places (boxed_view self.now)) (seen_type places (boxed_view other.now)) }
+        ensures { result ≡ test_type places self.now other.now }
     {
         specifiers_alike(&self.specifiers, &other.specifiers, places)
             && self.declarator.is_alike(&other.declarator, places)
@@ -219,7 +223,7 @@ impl Specifier {
     /// Whether their views are the same, but for what is not seen of their places.
     #[cycle(alike_expr)]
     pub(crate) fn is_alike(&self, other: &Specifier, places: Places) -> bool
-        ensures { result ≡ equal_specifier (seen_specifier places (view_specifier self.now)) (seen_specifier places (view_specifier other.now)) }
+        ensures { result ≡ test_specifier places self.now other.now }
     {
         match (self, other) {
             (Specifier::Storage(word, at), Specifier::Storage(other_word, other_at)) => *word
@@ -294,7 +298,7 @@ impl Member {
     /// Whether their views are the same, but for what is not seen of their places.
     #[cycle(alike_expr)]
     pub(crate) fn is_alike(&self, other: &Member, places: Places) -> bool
-        ensures { result ≡ equal_member (seen_member places (view_member self.now)) (seen_member places (view_member other.now)) }
+        ensures { result ≡ test_member places self.now other.now }
     {
         specifiers_alike(&self.specifiers, &other.specifiers, places)
             && declarators_alike(&self.declarators, &other.declarators, places)
@@ -305,7 +309,7 @@ impl Constant {
     /// Whether their views are the same, but for what is not seen of their places.
     #[cycle(alike_expr)]
     pub(crate) fn is_alike(&self, other: &Constant, places: Places) -> bool
-        ensures { result ≡ equal_constant (seen_constant places (view_constant self.now)) (seen_constant places (view_constant other.now)) }
+        ensures { result ≡ test_constant places self.now other.now }
     {
         match (self, other) {
             (Constant::Plain(name), Constant::Plain(other_name)) => name.is_alike(
@@ -327,7 +331,7 @@ impl Declarator {
     /// Whether their views are the same, but for what is not seen of their places.
     #[cycle(alike_expr)]
     pub(crate) fn is_alike(&self, other: &Declarator, places: Places) -> bool
-        ensures { result ≡ equal_declarator (seen_declarator places (view_declarator self.now)) (seen_declarator places (view_declarator other.now)) }
+        ensures { result ≡ test_declarator places self.now other.now }
     {
         all_pointers_alike(&self.pointers, &other.pointers, places)
             && self.direct.is_alike(&other.direct, places)
@@ -338,7 +342,7 @@ impl Direct {
     /// Whether their views are the same, but for what is not seen of their places.
     #[cycle(alike_expr)]
     pub(crate) fn is_alike(&self, other: &Direct, places: Places) -> bool
-        ensures { result ≡ equal_direct (seen_direct places (view_direct self.now)) (seen_direct places (view_direct other.now)) }
+        ensures { result ≡ test_direct places self.now other.now }
     {
         match (self, other) {
             (Direct::Empty, Direct::Empty) => true,
@@ -379,7 +383,7 @@ impl Parameter {
     /// Whether their views are the same, but for what is not seen of their places.
     #[cycle(alike_expr)]
     pub(crate) fn is_alike(&self, other: &Parameter, places: Places) -> bool
-        ensures { result ≡ equal_parameter (seen_parameter places (view_parameter self.now)) (seen_parameter places (view_parameter other.now)) }
+        ensures { result ≡ test_parameter places self.now other.now }
     {
         specifiers_alike(&self.specifiers, &other.specifiers, places)
             && self.declarator.is_alike(&other.declarator, places)
@@ -395,6 +399,22 @@ fn expressions_alike(its: &[Expr], others: &[Expr], places: Places) -> bool
         return false;
     }
     'expressions: for i in 0..its.len() {
+        if !its[i].is_alike(&others[i], places) {
+            return false;
+        }
+    }
+    true
+}
+
+/// Whether there are the same left operands, in the same order.
+#[cycle(alike_expr)]
+fn lefts_alike(its: &[Left], others: &[Left], places: Places) -> bool
+    ensures { result ≡ pairwise (test_left places) its.now others.now }
+{
+    if its.len() != others.len() {
+        return false;
+    }
+    'lefts: for i in 0..its.len() {
         if !its[i].is_alike(&others[i], places) {
             return false;
         }

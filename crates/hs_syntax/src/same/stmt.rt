@@ -166,7 +166,8 @@ impl Stmt {
 
     /// Whether the other one is the same statement, but for its places.
     pub fn is_same_but_places(&self, other: &Stmt) -> bool
-        ensures { (result ≡ true) ↔ (erased_statement (view_statement self.now) ≡ erased_statement (view_statement other.now)) }
+        ensures { (result ≡ true)
+            ↔ (erased_statement (view_statement self.now) ≡ erased_statement (view_statement other.now)) }
     {
         self.is_alike(other, Places::PassedOver)
     }

@@ -1,7 +1,7 @@
 ghost use Rattle.std.specs.Prelude.{◌≡◌, List, ℕ, Bool, ◌∷◌, [], map, option_map};
 ghost use Rattle.hs_syntax.specs.Appends.{Appends};
 ghost use Rattle.hs_syntax.specs.Grammar.{initialiser_form, initialisers_form, start_form, items_form, declaration_form, declarations_form};
-ghost use Rattle.hs_syntax.specs.Lists.{initialisers_of};
+ghost use Rattle.hs_syntax.specs.StatementViews.{initialisers_from};
 ghost use Rattle.hs_syntax.specs.Views.{view_initialiser, view_item, view_declaration};
 
 use crate::spelling::expressions::{declarator, expression, specifiers};
@@ -39,7 +39,7 @@ fn initialiser(alloc: Global, tokens: &mut Vec<Token>, it: &Initialiser) -> Resu
 #[cycle(spell_initialiser)]
 fn initialisers(alloc: Global, tokens: &mut Vec<Token>, its: &[Initialiser]) -> Result<(), NoMemory>
     ensures { (known : List (List ℕ)) → Appends result tokens.old.items tokens.new.items
-        (initialisers_form known (initialisers_of its.now)) }
+        (initialisers_form known (initialisers_from (map view_initialiser its.now))) }
 {
     let mut left = its.len();
     for it in its {

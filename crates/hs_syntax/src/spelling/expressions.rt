@@ -1,13 +1,15 @@
-ghost use Rattle.std.specs.Prelude.{◌≡◌, List, ℕ, Bool, ◌∷◌, []};
+ghost use Rattle.std.specs.Prelude.{◌≡◌, List, ℕ, Bool, ◌∷◌, [], map};
 ghost use Rattle.hs_syntax.specs.Appends.{Appends};
-ghost use Rattle.hs_syntax.specs.Grammar.{expression_form, arguments_form, type_form, specification_form, specifier_form, members_form, constants_form, declarator_form, declarators_form, direct_form, parameters_form};
-ghost use Rattle.hs_syntax.specs.Lists.{expressions_of, members_of, constants_of, declarators_of, parameters_of};
+ghost use Rattle.hs_syntax.specs.Grammar.{expression_form, lefts_form, arguments_form, type_form, specification_form, specifier_form, members_form, constants_form, declarator_form, declarators_form, direct_form, parameters_form};
+ghost use Rattle.hs_syntax.specs.RowViews.{view_left, view_member, view_constant, view_parameter};
+ghost use Rattle.hs_syntax.specs.RowViews.{expressions_from, lefts_from, members_from, constants_from};
+ghost use Rattle.hs_syntax.specs.RowViews.{declarators_from, parameters_from};
 ghost use Rattle.hs_syntax.specs.Views.{view, view_type, view_specifier, view_declarator, view_direct, specification_of};
 
 use crate::spelling::pieces::{
     comma, identifier, keyword_at, literals, mark, mark_at, pointers, tag, word,
 };
-use crate::{Constant, Declarator, Direct, Expr, Member, Parameter, Specifier, TypeName};
+use crate::{Constant, Declarator, Direct, Expr, Left, Member, Parameter, Specifier, TypeName};
 use hs_base::NoMemory;
 use hs_tokens::{Token, TokenKind};
 use std::alloc::Global;
@@ -127,9 +129,8 @@ pub(crate) fn expression(alloc: Global, tokens: &mut Vec<Token>, e: &Expr) -> Re
             expression(alloc, tokens, value)?;
             Ok(())
         }
-        Expr::Comma { left, at, right } => {
-            expression(alloc, tokens, left)?;
-            mark_at(alloc, tokens, *at, ",")?;
+        Expr::Comma { lefts: its, right } => {
+            lefts(alloc, tokens, its)?;
             expression(alloc, tokens, right)?;
             Ok(())
         }
@@ -140,13 +141,26 @@ pub(crate) fn expression(alloc: Global, tokens: &mut Vec<Token>, e: &Expr) -> Re
 #[cycle(spell_expression)]
 fn expressions(alloc: Global, tokens: &mut Vec<Token>, its: &[Expr]) -> Result<(), NoMemory>
     ensures { (known : List (List ℕ)) → Appends result tokens.old.items tokens.new.items
-        (arguments_form known (expressions_of its.now)) }
+        (arguments_form known (expressions_from (map view its.now))) }
 {
     let mut left = its.len();
     for it in its {
         expression(alloc, tokens, it)?;
         left -= 1;
         comma(alloc, tokens, left > 0)?;
+    }
+    Ok(())
+}
+
+/// Appends the left operands of commas, each with its comma.
+#[cycle(spell_expression)]
+fn lefts(alloc: Global, tokens: &mut Vec<Token>, its: &[Left]) -> Result<(), NoMemory>
+    ensures { (known : List (List ℕ)) → Appends result tokens.old.items tokens.new.items
+        (lefts_form known (lefts_from (map view_left its.now))) }
+{
+    for it in its {
+        expression(alloc, tokens, &it.operand)?;
+        mark_at(alloc, tokens, it.at, ",")?;
     }
     Ok(())
 }
@@ -188,7 +202,7 @@ fn specifier(alloc: Global, tokens: &mut Vec<Token>, it: &Specifier) -> Result<(
         Specifier::Storage(word, at) => keyword_at(alloc, tokens, *at, word.text()),
         Specifier::Dropped(word, at) => keyword_at(alloc, tokens, *at, word.text()),
         Specifier::Basic(word, at) => keyword_at(alloc, tokens, *at, word.text()),
-        Specifier::Named(name) => word(alloc, tokens, TokenKind::Identifier, name),
+        Specifier::Named(name) => identifier(alloc, tokens, name),
         Specifier::StructTag { at, tag } => {
             keyword_at(alloc, tokens, *at, "struct")?;
             identifier(alloc, tokens, tag)
@@ -230,7 +244,7 @@ fn specifier(alloc: Global, tokens: &mut Vec<Token>, it: &Specifier) -> Result<(
 #[cycle(spell_expression)]
 fn members(alloc: Global, tokens: &mut Vec<Token>, its: &[Member]) -> Result<(), NoMemory>
     ensures { (known : List (List ℕ)) → Appends result tokens.old.items tokens.new.items
-        (members_form known (members_of its.now)) }
+        (members_form known (members_from (map view_member its.now))) }
 {
     for it in its {
         specifiers(alloc, tokens, &it.specifiers)?;
@@ -244,7 +258,7 @@ fn members(alloc: Global, tokens: &mut Vec<Token>, its: &[Member]) -> Result<(),
 #[cycle(spell_expression)]
 fn constant(alloc: Global, tokens: &mut Vec<Token>, it: &Constant) -> Result<(), NoMemory>
     ensures { (known : List (List ℕ)) → Appends result tokens.old.items tokens.new.items
-        (constants_form known (constants_of (it.now ∷ []))) }
+        (constants_form known (constants_from (map view_constant (it.now ∷ [])))) }
 {
     match it {
         Constant::Plain(name) => identifier(alloc, tokens, name),
@@ -261,7 +275,7 @@ fn constant(alloc: Global, tokens: &mut Vec<Token>, it: &Constant) -> Result<(),
 #[cycle(spell_expression)]
 fn constants(alloc: Global, tokens: &mut Vec<Token>, its: &[Constant]) -> Result<(), NoMemory>
     ensures { (known : List (List ℕ)) → Appends result tokens.old.items tokens.new.items
-        (constants_form known (constants_of its.now)) }
+        (constants_form known (constants_from (map view_constant its.now))) }
 {
     let mut left = its.len();
     for it in its {
@@ -291,7 +305,7 @@ pub(crate) fn declarator(
 #[cycle(spell_expression)]
 fn declarators(alloc: Global, tokens: &mut Vec<Token>, its: &[Declarator]) -> Result<(), NoMemory>
     ensures { (known : List (List ℕ)) → Appends result tokens.old.items tokens.new.items
-        (declarators_form known (declarators_of its.now)) }
+        (declarators_form known (declarators_from (map view_declarator its.now))) }
 {
     let mut left = its.len();
     for it in its {
@@ -349,7 +363,7 @@ fn direct(alloc: Global, tokens: &mut Vec<Token>, it: &Direct) -> Result<(), NoM
 #[cycle(spell_expression)]
 fn parameters(alloc: Global, tokens: &mut Vec<Token>, its: &[Parameter]) -> Result<(), NoMemory>
     ensures { (known : List (List ℕ)) → Appends result tokens.old.items tokens.new.items
-        (parameters_form known (parameters_of its.now)) }
+        (parameters_form known (parameters_from (map view_parameter its.now))) }
 {
     let mut left = its.len();
     for it in its {

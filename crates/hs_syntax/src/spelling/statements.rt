@@ -1,7 +1,7 @@
 ghost use Rattle.std.specs.Prelude.{◌≡◌, List, ℕ, Bool, ◌∷◌, [], map, option_map};
 ghost use Rattle.hs_syntax.specs.Appends.{Appends};
 ghost use Rattle.hs_syntax.specs.Grammar.{labels_form, optional_form, test_form, statement_form, block_form, statements_form};
-ghost use Rattle.hs_syntax.specs.Lists.{statements_of};
+ghost use Rattle.hs_syntax.specs.StatementViews.{view_labelled, statements_from};
 ghost use Rattle.hs_syntax.specs.Views.{view, view_label, view_statement, view_block};
 
 use crate::spelling::declarations::declarations;
@@ -169,7 +169,7 @@ pub(crate) fn block(alloc: Global, tokens: &mut Vec<Token>, it: &Block) -> Resul
 #[cycle(spell_statement)]
 fn statements(alloc: Global, tokens: &mut Vec<Token>, its: &[Labelled]) -> Result<(), NoMemory>
     ensures { (known : List (List ℕ)) → Appends result tokens.old.items tokens.new.items
-        (statements_form known (statements_of its.now)) }
+        (statements_form known (statements_from (map view_labelled its.now))) }
 {
     for it in its {
         labels(alloc, tokens, &it.labels)?;

@@ -1,10 +1,10 @@
 use Rattle.std.proofs.Common.{◌≡◌, rules, map, ap, sym, ◌∙◌}
-use Rattle.hs_syntax.specs.RowViews.{one_member, view_member, view_constant, view_parameter, declarators_from}
+use Rattle.hs_syntax.specs.RowViews.{one_member, view_left, view_member, view_constant, view_parameter, declarators_from}
 use Rattle.hs_syntax.specs.Trees as tree
-use Rattle.hs_syntax.specs.Views.{view, views, view_type, view_specifier, view_specifiers, view_members, view_constants, view_declarator, view_direct, view_parameters, specification_of}
-use Rattle.hs_syntax.specs.declared.expr.Constant.TheBlock.{hidden-the_row-Specifier-0, hidden-the_row-Parameter-1, hidden-the_row-Expr-2, hidden-the_row-Member-3, hidden-the_row-Constant-4}
+use Rattle.hs_syntax.specs.Views.{view, views, view_lefts, view_type, view_specifier, view_specifiers, view_members, view_constants, view_declarator, view_direct, view_parameters, specification_of}
+use Rattle.hs_syntax.specs.declared.expr.Constant.TheBlock.{hidden-the_row-Specifier-0, hidden-the_row-Parameter-1, hidden-the_row-Expr-2, hidden-the_row-Left-3, hidden-the_row-Member-4, hidden-the_row-Constant-5}
 use Rattle.hs_syntax.specs.declared.expr.Member.{out-Member}
-use Rattle.hs_syntax.proofs.RowViews.{views-done, views-same, view_members-same, view_constants-same, view_parameters-same, boxed_type, specification_of-same, view_member-out, view_member-rolled}
+use Rattle.hs_syntax.specs.RowLaws.{views-done, views-same, view_lefts-same, view_members-same, view_constants-same, view_parameters-same, boxed_type, specification_of-same, view_member-out, view_member-rolled}
 use Rattle.hs_syntax.proofs.expr.+copy_expr.Goals as goal
 
 -- After each loop the copies have the views of all, and so have the lists.
@@ -26,12 +26,21 @@ Expr::copied-returns-after-arguments n c =
     ∙ ap (tree.call (view c.in-Call.callee.value)) same
     ∙ sym (ap view c.in-Call.is)
 
+pub Expr::copied-returns-in_ok-right-in-Comma : goal.Expr::copied-returns-in_ok-right-in-Comma
+Expr::copied-returns-in_ok-right-in-Comma n c =
+    let done = views-done view_left c.lefts.copies.items c.deref-left-items.result.now c.lefts.left-index c.lefts-test.false c.lefts.invariant in
+    let same = view_lefts-same c.lefts.copies c.in-Comma.lefts (done ∙ ap (map view_left) c.deref-left-items.ensures.value) in
+    let right : view c.in_ok-right-in-Comma.right.value ≡ view c.in-Comma.right.value = search rules in
+    ap (λ its. tree.comma its (view c.in_ok-right-in-Comma.right.value)) same
+    ∙ ap (tree.comma (view_lefts (hidden-the_row-Left-3 c.in-Comma.lefts))) right
+    ∙ sym (ap view c.in-Comma.is)
+
 pub Specifier::copied-returns-in_ok-tag-in-Struct : goal.Specifier::copied-returns-in_ok-tag-in-Struct
 Specifier::copied-returns-in_ok-tag-in-Struct n c =
     let done = views-done view_member c.members.copies.items c.deref-member-items.result.now c.members.member-index c.members-test.false c.members.invariant in
     let same = view_members-same c.members.copies c.in-Struct.members (done ∙ ap (map view_member) c.deref-member-items.ensures.value) in
     let tag : c.in_ok-tag-in-Struct.tag ≡ c.in-Struct.tag = search rules in
-    ap (λ word. tree.struct_body c.in-Struct.at word c.in-Struct.brace (view_members (hidden-the_row-Member-3 c.members.copies))) tag
+    ap (λ word. tree.struct_body c.in-Struct.at word c.in-Struct.brace (view_members (hidden-the_row-Member-4 c.members.copies))) tag
     ∙ ap (tree.struct_body c.in-Struct.at c.in-Struct.tag c.in-Struct.brace) same
     ∙ sym (ap view_specifier c.in-Struct.is)
 
@@ -40,7 +49,7 @@ Specifier::copied-returns-in_ok-tag-in-Enum n c =
     let done = views-done view_constant c.constants.copies.items c.deref-constant-items.result.now c.constants.constant-index c.constants-test.false c.constants.invariant in
     let same = view_constants-same c.constants.copies c.in-Enum.constants (done ∙ ap (map view_constant) c.deref-constant-items.ensures.value) in
     let tag : c.in_ok-tag-in-Enum.tag ≡ c.in-Enum.tag = search rules in
-    ap (λ word. tree.enum_body c.in-Enum.at word c.in-Enum.brace (view_constants (hidden-the_row-Constant-4 c.constants.copies)) c.in-Enum.comma) tag
+    ap (λ word. tree.enum_body c.in-Enum.at word c.in-Enum.brace (view_constants (hidden-the_row-Constant-5 c.constants.copies)) c.in-Enum.comma) tag
     ∙ ap (λ its. tree.enum_body c.in-Enum.at c.in-Enum.tag c.in-Enum.brace its c.in-Enum.comma) same
     ∙ sym (ap view_specifier c.in-Enum.is)
 

@@ -1,6 +1,6 @@
 use Rattle.std.proofs.Common.{◌≡◌, ◌++◌, drop, map}
 use Rattle.hs_syntax.specs.Views.{view, view_specifier, view_declarator}
-use Rattle.hs_syntax.specs.RowViews.{view_member, view_constant, view_parameter}
+use Rattle.hs_syntax.specs.RowViews.{view_left, view_member, view_constant, view_parameter}
 use Rattle.hs_syntax.proofs.expr.+copy_expr.Given as goal
 
 -- In each loop: the views of the copies, and of those that are left.
@@ -11,6 +11,10 @@ invariant-Direct::copied-parameters l =
 abbrev pub invariant-Expr::copied-arguments : goal.invariant-Expr::copied-arguments
 invariant-Expr::copied-arguments l =
     map view l.copies.items ++ map view (drop l.argument-index l.argument-items) ≡ map view l.argument-items
+
+abbrev pub invariant-Expr::copied-lefts : goal.invariant-Expr::copied-lefts
+invariant-Expr::copied-lefts l =
+    map view_left l.copies.items ++ map view_left (drop l.left-index l.left-items) ≡ map view_left l.left-items
 
 abbrev pub invariant-Member::copied-specifiers : goal.invariant-Member::copied-specifiers
 invariant-Member::copied-specifiers l =

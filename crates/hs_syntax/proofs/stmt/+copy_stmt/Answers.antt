@@ -3,8 +3,8 @@ use Rattle.hs_syntax.specs.Trees as tree
 use Rattle.hs_syntax.specs.StatementViews.{view_labelled, statements_from}
 use Rattle.hs_syntax.specs.Views.{view_declaration}
 use Rattle.hs_syntax.specs.declared.stmt.Block.{out-Block}
-use Rattle.hs_syntax.proofs.RowViews.{views-done}
-use Rattle.hs_syntax.proofs.StatementViews.{view_block-out, view_block-rolled}
+use Rattle.hs_syntax.specs.RowLaws.{views-done}
+use Rattle.hs_syntax.specs.StatementLaws.{view_block-out, view_block-rolled}
 use Rattle.hs_syntax.proofs.stmt.+copy_stmt.Goals as goal
 
 -- After the loop the copies have the views of all, and so have the lists.

@@ -1,5 +1,5 @@
 use Rattle.hs_syntax.specs.Views.{view_specifier}
-use Rattle.hs_syntax.proofs.RowViews.{views-done, specification_of-same}
+use Rattle.hs_syntax.specs.RowLaws.{views-done, specification_of-same}
 use Rattle.hs_syntax.proofs.copy.decl.copied_specifiers.Goals as goal
 
 -- after the loop the copies have the views of all

@@ -1,8 +1,8 @@
 use Rattle.std.proofs.Common.{map, ap, sym, ◌∙◌}
 use Rattle.hs_syntax.specs.Trees as tree
 use Rattle.hs_syntax.specs.Views.{view_initialiser}
-use Rattle.hs_syntax.proofs.RowViews.{views-done}
-use Rattle.hs_syntax.proofs.StatementViews.{view_initialisers-same}
+use Rattle.hs_syntax.specs.RowLaws.{views-done}
+use Rattle.hs_syntax.specs.StatementLaws.{view_initialisers-same}
 use Rattle.hs_syntax.proofs.decl.Initialiser.+copied.Goals as goal
 
 -- After the loop the copies have the views of all, and so have the lists.

@@ -2,10 +2,10 @@ use Rattle.std.proofs.Common.{map, ◌++◌}
 use Rattle.std.specs.Prelude.{codes}
 use Rattle.hs_syntax.specs.Forms.{mark, mark_at, keyword_at}
 use Rattle.hs_syntax.specs.Grammar.{declarations_form, statements_form}
-use Rattle.hs_syntax.specs.Lists.{statements_of}
+use Rattle.hs_syntax.specs.StatementViews.{view_labelled, statements_from}
 use Rattle.hs_syntax.specs.Views.{view_declaration}
 use Rattle.hs_syntax.specs.declared.stmt.Block.{out-Block}
-use Rattle.hs_syntax.proofs.StatementRows.{block_view}
+use Rattle.hs_syntax.specs.StatementLaws.{view_block-out}
 use Rattle.hs_syntax.proofs.Written.{after}
 use Rattle.hs_syntax.proofs.spelling.statements.+spell_statement.Goals as goal
 
@@ -13,13 +13,13 @@ use Rattle.hs_syntax.proofs.spelling.statements.+spell_statement.Goals as goal
 pub block-returns : goal.block-returns
 block-returns t c known =
     let it = out-Block c.args.it.now in
-    rw (block_view c.args.it.now, ← c.deref-2.ensures.value, ← c.deref.ensures.value)
+    rw (view_block-out c.args.it.now, ← c.deref-2.ensures.value, ← c.deref.ensures.value)
     (after _ _ c.mark_at.new.tokens.items _ (mark_at it.opening (codes "{")).pieces
     ((declarations_form known (map view_declaration c.deref.result.now)).pieces
-    ++ ((statements_form known (statements_of c.deref-2.result.now)).pieces ++ (mark_at it.closing (codes "}")).pieces)) c.in_ok-mark_at.ensures
+    ++ ((statements_form known (statements_from (map view_labelled c.deref-2.result.now))).pieces ++ (mark_at it.closing (codes "}")).pieces)) c.in_ok-mark_at.ensures
     (after _ _ c.declarations.new.tokens.items _ (declarations_form known (map view_declaration c.deref.result.now)).pieces
-    ((statements_form known (statements_of c.deref-2.result.now)).pieces ++ (mark_at it.closing (codes "}")).pieces) (c.in_ok-declarations.ensures known)
-    (after _ _ c.statements.new.tokens.items _ (statements_form known (statements_of c.deref-2.result.now)).pieces (mark_at it.closing (codes "}")).pieces
+    ((statements_form known (statements_from (map view_labelled c.deref-2.result.now))).pieces ++ (mark_at it.closing (codes "}")).pieces) (c.in_ok-declarations.ensures known)
+    (after _ _ c.statements.new.tokens.items _ (statements_form known (statements_from (map view_labelled c.deref-2.result.now))).pieces (mark_at it.closing (codes "}")).pieces
     (c.in_ok-statements.ensures known) c.mark_at-2.ensures)))
 
 pub statement-returns-in_ok-keyword_at-in-Continue : goal.statement-returns-in_ok-keyword_at-in-Continue
