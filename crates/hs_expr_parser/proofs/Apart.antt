@@ -1,0 +1,110 @@
+-- The tokens of a form, taken apart.
+--     with_text kind text source     the token with this kind and this text
+--     split, when_parts, one_token   the parts of phrases one after another, under a condition, of one token
+use Rattle.std.proofs.Common.{◌≡◌, ℕ, Bool, true, false, List, [], ◌∷◌, ◌++◌, Option, Some, None, IfSome, refl, ap}
+use Rattle.std.specs.Prelude.{◌&&◌}
+use Rattle.std.specs.Str.{bytes_eq}
+use Rattle.std.proofs.lemmas.Slice.Eq.{bytes_eq-Decides}
+use Rattle.hs_tokens.specs.Marks.{is_same_kind}
+use Rattle.hs_tokens.specs.declared.token.SourceToken.{SourceToken}
+use Rattle.hs_tokens.specs.declared.token.TokenKind.{TokenKind}
+use Rattle.hs_tokens.specs.declared.token.TokenKind.TheVariants.{Identifier, Number, Character, Literal, Punctuator}
+use Rattle.hs_syntax.specs.Forms.{Piece, Form, ◌⨾◌, when, token, IsAt, Spells, IsOf}
+use Rattle.hs_syntax.specs.declared.word.Place.{Place}
+use Rattle.hs_expr_parser.specs.Ahead.{place_of, is_token}
+
+-- both of two tests
+pub both : (one other : Bool) → (one && other) ≡ true → (one ≡ true) × (other ≡ true)
+both true other is = (refl, is)
+both false other is = absurd cc
+
+-- the token with this kind and this text
+abbrev pub with_text : TokenKind → List ℕ → SourceToken → SourceToken
+with_text kind text source = record source { token = record source.token { kind = kind; text = text } }
+
+-- a token of this kind and this text is itself with them
+pub source_is : (kind : TokenKind) (text : List ℕ) (source : SourceToken) → source.token.kind ≡ kind → source.token.text ≡ text
+    → source ≡ with_text kind text source
+source_is kind text source same alike = λ i. record source { token = record source.token { kind = same i; text = alike i } }
+
+-- kinds that are the same
+pub kind_same : (kind other : TokenKind) → is_same_kind kind other ≡ true → kind ≡ other
+kind_same Identifier Identifier same = refl
+kind_same Number Number same = refl
+kind_same Character Character same = refl
+kind_same Literal Literal same = refl
+kind_same Punctuator Punctuator same = refl
+kind_same Identifier Number same = absurd cc
+kind_same Identifier Character same = absurd cc
+kind_same Identifier Literal same = absurd cc
+kind_same Identifier Punctuator same = absurd cc
+kind_same Number Identifier same = absurd cc
+kind_same Number Character same = absurd cc
+kind_same Number Literal same = absurd cc
+kind_same Number Punctuator same = absurd cc
+kind_same Character Identifier same = absurd cc
+kind_same Character Number same = absurd cc
+kind_same Character Literal same = absurd cc
+kind_same Character Punctuator same = absurd cc
+kind_same Literal Identifier same = absurd cc
+kind_same Literal Number same = absurd cc
+kind_same Literal Character same = absurd cc
+kind_same Literal Punctuator same = absurd cc
+kind_same Punctuator Identifier same = absurd cc
+kind_same Punctuator Number same = absurd cc
+kind_same Punctuator Character same = absurd cc
+kind_same Punctuator Literal same = absurd cc
+
+-- a token that passes the test
+pub token_is : (kind : TokenKind) (text : List ℕ) (source : SourceToken) → is_token kind text source ≡ true → source ≡ with_text kind text source
+token_is kind text source is =
+    let tests = both (is_same_kind source.token.kind kind) (bytes_eq source.token.text text) is in
+    source_is kind text source (kind_same source.token.kind kind tests.0) ((bytes_eq-Decides source.token.text text).0 tests.1)
+
+-- tokens of pieces behind others
+spells_split : (pieces others : List Piece) (sources : List SourceToken) → Spells (pieces ++ others) sources
+    → (one : List SourceToken) × (other : List SourceToken) × (sources ≡ one ++ other) × Spells pieces one × Spells others other
+spells_split [] others sources spells = ([], sources, refl, tt, spells)
+spells_split (piece ∷ pieces) others [] spells = absurd spells
+spells_split (piece ∷ pieces) others (source ∷ sources) spells =
+    let found = spells_split pieces others sources spells.3 in
+    (source ∷ found.0, found.1, ap (λ (rest : List SourceToken). source ∷ rest) found.2, (spells.0, spells.1, spells.2, found.3), found.4)
+
+-- phrases one after another
+pub record Split (one other : Form) (sources : List SourceToken) : Type 0 where
+  pub front : List SourceToken
+  pub back : List SourceToken
+  pub whole : sources ≡ front ++ back
+  pub first : IsOf one front
+  pub second : IsOf other back
+
+pub split : (one other : Form) (sources : List SourceToken) → IsOf (one ⨾ other) sources → Split one other sources
+split one other sources is =
+    let tests = both one.fits other.fits is.0 in
+    let parts = spells_split one.pieces other.pieces sources is.1 in
+    record { front = parts.0; back = parts.1; whole = parts.2; first = (tests.0, parts.3); second = (tests.1, parts.4) }
+
+-- a phrase under a condition
+pub when_parts : (condition : Bool) (form : Form) (sources : List SourceToken) → IsOf (when condition form) sources → (condition ≡ true) × IsOf form sources
+when_parts condition form sources is =
+    let tests = both condition form.fits is.0 in
+    (tests.0, (tests.1, is.1))
+
+-- one token
+pub record OneToken (kind : TokenKind) (text : List ℕ) (place : Option Place) (sources : List SourceToken) : Type 0 where
+  pub source : SourceToken
+  pub alone : sources ≡ source ∷ []
+  pub is : source ≡ with_text kind text source
+  pub at : IfSome place (λ it. place_of source ≡ it)
+
+-- the place of a token
+pub at_place : (source : SourceToken) (place : Option Place) → IfSome place (IsAt source) → IfSome place (λ it. place_of source ≡ it)
+at_place source None is = tt
+at_place source (Some it) is = λ i. record { pos = is.0 i; origin = is.1 i }
+
+pub one_token : (kind : TokenKind) (text : List ℕ) (place : Option Place) (sources : List SourceToken) → IsOf (token kind text place) sources
+    → OneToken kind text place sources
+one_token kind text place [] is = absurd is.1
+one_token kind text place (source ∷ []) is =
+    record { source = source; alone = refl; is = source_is kind text source is.1.0 is.1.1; at = at_place source place is.1.2 }
+one_token kind text place (source ∷ next ∷ rest) is = absurd is.1.3

@@ -1,0 +1,59 @@
+-- What a reading gives, by how the reading is made.
+--     Gives Holds it      whatever is read, this holds of it and of the tokens behind it
+use Rattle.std.proofs.Common.{◌≡◌, Bool, true, false, List, Some, None, refl, ap, subst}
+use Rattle.std.specs.Prelude.{if◌then◌else◌}
+use Rattle.hs_tokens.specs.declared.token.SourceToken.{SourceToken}
+use Rattle.hs_expr_parser.specs.Recursion.{Read}
+use Rattle.hs_expr_parser.specs.Reading.{◌>>=◌, going_on}
+
+-- whatever is read, this holds of it and of the tokens behind it
+pub record Gives {A : Type 0} (Holds : A → List SourceToken → Type 0) (it : Read A) : Type 0 where
+  pub holds : (tree : A) (rest : List SourceToken) → it ≡ Some (tree, rest) → Holds tree rest
+
+-- nothing is read
+pub none_gives : {A : Type 0} {Holds : A → List SourceToken → Type 0} → Gives Holds None
+none_gives = record { holds = λ tree rest is. absurd cc }
+
+-- what was read, or else this
+abbrev read_of : {A : Type 0} → A × List SourceToken → Read A → A × List SourceToken
+read_of other None = other
+read_of other (Some it) = it
+
+-- this is read
+pub some_gives : {A : Type 0} {Holds : A → List SourceToken → Type 0} (tree : A) (rest : List SourceToken) → Holds tree rest → Gives Holds (Some (tree, rest))
+some_gives {A = A} {Holds = Holds} tree rest is = record {
+  holds = λ other others same. subst (λ (it : A × List SourceToken). Holds it.0 it.1) (ap (read_of {A = A} (tree, rest)) same) is;
+}
+
+-- one reading behind another
+pub then_gives : {A B : Type 0} {Before : A → List SourceToken → Type 0} {Behind : B → List SourceToken → Type 0} (it : Read A)
+    (next : A × List SourceToken → Read B) → Gives Before it → ((tree : A) (rest : List SourceToken) → Before tree rest → Gives Behind (next (tree, rest)))
+    → Gives Behind (it >>= next)
+then_gives None next first second = none_gives
+then_gives (Some (tree, rest)) next first second = second tree rest (first.holds tree rest refl)
+
+-- the same, with what was read
+pub so_then_gives : {A B : Type 0} {Before : A → List SourceToken → Type 0} {Behind : B → List SourceToken → Type 0} (it : Read A)
+    (next : A × List SourceToken → Read B) → Gives Before it
+    → ((tree : A) (rest : List SourceToken) → it ≡ Some (tree, rest) → Before tree rest → Gives Behind (next (tree, rest))) → Gives Behind (it >>= next)
+so_then_gives None next first second = none_gives
+so_then_gives (Some (tree, rest)) next first second = second tree rest refl (first.holds tree rest refl)
+
+-- more, where something was read; else it stops
+pub going_gives : {A B : Type 0} {Before : A → List SourceToken → Type 0} {Behind : B → List SourceToken → Type 0} (it : Read A)
+    (more : A → List SourceToken → Read B) (stop : Read B) → Gives Before it
+    → ((tree : A) (rest : List SourceToken) → it ≡ Some (tree, rest) → Before tree rest → Gives Behind (more tree rest)) → (it ≡ None → Gives Behind stop)
+    → Gives Behind (going_on it more stop)
+going_gives None more stop first second third = third refl
+going_gives (Some (tree, rest)) more stop first second third = second tree rest refl (first.holds tree rest refl)
+
+-- one or the other
+pub if_gives : {A : Type 0} {Holds : A → List SourceToken → Type 0} (test : Bool) (one other : Read A) → (test ≡ true → Gives Holds one)
+    → (test ≡ false → Gives Holds other) → Gives Holds (if test then one else other)
+if_gives true one other first second = first refl
+if_gives false one other first second = second refl
+
+-- less may be said
+pub so_gives : {A : Type 0} {Before Behind : A → List SourceToken → Type 0} (it : Read A) → Gives Before it
+    → ((tree : A) (rest : List SourceToken) → Before tree rest → Behind tree rest) → Gives Behind it
+so_gives it first so = record { holds = λ tree rest is. so tree rest (first.holds tree rest is) }
