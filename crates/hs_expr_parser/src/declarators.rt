@@ -1,0 +1,249 @@
+ghost use Rattle.std.specs.Prelude.{◌≡◌, ◌<◌, ◌≤◌, [], length, map, IfOk};
+ghost use Rattle.hs_syntax.specs.RowViews.{view_parameter};
+ghost use Rattle.hs_syntax.specs.Views.{view_declarator, view_direct};
+ghost use Rattle.hs_expr_parser.specs.Given.{Gives};
+ghost use Rattle.hs_expr_parser.specs.Steps.{declarator_at, base_at, inside_at, directs_at, length_at, list_at, declarators_at, parameters_at, parameter_at};
+
+use crate::ahead::{
+    begins_list, first, is_mark_ahead, is_punctuator, mark, mark_ahead, pointers, void_alone,
+    word_of,
+};
+use crate::expressions::conditional;
+use crate::named::is_empty;
+use crate::parse_end::ParseEnd;
+use crate::type_names::TypeNames;
+use crate::types::specifiers;
+use crate::words::is_name;
+use hs_syntax::{Declarator, Direct, Parameter};
+use hs_tokens::{SourceToken, is_identifier};
+use std::alloc::Global;
+
+/// Reads a declarator (X3.159-1989 3.5.4), or, in a parameter or a type name, one that may name nothing (3.5.5).
+#[cycle(read)]
+#[tactic(auto, using(crate::proofs::Stepping::declarator_step))]
+pub(crate) fn declarator<'a>(
+    alloc: Global,
+    known: &TypeNames,
+    inner: bool,
+    tokens: &'a [SourceToken],
+) -> Result<(Declarator, &'a [SourceToken]), ParseEnd>
+    ensures read { Gives (λ x. (view_declarator x.0, x.1.now)) result (declarator_at known.now inner tokens.now) }
+    ensures shorter { IfOk result (λ x. length x.1.now ≤ length tokens.now) }
+{
+    let (pointers, behind) = pointers(alloc, tokens)?;
+    let (base, left) = base(alloc, known, inner, behind)?;
+    let (direct, rest) = directs(alloc, known, base, left)?;
+    Ok((Declarator { pointers, direct }, rest))
+}
+
+/// Reads what the rest of a declarator stands behind: a name, a declarator in parentheses, or nothing where a name may
+/// be missing. There a `(` that may begin a list of parameters does.
+#[cycle(read)]
+#[tactic(auto, using(crate::proofs::Stepping::base_nothing, crate::proofs::Stepping::base_step))]
+fn base<'a>(
+    alloc: Global,
+    known: &TypeNames,
+    inner: bool,
+    tokens: &'a [SourceToken],
+) -> Result<(Direct, &'a [SourceToken]), ParseEnd>
+    ensures read { Gives (λ x. (view_direct x.0, x.1.now)) result (base_at known.now inner tokens.now) }
+    ensures shorter { IfOk result (λ x. length x.1.now ≤ length tokens.now) }
+{
+    if let Some((source, rest)) = first(tokens) {
+        if is_identifier(&source.token) && is_name(source.token.text.items()) {
+            return Ok((Direct::Name(word_of(alloc, source)?), rest));
+        }
+        if is_punctuator(source, b"(") && !(inner && begins_list(known, rest)) {
+            return inside(alloc, known, inner, rest);
+        }
+    }
+    if inner {
+        return Ok((Direct::Empty, tokens));
+    }
+    Err(ParseEnd::NotExpr)
+}
+
+/// Reads a declarator in parentheses, behind the first of them: it is not empty.
+#[cycle(read)]
+#[tactic(auto, using(crate::proofs::Stepping::inside_step))]
+fn inside<'a>(
+    alloc: Global,
+    known: &TypeNames,
+    inner: bool,
+    rest: &'a [SourceToken],
+) -> Result<(Direct, &'a [SourceToken]), ParseEnd>
+    ensures read { Gives (λ x. (view_direct x.0, x.1.now)) result (inside_at known.now inner rest.now) }
+    ensures shorter { IfOk result (λ x. length x.1.now ≤ length rest.now) }
+{
+    let (it, close) = declarator(alloc, known, inner, rest)?;
+    let (_, left) = mark(close, b")")?;
+    if is_empty(&it) {
+        return Err(ParseEnd::NotExpr);
+    }
+    Ok((Direct::Parens(Box::new(alloc, it)?), left))
+}
+
+/// Reads the rest of a declarator: lengths of arrays and lists of parameters (X3.159-1989 3.5.4.2, 3.5.4.3).
+#[cycle(read)]
+#[tactic(auto, using(crate::proofs::Stepping::directs_nothing, crate::proofs::Stepping::directs_length, crate::proofs::Stepping::directs_list, crate::proofs::Stepping::directs_end))]
+fn directs<'a>(
+    alloc: Global,
+    known: &TypeNames,
+    base: Direct,
+    tokens: &'a [SourceToken],
+) -> Result<(Direct, &'a [SourceToken]), ParseEnd>
+    ensures read { Gives (λ x. (view_direct x.0, x.1.now)) result (directs_at known.now (view_direct base) tokens.now) }
+    ensures shorter { IfOk result (λ x. length x.1.now ≤ length tokens.now) }
+{
+    let mut direct = base;
+    let mut rest = tokens;
+    'directs: while let Some((source, behind)) = first(rest) {
+        if is_punctuator(source, b"[") {
+            let (it, left) = array_length(alloc, known, direct, behind)?;
+            direct = it;
+            rest = left;
+        } else if is_punctuator(source, b"(") {
+            let (it, left) = parameter_list(alloc, known, direct, behind)?;
+            direct = it;
+            rest = left;
+        } else {
+            return Ok((direct, rest));
+        }
+    }
+    Ok((direct, rest))
+}
+
+/// Reads the length of an array, if it has one, behind the `[` (X3.159-1989 3.5.4.2).
+#[cycle(read)]
+#[tactic(auto, using(crate::proofs::Stepping::length_step))]
+fn array_length<'a>(
+    alloc: Global,
+    known: &TypeNames,
+    base: Direct,
+    rest: &'a [SourceToken],
+) -> Result<(Direct, &'a [SourceToken]), ParseEnd>
+    ensures read { Gives (λ x. (view_direct x.0, x.1.now)) result (length_at known.now (view_direct base) rest.now) }
+    ensures shorter { IfOk result (λ x. length x.1.now < length rest.now) }
+{
+    if let Some((_, left)) = mark_ahead(rest, b"]") {
+        return Ok((Direct::Array(Box::new(alloc, base)?), left));
+    }
+    let (length, close) = conditional(alloc, known, rest)?;
+    let (_, left) = mark(close, b"]")?;
+    Ok((
+        Direct::Sized {
+            base: Box::new(alloc, base)?,
+            length: Box::new(alloc, length)?,
+        },
+        left,
+    ))
+}
+
+/// Reads a list of parameters behind the `(`: none, `void` alone, or some (X3.159-1989 3.5.4.3).
+#[cycle(read)]
+#[tactic(auto, using(crate::proofs::Stepping::list_step, crate::proofs::Seen::parameters_seen))]
+fn parameter_list<'a>(
+    alloc: Global,
+    known: &TypeNames,
+    base: Direct,
+    rest: &'a [SourceToken],
+) -> Result<(Direct, &'a [SourceToken]), ParseEnd>
+    ensures read { Gives (λ x. (view_direct x.0, x.1.now)) result (list_at known.now (view_direct base) rest.now) }
+    ensures shorter { IfOk result (λ x. length x.1.now < length rest.now) }
+{
+    if let Some((_, left)) = mark_ahead(rest, b")") {
+        return Ok((
+            Direct::Function {
+                base: Box::new(alloc, base)?,
+                parameters: Vec::new(alloc),
+            },
+            left,
+        ));
+    }
+    if let Some((at, left)) = void_alone(rest) {
+        return Ok((
+            Direct::FunctionOfVoid {
+                base: Box::new(alloc, base)?,
+                at,
+            },
+            left,
+        ));
+    }
+    let (parameters, close) = parameters(alloc, known, rest)?;
+    let (_, left) = mark(close, b")")?;
+    Ok((
+        Direct::Function {
+            base: Box::new(alloc, base)?,
+            parameters,
+        },
+        left,
+    ))
+}
+
+/// Reads declarators with commas between them (X3.159-1989 3.5).
+#[cycle(read)]
+#[tactic(auto, using(crate::proofs::Stepping::declarators_step))]
+pub(crate) fn declarators<'a>(
+    alloc: Global,
+    known: &TypeNames,
+    tokens: &'a [SourceToken],
+) -> Result<(Vec<Declarator>, &'a [SourceToken]), ParseEnd>
+    ensures read { Gives (λ x. (map view_declarator x.0.items, x.1.now)) result (declarators_at known.now [] tokens.now) }
+    ensures shorter { IfOk result (λ x. length x.1.now ≤ length tokens.now) }
+{
+    let mut its = Vec::new(alloc);
+    let (start, behind) = declarator(alloc, known, false, tokens)?;
+    its.push(start)?;
+    let mut rest = behind;
+    'declarators: while let Some((_, next)) = mark_ahead(rest, b",") {
+        let (it, left) = declarator(alloc, known, false, next)?;
+        its.push(it)?;
+        rest = left;
+    }
+    Ok((its, rest))
+}
+
+/// Reads parameters with commas between them (X3.159-1989 3.5.4.3).
+#[cycle(read)]
+#[tactic(auto, using(crate::proofs::Stepping::parameters_step))]
+fn parameters<'a>(
+    alloc: Global,
+    known: &TypeNames,
+    tokens: &'a [SourceToken],
+) -> Result<(Vec<Parameter>, &'a [SourceToken]), ParseEnd>
+    ensures read { Gives (λ x. (map view_parameter x.0.items, x.1.now)) result (parameters_at known.now [] tokens.now) }
+    ensures shorter { IfOk result (λ x. length x.1.now < length tokens.now) }
+{
+    let mut its = Vec::new(alloc);
+    let (start, behind) = parameter(alloc, known, tokens)?;
+    its.push(start)?;
+    let mut rest = behind;
+    'parameters: while let Some((_, next)) = mark_ahead(rest, b",") {
+        let (it, left) = parameter(alloc, known, next)?;
+        its.push(it)?;
+        rest = left;
+    }
+    Ok((its, rest))
+}
+
+/// Reads a parameter: specifiers, and a declarator that may name nothing (X3.159-1989 3.5.4.3).
+#[cycle(read)]
+#[tactic(auto, using(crate::proofs::Stepping::parameter_step, crate::proofs::Seen::specification_seen))]
+fn parameter<'a>(
+    alloc: Global,
+    known: &TypeNames,
+    tokens: &'a [SourceToken],
+) -> Result<(Parameter, &'a [SourceToken]), ParseEnd>
+    ensures read { Gives (λ x. (view_parameter x.0, x.1.now)) result (parameter_at known.now tokens.now) }
+    ensures shorter { IfOk result (λ x. length x.1.now < length tokens.now) }
+{
+    let (specifiers, behind) = specifiers(alloc, known, tokens)?;
+    let (declarator, rest) = declarator(alloc, known, true, behind)?;
+    Ok((
+        Parameter {
+            specifiers,
+            declarator,
+        },
+        rest,
+    ))
+}
