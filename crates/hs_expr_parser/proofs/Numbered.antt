@@ -8,7 +8,7 @@ use Rattle.hs_syntax.specs.Grammar.{IsExpression}
 use Rattle.hs_syntax.specs.Trees.{Expression}
 use Rattle.hs_expr_parser.specs.Reading.{Known}
 use Rattle.hs_expr_parser.specs.Steps.{expression_at}
-use Rattle.hs_expr_parser.proofs.Exact.{found_by_length, longest_by_length, only_by_length, none_by_length}
+use Rattle.hs_expr_parser.specs.Laws.Exact.{found_by_length, longest_by_length, only_by_length, none_by_length}
 use Rattle.hs_expr_parser.proofs.Reached.{expression_reading}
 
 -- a slice from a number on

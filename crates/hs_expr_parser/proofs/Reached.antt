@@ -4,7 +4,7 @@ use Rattle.hs_tokens.specs.declared.token.SourceToken.{SourceToken}
 use Rattle.hs_expr_parser.specs.Goals as goal
 use Rattle.hs_expr_parser.specs.Reading.{Known, reading}
 use Rattle.hs_expr_parser.specs.Steps.{expression_at}
-use Rattle.hs_expr_parser.proofs.Wholly.{round}
+use Rattle.hs_expr_parser.specs.Laws.Wholly.{round}
 
 pub expression_reading : (known : Known) (tokens : List SourceToken) → reading known goal.expression tokens ≡ expression_at known tokens
 unfolding expression_at

@@ -25,7 +25,7 @@ use Rattle.hs_expr_parser.specs.Goals as goal
 use Rattle.hs_expr_parser.specs.Recursion.{Read}
 use Rattle.hs_expr_parser.specs.Reading.{Known, Shorter, ◌>>=◌, going_on, Operand, Assigned, joined, member_rule, reading, rule, suffix_rule, operand_by, operand_rule, another_rule, branches_rule, value_by, primary_by, unary_by, tag_at, tagged, specifier_by, specifier_rule, pointers_at, begins_list, filled, nothing_there, inside_rule, length_rule, list_rule, void_alone, declarator_rule, parameter_rule, assignment_rule, member_rule_of, constant_rule}
 use Rattle.hs_expr_parser.specs.Steps.{expression_at, assignment_at, conditional_at, binary_at, cast_at, unary_at, postfix_at, primary_at, parens_at, suffix_at, suffixes_at, operand_of, type_in_parens_at, sizeof_at, infix_at, climb_at, branches_at, value_at, another_at, commas_at, arguments_at, some_arguments_at, type_at, specifiers_at, some_specifiers_at, specifier_at, struct_at, enum_at, members_at, member_at, constants_at, constant_at, declarator_at, base_at, inside_at, directs_at, length_at, list_at, declarators_at, parameters_at, parameter_at}
-use Rattle.hs_expr_parser.proofs.Wholly.{round}
+use Rattle.hs_expr_parser.specs.Laws.Wholly.{round}
 
 -- ---- expressions
 

@@ -1,7 +1,9 @@
 pub mod Ahead
+pub mod Expected
 pub mod Found
 pub mod Given
 pub mod Goals
+pub mod Laws
 pub mod Reading
 pub mod Recursion
 pub mod Steps

@@ -12,7 +12,7 @@ use hs_tokens::{SourceToken, TokenKind, is_identifier, is_mark, is_same_kind};
 use std::alloc::Global;
 
 /// The place of a token.
-pub(crate) fn place_of(source: &SourceToken) -> Place
+pub fn place_of(source: &SourceToken) -> Place
     ensures { result ≡ place_of source.now }
 {
     Place {
@@ -32,21 +32,21 @@ pub(crate) fn word_of(alloc: Global, source: &SourceToken) -> Result<Word, NoMem
 }
 
 /// Whether the token is that word (X3.159-1989 3.1.1).
-pub(crate) fn is_keyword(source: &SourceToken, word: &[u8]) -> bool
+pub fn is_keyword(source: &SourceToken, word: &[u8]) -> bool
     ensures { result ≡ is_keyword word.now source.now }
 {
     is_identifier(&source.token) && source.token.text.items() == word
 }
 
 /// Whether the token is that punctuator (X3.159-1989 3.1.5, 3.1.6).
-pub(crate) fn is_punctuator(source: &SourceToken, mark: &[u8]) -> bool
+pub fn is_punctuator(source: &SourceToken, mark: &[u8]) -> bool
     ensures { result ≡ is_punctuator mark.now source.now }
 {
     is_mark(mark, &source.token)
 }
 
 /// The first token, and the others.
-pub(crate) fn first(tokens: &[SourceToken]) -> Option<(&SourceToken, &[SourceToken])>
+pub fn first(tokens: &[SourceToken]) -> Option<(&SourceToken, &[SourceToken])>
     ensures none { IfNone result (tokens.now ≡ []) }
     ensures found { IfSome result (λ x. tokens.now ≡ x.0.now ∷ x.1.now) }
 {
@@ -54,7 +54,7 @@ pub(crate) fn first(tokens: &[SourceToken]) -> Option<(&SourceToken, &[SourceTok
 }
 
 /// Whether the first token is that punctuator.
-pub(crate) fn is_mark_ahead(tokens: &[SourceToken], mark: &[u8]) -> bool
+pub fn is_mark_ahead(tokens: &[SourceToken], mark: &[u8]) -> bool
     ensures { result ≡ is_mark_ahead mark.now tokens.now }
 {
     match first(tokens) {
@@ -64,7 +64,7 @@ pub(crate) fn is_mark_ahead(tokens: &[SourceToken], mark: &[u8]) -> bool
 }
 
 /// Whether the first token begins a specifier (X3.159-1989 3.5).
-pub(crate) fn begins_specifiers(known: &TypeNames, tokens: &[SourceToken]) -> bool
+pub fn begins_specifiers(known: &TypeNames, tokens: &[SourceToken]) -> bool
     ensures { result ≡ is_ahead (begins_specifier known.now false) tokens.now }
 {
     match first(tokens) {
@@ -91,10 +91,7 @@ pub(crate) fn begins_list(known: &TypeNames, tokens: &[SourceToken]) -> bool
 }
 
 /// The place of the first token, if it is that punctuator, and the others.
-pub(crate) fn mark_ahead<'a>(
-    tokens: &'a [SourceToken],
-    mark: &[u8],
-) -> Option<(Place, &'a [SourceToken])>
+pub fn mark_ahead<'a>(tokens: &'a [SourceToken], mark: &[u8]) -> Option<(Place, &'a [SourceToken])>
     ensures read { Seen (λ x. (x.0, x.1.now)) result (mark_at mark.now tokens.now) }
     ensures shorter { IfSome result (λ x. suc (length x.1.now) ≡ length tokens.now) }
 {
@@ -107,7 +104,7 @@ pub(crate) fn mark_ahead<'a>(
 }
 
 /// The place of the first token, which must be that punctuator, and the others.
-pub(crate) fn mark<'a>(
+pub fn mark<'a>(
     tokens: &'a [SourceToken],
     mark: &[u8],
 ) -> Result<(Place, &'a [SourceToken]), ParseEnd>

@@ -21,7 +21,7 @@ use std::alloc::Global;
 /// Reads a declarator (X3.159-1989 3.5.4), or, in a parameter or a type name, one that may name nothing (3.5.5).
 #[cycle(read)]
 #[tactic(auto, using(crate::proofs::Stepping::declarator_step))]
-pub(crate) fn declarator<'a>(
+pub fn declarator<'a>(
     alloc: Global,
     known: &TypeNames,
     inner: bool,

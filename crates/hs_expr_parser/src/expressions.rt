@@ -37,7 +37,7 @@ struct Operand {
 /// Reads an expression (X3.159-1989 3.3.17).
 #[cycle(read)]
 #[tactic(auto, using(crate::proofs::Stepping::expression_step, crate::proofs::Stepping::commas_end))]
-pub(crate) fn expression<'a>(
+pub fn expression<'a>(
     alloc: Global,
     known: &TypeNames,
     tokens: &'a [SourceToken],
@@ -98,7 +98,7 @@ fn another<'a>(
 /// Reads an assignment (X3.159-1989 3.3.16): what is assigned to is a unary expression.
 #[cycle(read)]
 #[tactic(auto, using(crate::proofs::Stepping::assignment_step))]
-pub(crate) fn assignment<'a>(
+pub fn assignment<'a>(
     alloc: Global,
     known: &TypeNames,
     tokens: &'a [SourceToken],
@@ -149,7 +149,7 @@ fn value<'a>(
 /// Reads a conditional expression (X3.159-1989 3.3.15).
 #[cycle(read)]
 #[tactic(auto, using(crate::proofs::Stepping::conditional_step))]
-pub(crate) fn conditional<'a>(
+pub fn conditional<'a>(
     alloc: Global,
     known: &TypeNames,
     tokens: &'a [SourceToken],
@@ -229,7 +229,7 @@ fn binary<'a>(
 
 /// Reads a binary operator of at least the first level and at most the second, and its right operand.
 #[cycle(read)]
-#[tactic(auto, using(crate::proofs::Stepping::infix_step, crate::proofs::Stepping::infix_nothing, crate::proofs::UnariesRead::level_most))]
+#[tactic(auto, using(crate::proofs::Stepping::infix_step, crate::proofs::Stepping::infix_nothing, crate::specs::Laws::UnariesRead::level_most))]
 fn infix<'a>(
     alloc: Global,
     known: &TypeNames,

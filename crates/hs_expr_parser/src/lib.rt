@@ -19,6 +19,11 @@ mod types;
 mod unaries;
 mod words;
 
+pub use ahead::{
+    begins_specifiers, first, is_keyword, is_mark_ahead, is_punctuator, mark, mark_ahead, place_of,
+};
+pub use declarators::declarator;
+pub use expressions::{assignment, conditional, expression};
 pub use laws::{
     expressions_are_unambiguous, nothing_is_read_where_none_starts, reading_is_the_longest,
     what_is_read_is_an_expression,
@@ -26,3 +31,4 @@ pub use laws::{
 pub use longest::expr;
 pub use parse_end::ParseEnd;
 pub use type_names::TypeNames;
+pub use types::specifiers;

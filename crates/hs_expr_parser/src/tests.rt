@@ -10,7 +10,7 @@ fn tokens_of(alloc: Global, text: &[u8]) -> Result<Vec<SourceToken>, Fail> {
     if text.len() > 4096 {
         return Err(Fail::new("the text is short"));
     }
-    let Ok(tokens) = scan(alloc, text, 0, 1000) else {
+    let Ok(tokens) = scan(alloc, text, 0, 2000) else {
         return Err(Fail::new("the text has tokens"));
     };
     let mut sources = Vec::new(alloc);
@@ -224,6 +224,112 @@ fn expressions_are_read(rt: HostRuntime) -> Result<(), Fail> {
         let (shown, left) = read(rt.alloc(), text.as_bytes())?;
         assert!(rt; shown.as_slice() == expected.as_bytes());
         assert!(rt; left == *behind);
+    }
+    Ok(())
+}
+
+/// What is opened so many times, what stands inside, and what closes it.
+fn nested(
+    alloc: Global,
+    opening: &str,
+    inside: &str,
+    closing: &str,
+    depth: u32,
+) -> Result<String, AllocError> {
+    let mut text = String::new(alloc);
+    for _ in 0..depth {
+        text.push_str(opening)?;
+    }
+    text.push_str(inside)?;
+    for _ in 0..depth {
+        text.push_str(closing)?;
+    }
+    Ok(text)
+}
+
+/// How many tokens are left behind what is read of a text, or nothing where it nests too deep.
+fn left_behind(alloc: Global, text: &[u8]) -> Result<Option<usize>, Fail> {
+    let tokens = tokens_of(alloc, text)?;
+    if !shallow(&tokens) {
+        return Ok(None);
+    }
+    match expr(alloc, &tokens, 0, &type_t(alloc)?) {
+        Ok((_, end)) => Ok(Some(tokens.len() - end)),
+        Err(ParseEnd::NotExpr) => Ok(Some(tokens.len())),
+        Err(ParseEnd::NoMemory) => Err(Fail::new("there is memory")),
+    }
+}
+
+/// What is opened, what stands inside, what closes it, and how often it may be opened.
+const DEEPEST: [(&str, &str, &str, u32); 25] = [
+    ("(", "a", ")", 256),
+    ("(T)", "a", "", 256),
+    ("(T)(", "a", ")", 128),
+    ("sizeof ", "a", "", 256),
+    ("sizeof(", "a", ")", 128),
+    ("f(", "a", ")", 256),
+    ("f(a, ", "a", ")", 256),
+    ("(a, ", "a", ")", 256),
+    ("a[", "a", "]", 256),
+    ("a = ", "a", "", 256),
+    ("(a = ", "a", ")", 128),
+    ("a + (", "a", ")", 128),
+    ("a||a&&a|a^a&a==a<a<<a+a*", "a", "", 25),
+    ("a ? ", "a", " : a", 256),
+    ("a ? a : ", "a", "", 256),
+    ("(a ? ", "a", " : a)", 128),
+    ("(a ? a : ", "a", ")", 128),
+    ("- ", "a", "", 256),
+    ("*(", "a", ")", 128),
+    ("(T[", "1", "])1", 128),
+    ("sizeof(T[", "1", "])", 85),
+    ("(T(*)(T[", "1", "]))1", 64),
+    ("(struct { T a[", "1", "]; })1", 85),
+    ("(enum { A = ", "1", " })1", 85),
+    ("f((T)-sizeof(a = a[a ? ", "a", " : a]))", 32),
+];
+
+/// The same inside a type name, behind `sizeof(T`.
+const DEEPEST_TYPES: [(&str, &str, &str, u32); 4] = [
+    ("(T", "", ")", 254),
+    ("(T, T", "", ")", 254),
+    ("(", "*", ")", 253),
+    ("(*)(T", "", ")", 127),
+];
+
+// Own: 256 is the deepest nesting. The stack is deep enough for it wherever a parenthesis may stand.
+#[test]
+fn the_deepest_expressions_are_read(rt: HostRuntime) -> Result<(), Fail> {
+    let alloc = rt.alloc();
+    for (opening, inside, closing, depth) in DEEPEST.iter() {
+        let deepest = nested(alloc, opening, inside, closing, *depth)?;
+        assert!(rt;
+            left_behind(alloc, deepest.as_bytes())? == Some(0),
+            "{opening}"
+        );
+        let deeper = nested(alloc, opening, inside, closing, *depth + 1)?;
+        assert!(rt;
+            left_behind(alloc, deeper.as_bytes())?.is_none(),
+            "{opening}"
+        );
+    }
+    Ok(())
+}
+
+// The same of types: lists of parameters, and declarators in parentheses.
+#[test]
+fn the_deepest_types_are_read(rt: HostRuntime) -> Result<(), Fail> {
+    let alloc = rt.alloc();
+    for (opening, inside, closing, depth) in DEEPEST_TYPES.iter() {
+        for (depth, expected) in [(*depth, Some(0)), (*depth + 1, None)] {
+            let mut text = String::from_str(alloc, "sizeof(T")?;
+            text.push_str(&nested(alloc, opening, inside, closing, depth)?)?;
+            text.push_str(")")?;
+            assert!(rt;
+                left_behind(alloc, text.as_bytes())? == expected,
+                "{opening}"
+            );
+        }
     }
     Ok(())
 }

@@ -48,7 +48,7 @@ pub(crate) fn type_name<'a>(
 /// no type specifier stands before it.
 #[cycle(read)]
 #[tactic(auto, using(crate::proofs::Stepping::some_specifiers_nothing, crate::proofs::Stepping::some_specifiers_none, crate::proofs::Stepping::some_specifiers_some, crate::proofs::Stepping::specifiers_nothing, crate::proofs::Stepping::specifiers_end))]
-pub(crate) fn specifiers<'a>(
+pub fn specifiers<'a>(
     alloc: Global,
     known: &TypeNames,
     tokens: &'a [SourceToken],

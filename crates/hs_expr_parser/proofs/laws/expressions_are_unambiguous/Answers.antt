@@ -1,4 +1,4 @@
-use Rattle.hs_expr_parser.proofs.Exact.{expression_only}
+use Rattle.hs_expr_parser.specs.Laws.Exact.{expression_only}
 use Rattle.hs_expr_parser.proofs.laws.expressions_are_unambiguous.Goals as goal
 
 pub returns : goal.returns

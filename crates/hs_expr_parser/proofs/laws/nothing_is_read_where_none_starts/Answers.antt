@@ -1,4 +1,4 @@
-use Rattle.hs_expr_parser.proofs.Exact.{none_by_length}
+use Rattle.hs_expr_parser.specs.Laws.Exact.{none_by_length}
 use Rattle.hs_expr_parser.proofs.laws.nothing_is_read_where_none_starts.Goals as goal
 
 pub returns : goal.returns

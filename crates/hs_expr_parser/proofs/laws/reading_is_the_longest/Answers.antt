@@ -1,4 +1,4 @@
-use Rattle.hs_expr_parser.proofs.Exact.{longest_by_length}
+use Rattle.hs_expr_parser.specs.Laws.Exact.{longest_by_length}
 use Rattle.hs_expr_parser.proofs.laws.reading_is_the_longest.Goals as goal
 
 pub returns : goal.returns

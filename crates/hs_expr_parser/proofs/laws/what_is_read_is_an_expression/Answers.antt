@@ -1,4 +1,4 @@
-use Rattle.hs_expr_parser.proofs.Exact.{found_by_length}
+use Rattle.hs_expr_parser.specs.Laws.Exact.{found_by_length}
 use Rattle.hs_expr_parser.proofs.laws.what_is_read_is_an_expression.Goals as goal
 
 pub returns : goal.returns
