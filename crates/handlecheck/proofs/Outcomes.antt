@@ -1,5 +1,5 @@
 -- What a report that is right says of the outcome of reading, where the listing is told and no fault rose.
-use Rattle.std.proofs.Common.{◌≡◌, ℕ, suc, ◌<◌, List, [], ◌∷◌, sym, subst, ap, ◌∙◌, inl, inr, arith, Option, Some, Result, Ok, Err}
+use Rattle.std.proofs.Common.{◌≡◌, ◌⊎◌, ℕ, suc, ◌<◌, List, [], ◌∷◌, sym, subst, ap, ◌∙◌, inl, inr, arith, Option, Some, Result, Ok, Err}
 use Rattle.std.specs.Prelude.{IfSome}
 use Rattle.hs_base.specs.Count.{HasRisen, IsSteady}
 use Rattle.hs_base.specs.Files.{Listing}
@@ -13,7 +13,7 @@ use Rattle.hs_directives.specs.declared.source.Source.{Source}
 use Rattle.hs_tokens.specs.declared.token.SourceToken.{SourceToken}
 use Rattle.hs_words.specs.Words.{IsCheck, IsNoCheck}
 use Rattle.hs_checker.specs.Straight.Grammar.{IsStraight}
-use Rattle.hs_checker.specs.Source.{IsTheProgram, SpellsNone, IsReadAs, IsRefusedAs}
+use Rattle.hs_checker.specs.Source.{IsTheProgram, SpellsNone, AreParsed, HasSyntaxAt, IsTooDeep, IsReadAs, IsRefusedAs}
 use Rattle.handlecheck.specs.Causes.{Asks, Spells}
 use Rattle.handlecheck.specs.Faults.{placed_by}
 use Rattle.handlecheck.specs.Report.{Call, IsReport}
@@ -23,13 +23,17 @@ use Rattle.handlecheck.specs.declared.report.Report.TheVariants.{Accepted, Hazar
 
 -- what the report says of the outcome
 abbrev pub Agrees : Report → Result Source ReadError → Type 0
-Agrees Accepted outcome = (source : Source) × (outcome ≡ Ok source) × ((tree : Straight) × IsTheProgram source tree × HasStaleUses tree 0)
+Agrees Accepted outcome =
+    (source : Source) × (outcome ≡ Ok source) × AreParsed source.units × ((tree : Straight) × IsTheProgram source tree × HasStaleUses tree 0)
 Agrees (Hazards count) outcome =
-    (0 < count) × ((source : Source) × (outcome ≡ Ok source) × ((tree : Straight) × IsTheProgram source tree × HasStaleUses tree count))
-Agrees (Refused refusal) outcome = (error : ReadError) × (outcome ≡ Err error) × ((place : Fault × Pos) × (placed_by error ≡ Some place))
-Agrees Unbuilt outcome = (source : Source) × (outcome ≡ Ok source) × SpellsNone source
+    (0 < count)
+    × ((source : Source) × (outcome ≡ Ok source) × AreParsed source.units × ((tree : Straight) × IsTheProgram source tree × HasStaleUses tree count))
+Agrees (Refused refusal) outcome =
+    ((error : ReadError) × (outcome ≡ Err error) × ((place : Fault × Pos) × (placed_by error ≡ Some place)))
+    ⊎ ((source : Source) × (outcome ≡ Ok source) × HasSyntaxAt source.units refusal.pos)
+Agrees Unbuilt outcome = (source : Source) × (outcome ≡ Ok source) × AreParsed source.units × SpellsNone source
 Agrees (Missing name) outcome = outcome ≡ Err (reading.Missing name)
-Agrees (Limited limit) outcome = outcome ≡ Err (reading.Limit limit)
+Agrees (Limited limit) outcome = (outcome ≡ Err (reading.Limit limit)) ⊎ ((source : Source) × (outcome ≡ Ok source) × IsTooDeep source.units)
 Agrees NoMemory outcome = Unit {0}
 Agrees (Unread name) outcome = ⊥
 Agrees Usage outcome = ⊥
@@ -66,14 +70,16 @@ module _ (call : Call) (outcome : Result Source ReadError) (asks : Asks call out
 
   -- a report that is right agrees with the outcome
   pub agrees : (reads : List (List ℕ)) (report : Report) → IsReport call.told call.words reads call.before call.now report → Agrees report outcome
-  agrees reads Accepted (names, is_check, is) = (is.0, read_as names is.0 is_check is.1, is.2)
-  agrees reads (Hazards count) (names, is_check, is) = (is.0, (is.1.0, read_as names is.1.0 is_check is.1.1, is.1.2))
-  agrees reads (Refused refusal) (names, is_check, is) = (is.0, refused_as names is.0 is_check is.2, ((refusal.fault, refusal.pos), is.1))
-  agrees reads Unbuilt (names, is_check, is) = (is.0, read_as names is.0 is_check is.1, is.2)
+  agrees reads Accepted (names, is_check, is) = (is.0, read_as names is.0 is_check is.1, is.2, is.3)
+  agrees reads (Hazards count) (names, is_check, is) = (is.0, (is.1.0, read_as names is.1.0 is_check is.1.1, is.1.2, is.1.3))
+  agrees reads (Refused refusal) (names, is_check, inl is) = inl (is.0, refused_as names is.0 is_check is.2, ((refusal.fault, refusal.pos), is.1))
+  agrees reads (Refused refusal) (names, is_check, inr is) = inr (is.1.0, read_as names is.1.0 is_check is.1.1, is.1.2)
+  agrees reads Unbuilt (names, is_check, is) = (is.0, read_as names is.0 is_check is.1, is.2, is.3)
   agrees reads Usage is = no_usage is
   agrees reads (Missing name) (names, is_check, is) = refused_as names (reading.Missing name) is_check is
   agrees reads (Unread name) (names, is_check, is) = no_fault is.0.0
-  agrees reads (Limited limit) (names, is_check, is) = refused_as names (reading.Limit limit) is_check is
+  agrees reads (Limited limit) (names, is_check, inl is) = inl (refused_as names (reading.Limit limit) is_check is)
+  agrees reads (Limited limit) (names, is_check, inr is) = inr (is.0.0, read_as names is.0.0 is_check is.0.1, is.0.2)
   agrees reads NoMemory is = tt
 
 -- two counts of one list are equal

@@ -17,9 +17,9 @@ use Rattle.hs_directives.specs.declared.error.ReadError.TheVariants as reading
 use Rattle.hs_directives.specs.declared.source.Source.{Source}
 use Rattle.hs_words.specs.Words.{IsCheck, IsNoCheck}
 use Rattle.hs_checker.specs.Straight.Grammar.{IsStraight}
-use Rattle.hs_checker.specs.Source.{IsTheProgram, SpellsNone, IsReadAs, IsRefusedAs}
+use Rattle.hs_checker.specs.Source.{IsTheProgram, SpellsNone, AreParsed, HasSyntaxAt, IsTooDeep, IsReadAs, IsRefusedAs}
 use Rattle.handlecheck.specs.Faults.{placed_by}
-use Rattle.handlecheck.specs.Report.{Call, IsPutAs, text_of, HasProgramOf, AreUnbuilt}
+use Rattle.handlecheck.specs.Report.{Call, IsPutAs, text_of, HasProgramOf, AreUnbuilt, HaveSyntaxAt, AreTooDeep}
 use Rattle.handlecheck.specs.declared.fault.Fault.{Fault}
 use Rattle.handlecheck.specs.declared.report.Report.TheVariants.{Hazards}
 use Rattle.handlecheck.specs.declared.status.Status.{Status}
@@ -46,9 +46,11 @@ IsBut wanted answer = (answer ≡ wanted) ⊎ (answer ≡ status.Unwritten) ⊎ 
 abbrev pub Checks : Call → (List (List ℕ) → Type 0) → Type 0
 Checks call P = (names : List (List ℕ)) × IsCheck call.words names × P names
 
--- The named files are one straight program, and it is safe, for every input, number of turns and schedule of moves.
+-- The named files are one straight program, whose unit is one of the grammar, and it is safe, for every input, number of turns
+-- and schedule of moves.
 abbrev pub AreSafe : Option Listing → List (List ℕ) → Type 0
-AreSafe told names = (source : Source) × IsReadAs told names source × ((tree : Straight) × IsTheProgram source tree × IsSafe tree)
+AreSafe told names =
+    (source : Source) × IsReadAs told names source × AreParsed source.units × ((tree : Straight) × IsTheProgram source tree × IsSafe tree)
 
 -- the headline: accepted files are a straight program and safe
 abbrev pub Headline : Call → Status → Type 0
@@ -64,12 +66,16 @@ abbrev pub AreFaulty : Call → List (List ℕ) → Type 0
 AreFaulty call names =
     (error : ReadError) × ((place : Fault × Pos) × (placed_by error ≡ Some place)) × IsRefusedAs call.told names call.before call.now error
 
+-- a unit is none of the grammar, at a place
+abbrev pub HaveSyntax : Call → List (List ℕ) → Type 0
+HaveSyntax call names = (pos : Pos) × HaveSyntaxAt call.told names pos
+
 -- a file that is asked for is missing, or its read failed
 abbrev pub AreUnread : Call → List (List ℕ) → Type 0
 AreUnread call names =
     (name : List ℕ) × (IsRefusedAs call.told names call.before call.now (reading.Missing name) ⊎ IsRefusedAs call.told names call.before call.now (reading.ReadFault name))
 
--- a quantity passed its limit
+-- a quantity passed its limit in reading
 abbrev pub ArePast : Call → List (List ℕ) → Type 0
 ArePast call names = (limit : Limit) × IsRefusedAs call.told names call.before call.now (reading.Limit limit)
 
@@ -77,22 +83,26 @@ ArePast call names = (limit : Limit) × IsRefusedAs call.told names call.before 
 -- it must come, but for a write fault and want of memory.
 pub record HasCauses (call : Call) (answer : Status) : Type 0 where
   -- Done
-  pub accepted : (source : Source) (tree : Straight) → Asks call (Ok source) → Spells source tree → HasStaleUses tree 0 → IsBut status.Done answer
+  pub accepted : (source : Source) (tree : Straight) → Asks call (Ok source) → AreParsed source.units → Spells source tree → HasStaleUses tree 0
+      → IsBut status.Done answer
   -- Hazards: a stale use exists, and the number that was put is their count
   pub hazards_only : answer ≡ status.Hazards → Checks call (IsRejected call)
-  pub hazards : (source : Source) (tree : Straight) (count : ℕ) → Asks call (Ok source) → Spells source tree → HasStaleUses tree count → 0 < count → IsBut status.Hazards answer
-  -- Refused: reading refuses at a place, or the files are no straight program
-  pub refused_only : answer ≡ status.Refused → Checks call (λ names. AreFaulty call names ⊎ AreUnbuilt call.told names)
+  pub hazards : (source : Source) (tree : Straight) (count : ℕ) → Asks call (Ok source) → AreParsed source.units → Spells source tree
+      → HasStaleUses tree count → 0 < count → IsBut status.Hazards answer
+  -- Refused: reading refuses at a place, or a unit is none of the grammar, or the files are no straight program
+  pub refused_only : answer ≡ status.Refused → Checks call (λ names. AreFaulty call names ⊎ HaveSyntax call names ⊎ AreUnbuilt call.told names)
   pub refused : (error : ReadError) (place : Fault × Pos) → Asks call (Err error) → placed_by error ≡ Some place → IsBut status.Refused answer
-  pub unbuilt : (source : Source) → Asks call (Ok source) → SpellsNone source → IsBut status.Refused answer
+  pub syntax : (source : Source) (pos : Pos) → Asks call (Ok source) → HasSyntaxAt source.units pos → IsBut status.Refused answer
+  pub unbuilt : (source : Source) → Asks call (Ok source) → AreParsed source.units → SpellsNone source → IsBut status.Refused answer
   -- Usage: the first word is no command, or `clap` refuses the words
   pub usage_only : answer ≡ status.Usage → IsNoCheck call.words
   pub usage : IsNoCheck call.words → IsBut status.Usage answer
   -- Unread: a file is missing, or its read failed
   pub unread_only : answer ≡ status.Unread → Checks call (AreUnread call)
   pub missing : (name : List ℕ) → Asks call (Err (reading.Missing name)) → IsBut status.Unread answer
-  -- Limited: a quantity passed its limit
-  pub limited_only : answer ≡ status.Limited → Checks call (ArePast call)
+  -- Limited: a quantity passed its limit in reading, or a unit nests too deeply
+  pub limited_only : answer ≡ status.Limited → Checks call (λ names. ArePast call names ⊎ AreTooDeep call.told names)
   pub limited : (limit : Limit) → Asks call (Err (reading.Limit limit)) → IsBut status.Limited answer
+  pub deep : (source : Source) → Asks call (Ok source) → IsTooDeep source.units → IsBut status.Limited answer
   -- Unwritten: the sink failed
   pub unwritten_only : answer ≡ status.Unwritten → HasRisen call.old.faults call.new.faults

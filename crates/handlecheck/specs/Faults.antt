@@ -8,7 +8,7 @@ use Rattle.hs_directives.specs.declared.error.ReadError.TheVariants as reading
 use Rattle.hs_directives.specs.declared.error.ScanKind.TheVariants as scanning
 use Rattle.hs_directives.specs.declared.error.MacroKind.TheVariants as macro
 use Rattle.handlecheck.specs.declared.fault.Fault.{Fault}
-use Rattle.handlecheck.specs.declared.fault.Fault.TheVariants.{BadByte, OpenComment, OpenString, BadMacro, ArgCount, BadDirective, OpenIf, IncludeDepth, BadCondition}
+use Rattle.handlecheck.specs.declared.fault.Fault.TheVariants.{BadByte, OpenComment, OpenString, BadMacro, ArgCount, BadDirective, OpenIf, IncludeDepth, BadCondition, Syntax}
 
 -- its number
 abbrev pub number_of : Fault → ℕ
@@ -21,6 +21,7 @@ number_of BadDirective = 6
 number_of OpenIf = 7
 number_of IncludeDepth = 8
 number_of BadCondition = 9
+number_of Syntax = 10
 
 -- its word
 abbrev pub word_of : Fault → List ℕ
@@ -33,6 +34,7 @@ word_of BadDirective = codes "BadDirective"
 word_of OpenIf = codes "OpenIf"
 word_of IncludeDepth = codes "IncludeDepth"
 word_of BadCondition = codes "BadCondition"
+word_of Syntax = codes "Syntax"
 
 -- the fault that a refusal of reading is, and its place
 abbrev pub placed_by : ReadError → Option (Fault × Pos)

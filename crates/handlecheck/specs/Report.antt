@@ -20,11 +20,13 @@ use Rattle.hs_directives.specs.declared.error.ReadError.{ReadError}
 use Rattle.hs_directives.specs.declared.error.ReadError.TheVariants as reading
 use Rattle.hs_directives.specs.declared.source.Source.{Source}
 use Rattle.hs_words.specs.Words.{IsCheck, IsNoCheck}
-use Rattle.hs_checker.specs.Source.{IsTheProgram, SpellsNone, IsReadAs, IsRefusedAs, IsSource}
+use Rattle.hs_decl_parser.specs.Units.{depth}
+use Rattle.hs_checker.specs.Source.{IsTheProgram, SpellsNone, AreParsed, HasSyntaxAt, IsTooDeep, IsReadAs, IsRefusedAs, IsSource}
 use Rattle.hs_checker.specs.declared.source.SourceError.{SourceError}
 use Rattle.handlecheck.specs.Names.{Names}
 use Rattle.handlecheck.specs.Faults.{number_of, word_of, placed_by}
 use Rattle.handlecheck.specs.declared.fault.Fault.{Fault}
+use Rattle.handlecheck.specs.declared.fault.Fault.TheVariants.{Syntax}
 use Rattle.handlecheck.specs.declared.report.Refusal.{Refusal}
 use Rattle.handlecheck.specs.declared.report.Report.{Report}
 use Rattle.handlecheck.specs.declared.report.Report.TheVariants.{Accepted, Hazards, Refused, Unbuilt, Usage, Missing, Unread, Limited, NoMemory}
@@ -64,13 +66,27 @@ status_of (Unread name) = status.Unread
 status_of (Limited limit) = status.Limited
 status_of NoMemory = status.NoMemory
 
--- the named files are one straight program, which has n stale uses
+-- the named files are one straight program, which has n stale uses; its unit is one of the grammar
 abbrev pub HasProgramOf : ℕ → Option Listing → List (List ℕ) → Type 0
-HasProgramOf n told names = (source : Source) × IsReadAs told names source × ((tree : Straight) × IsTheProgram source tree × HasStaleUses tree n)
+HasProgramOf n told names =
+    (source : Source) × IsReadAs told names source × AreParsed source.units × ((tree : Straight) × IsTheProgram source tree × HasStaleUses tree n)
 
--- the named files are read, and are no straight program
+-- the named files are read, their units are of the grammar, and they are no straight program
 abbrev pub AreUnbuilt : Option Listing → List (List ℕ) → Type 0
-AreUnbuilt told names = (source : Source) × IsReadAs told names source × SpellsNone source
+AreUnbuilt told names = (source : Source) × IsReadAs told names source × AreParsed source.units × SpellsNone source
+
+-- the named files are read, and of the first unit that is none of the grammar this is the place
+abbrev pub HaveSyntaxAt : Option Listing → List (List ℕ) → Pos → Type 0
+HaveSyntaxAt told names pos = (source : Source) × IsReadAs told names source × HasSyntaxAt source.units pos
+
+-- the named files are read, and the first unit that is none of the grammar nests too deeply
+abbrev pub AreTooDeep : Option Listing → List (List ℕ) → Type 0
+AreTooDeep told names = (source : Source) × IsReadAs told names source × IsTooDeep source.units
+
+-- The files are read, and a unit is none of the grammar. The name is that of the file whose number the place has.
+abbrev pub IsSyntaxOf : Option Listing → List (List ℕ) → List (List ℕ) → Refusal → Type 0
+IsSyntaxOf told names reads refusal =
+    (refusal.fault ≡ Syntax) × HaveSyntaxAt told names refusal.pos × (slice_get reads refusal.pos.file ≡ Some refusal.file)
 
 -- Reading refuses with this fault at this place. The name is that of the file whose number the place has: its place, from 0,
 -- among the reads of the call.
@@ -86,16 +102,18 @@ abbrev pub IsVerdict : Option Listing → List (List ℕ) → List (List ℕ) �
 IsVerdict told names reads before now Accepted = HasProgramOf 0 told names
 -- they are one, which has so many stale uses
 IsVerdict told names reads before now (Hazards count) = (0 < count) × HasProgramOf count told names
--- reading refuses them, at a place
-IsVerdict told names reads before now (Refused refusal) = IsRefusalOf told names reads before now refusal
--- they are read, and are no straight program
+-- reading refuses them, at a place; or a unit is none of the grammar
+IsVerdict told names reads before now (Refused refusal) =
+    IsRefusalOf told names reads before now refusal ⊎ IsSyntaxOf told names reads refusal
+-- they are read, their units are of the grammar, and they are no straight program
 IsVerdict told names reads before now Unbuilt = AreUnbuilt told names
 -- a file that is asked for is missing
 IsVerdict told names reads before now (Missing name) = IsRefusedAs told names before now (reading.Missing name)
 -- the read of a file that is asked for failed
 IsVerdict told names reads before now (Unread name) = IsRefusedAs told names before now (reading.ReadFault name)
--- a quantity passed its limit
-IsVerdict told names reads before now (Limited limit) = IsRefusedAs told names before now (reading.Limit limit)
+-- a quantity passed its limit: in reading, or the nesting of a unit
+IsVerdict told names reads before now (Limited limit) =
+    IsRefusedAs told names before now (reading.Limit limit) ⊎ (AreTooDeep told names × (limit ≡ depth))
 -- want of memory: the one free answer
 IsVerdict told names reads before now NoMemory = Unit {0}
 -- no answer on files

@@ -4,7 +4,7 @@ ghost use Rattle.handlecheck.specs.Faults.{number_of, word_of, placed_by};
 use hs_base::Pos;
 use hs_directives::{MacroKind, ReadError, ScanKind};
 
-/// What a source is refused for. `docs/READING.md` says when each comes, and where it stands.
+/// What a source is refused for. `docs/READING.md` and `docs/SYNTAX.md` say when each comes, and where it stands.
 #[derive(Clone, Copy, Debug, PartialEq, Eq)]
 pub enum Fault {
     /// A byte that begins no token, or an escape that is none (X3.159-1989 3.1, 3.1.3.4).
@@ -25,6 +25,8 @@ pub enum Fault {
     IncludeDepth,
     /// A condition that is no constant expression, or divides by 0 (3.8.1).
     BadCondition,
+    /// Tokens that are no translation unit: at the external declaration that is none (3.5 to 3.7).
+    Syntax,
 }
 
 impl Fault {
@@ -42,6 +44,7 @@ impl Fault {
             Fault::OpenIf => 7,
             Fault::IncludeDepth => 8,
             Fault::BadCondition => 9,
+            Fault::Syntax => 10,
         }
     }
 
@@ -59,6 +62,7 @@ impl Fault {
             Fault::OpenIf => "OpenIf",
             Fault::IncludeDepth => "IncludeDepth",
             Fault::BadCondition => "BadCondition",
+            Fault::Syntax => "Syntax",
         }
     }
 }

@@ -91,6 +91,7 @@ fn refused(alloc: Global, names: &FileNames, error: SourceError) -> Report
             None => unplaced(error),
         },
         SourceError::Limit(limit) => Report::Limited(limit),
+        SourceError::Syntax(pos) => fault_at(alloc, names, Fault::Syntax, pos),
         SourceError::Unbuilt => Report::Unbuilt,
         SourceError::NoMemory => Report::NoMemory,
     }

@@ -128,19 +128,59 @@ fn straight_programs_are_accepted_or_their_stale_uses_counted(rt: HostRuntime) -
     Ok(())
 }
 
-// What is read and is no straight program has one answer.
+// What is read, is of the grammar and is no straight program has one answer.
 #[test]
 fn other_programs_are_unbuilt(rt: HostRuntime) -> Result<(), Fail> {
     let alloc = rt.alloc();
     let texts = [
         "",
         "int main(void) { return 0; }",
-        "char **NewHand",
-        "char **NewHandle(long n); void HLock(char **h); void HUnlock(char **h); int putchar(int c); int main(void) { return 0;",
-        "char **NewHandle(long n); void HLock(char **h); void HUnlock(char **h); int putchar(int c); int main(void) { return 0; };",
+        "char **NewHandle(long n); void HLock(char **h); void HUnlock(char **h); int putchar(int c); int main(void) { return 1; }",
+        "typedef int T; pascal void f(T) = 0xA9C8; int main(void) { do f((T)1); while (2); return 0; }",
     ];
     for text in texts {
         assert_eq!(rt; check_text(alloc, text)?.as_str(), "2 error 24 Unbuilt\n");
+    }
+    Ok(())
+}
+
+// X3.159-1989 3.7: a unit that is none of the grammar is refused at its first external declaration that is none.
+#[test]
+fn units_are_refused_where_they_go_wrong(rt: HostRuntime) -> Result<(), Fail> {
+    let alloc = rt.alloc();
+    let rows = [
+        ("char **NewHand", "2 error 10 Syntax at main.c:1:1\n"),
+        ("int main(void) {", "2 error 10 Syntax at main.c:1:1\n"),
+        (
+            "int main(void) { return 0; };",
+            "2 error 10 Syntax at main.c:1:29\n",
+        ),
+        (
+            "int a;\n int b\n= ;\nint c d;",
+            "2 error 10 Syntax at main.c:2:2\n",
+        ),
+        (
+            "#define END }\nint f(void) { END int g(void) { (END",
+            "2 error 10 Syntax at main.c:2:19\n",
+        ),
+    ];
+    for (text, line) in rows {
+        assert_eq!(rt; check_text(alloc, text)?.as_str(), line);
+    }
+    Ok(())
+}
+
+// Own: the nesting of a unit is tried before its grammar.
+#[test]
+fn units_nest_256_deep(rt: HostRuntime) -> Result<(), Fail> {
+    let alloc = rt.alloc();
+    for (depth, line) in [
+        (254, "2 error 10 Syntax at main.c:1:1\n"),
+        (255, "7 limit Depth 256\n"),
+    ] {
+        let mut text = "int x = (".to_string(alloc)?;
+        text.push_str(copies(alloc, "(", depth)?.as_str())?;
+        assert_eq!(rt; check_text(alloc, text.as_str())?.as_str(), line);
     }
     Ok(())
 }
@@ -205,6 +245,8 @@ fn a_refusal_names_its_file(rt: HostRuntime) -> Result<(), Fail> {
         ("a.h", "@", "2 error 1 BadByte at a.h:1:1\n"),
         ("b.h", "int\n @", "2 error 1 BadByte at b.h:2:2\n"),
         ("c.h", "#endif", "2 error 6 BadDirective at c.h:1:1\n"),
+        ("b.h", "\nint b", "2 error 10 Syntax at b.h:2:1\n"),
+        ("c.h", "int c; )", "2 error 10 Syntax at c.h:1:8\n"),
         ("b.c", "\n/*", "2 error 2 OpenComment at b.c:2:1\n"),
     ];
     for (name, text, line) in rows {
@@ -294,7 +336,7 @@ fn limits_of_one_file(rt: HostRuntime) -> Result<(), Fail> {
     let rows = [
         ("", " ", 4_194_304, "2 error 24 Unbuilt\n"),
         ("", " ", 4_194_305, "7 limit FileBytes 4194304\n"),
-        ("", ";", 4_000_000, "2 error 24 Unbuilt\n"),
+        ("", ";", 4_000_000, "2 error 10 Syntax at main.c:1:1\n"),
         ("", ";", 4_000_001, "7 limit Scanned 4000000\n"),
         ("#define a\n", "a ", 1_000_000, "2 error 24 Unbuilt\n"),
         (
@@ -320,7 +362,10 @@ fn limits_of_one_file(rt: HostRuntime) -> Result<(), Fail> {
 #[test]
 fn limits_of_many_files(rt: HostRuntime) -> Result<(), Fail> {
     let alloc = rt.alloc();
-    for (count, line) in [(2, "2 error 24 Unbuilt\n"), (3, "7 limit Tokens 4000000\n")] {
+    for (count, line) in [
+        (2, "2 error 10 Syntax at large.h:1:1\n"),
+        (3, "7 limit Tokens 4000000\n"),
+    ] {
         let mut outside = Outside::new(alloc);
         outside.list(alloc, "large.h", copies(alloc, ";", 2_000_000)?.as_str())?;
         outside.list(

@@ -11,4 +11,5 @@ pub mod Rows
 pub mod SpelledSteps
 pub mod Staleness
 pub mod Steps
+pub mod Units
 pub mod Whole

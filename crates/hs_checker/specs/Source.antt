@@ -2,15 +2,22 @@
 --     IsTheTree tokens tree      the tokens spell the tree, and no other
 --     IsTheProgram source tree   the sources are one unit, which spells the tree and no other
 --     SpellsNone source          they are not one unit, or one that spells no tree
+--     AreParsed units            each unit is one of the grammar
+--     IsFirst units Is           the first unit that is none is so
+--     HasSyntaxAt, IsTooDeep     it is no unit of the grammar; it nests too deeply
 --     IsReadAs ..                the named files and their headers are read as these sources
 --     HasReads ..                the files that were read, in their order
 --     IsSource ..                the meaning of each answer
 --     RefusesAs error answer     the answer to a refusal of reading
 --     IsProgramOf source result  the program of sources that were read, or why they give none
-use Rattle.std.specs.Prelude.{◌≡◌, ℕ, List, [], ◌∷◌, Option, Result, Ok, Err, IfSome}
+--     IsParsedAs, IsStraightOf   its two steps: each unit is parsed; the one unit is a straight program
+use Rattle.std.specs.Prelude.{◌≡◌, ◌⊎◌, ℕ, List, [], ◌∷◌, ◌++◌, Option, Result, Ok, Err, IfSome}
 use Rattle.hs_base.specs.Count.{IsSteady}
 use Rattle.hs_base.specs.Files.{Listing, Counts}
+use Rattle.hs_base.specs.declared.pos.Pos.{Pos}
 use Rattle.hs_tokens.specs.declared.token.SourceToken.{SourceToken}
+use Rattle.hs_syntax.specs.Nesting.{IsShallow}
+use Rattle.hs_decl_parser.specs.Units.{depth, IsParsed, IsRefusedAt}
 use Rattle.hs_tree.specs.declared.straight.tree.Straight.{Straight}
 use Rattle.hs_directives.specs.Preprocessing.{preprocessed}
 use Rattle.hs_directives.specs.Readings.{own_listing, IsCausedBy}
@@ -20,7 +27,7 @@ use Rattle.hs_directives.specs.declared.error.ReadError.TheVariants as reading
 use Rattle.hs_directives.specs.declared.source.Source.{Source as Sources}
 use Rattle.hs_checker.specs.Straight.Grammar.{IsStraight}
 use Rattle.hs_checker.specs.declared.source.SourceError.{SourceError}
-use Rattle.hs_checker.specs.declared.source.SourceError.TheVariants.{Read, Limit, Unbuilt, NoMemory}
+use Rattle.hs_checker.specs.declared.source.SourceError.TheVariants.{Read, Limit, Syntax, Unbuilt, NoMemory}
 
 -- the tokens spell this tree and no other
 abbrev pub IsTheTree : List SourceToken → Straight → Type 0
@@ -33,6 +40,28 @@ IsTheProgram source tree = (tokens : List SourceToken) × (source.units ≡ toke
 -- the sources are not one unit whose tokens spell a tree
 abbrev pub SpellsNone : Sources → Type 0
 SpellsNone source = (tokens : List SourceToken) (tree : Straight) → source.units ≡ tokens ∷ [] → IsStraight tokens tree → ⊥
+
+-- each unit is one of the grammar
+abbrev pub AreParsed : List (List SourceToken) → Type 0
+AreParsed [] = Unit {0}
+AreParsed (tokens ∷ rest) = IsParsed tokens × AreParsed rest
+
+-- the first unit that is none of the grammar is so
+pub record IsFirst (units : List (List SourceToken)) (Is : List SourceToken → Type 0) : Type 0 where
+  pub before : List (List SourceToken)
+  pub tokens : List SourceToken
+  pub behind : List (List SourceToken)
+  pub whole : units ≡ before ++ tokens ∷ behind
+  pub parsed : AreParsed before
+  pub is : Is tokens
+
+-- it is no unit, and its first external declaration that is none begins at that place
+abbrev pub HasSyntaxAt : List (List SourceToken) → Pos → Type 0
+HasSyntaxAt units pos = IsFirst units (λ tokens. IsRefusedAt tokens pos)
+
+-- it nests too deeply
+abbrev pub IsTooDeep : List (List SourceToken) → Type 0
+IsTooDeep units = IsFirst units (λ tokens. IsShallow tokens → ⊥)
 
 -- The named files and their headers are read as these sources: by the listing, where it is told, and by the sources' own names
 -- and texts in any case.
@@ -62,23 +91,45 @@ pub record HasReads {F : Type 0} (leads : F → List ℕ → ℕ → F → Type 
 
 -- the counts are those of the files, before the call and after it
 abbrev pub IsSource : Option Listing → List (List ℕ) → Counts → Counts → Result Straight SourceError → Type 0
-IsSource told names before now (Ok tree) = (source : Sources) × IsReadAs told names source × IsTheProgram source tree
+IsSource told names before now (Ok tree) = (source : Sources) × IsReadAs told names source × AreParsed source.units × IsTheProgram source tree
 IsSource told names before now (Err (Read error)) = (HasOwnAnswer error → ⊥) × IsRefusedAs told names before now error
-IsSource told names before now (Err (Limit limit)) = IsRefusedAs told names before now (reading.Limit limit)
-IsSource told names before now (Err Unbuilt) = (source : Sources) × IsReadAs told names source × SpellsNone source
+-- a limit of reading, or the limit of nesting
+IsSource told names before now (Err (Limit limit)) =
+    IsRefusedAs told names before now (reading.Limit limit)
+    ⊎ ((source : Sources) × IsReadAs told names source × IsTooDeep source.units × (limit ≡ depth))
+IsSource told names before now (Err (Syntax pos)) = (source : Sources) × IsReadAs told names source × HasSyntaxAt source.units pos
+IsSource told names before now (Err Unbuilt) = (source : Sources) × IsReadAs told names source × AreParsed source.units × SpellsNone source
 IsSource told names before now (Err NoMemory) = Unit {0}
 
 -- an answer to a refusal of reading
 abbrev pub RefusesAs : ReadError → SourceError → Type 0
 RefusesAs error (Read read) = (read ≡ error) × (HasOwnAnswer read → ⊥)
 RefusesAs error (Limit limit) = error ≡ reading.Limit limit
+RefusesAs error (Syntax pos) = ⊥
 RefusesAs error Unbuilt = ⊥
 RefusesAs error NoMemory = error ≡ reading.NoMemory
 
 -- the program of sources that were read, or why they give none
 abbrev pub IsProgramOf : Sources → Result Straight SourceError → Type 0
-IsProgramOf source (Ok tree) = IsTheProgram source tree
+IsProgramOf source (Ok tree) = AreParsed source.units × IsTheProgram source tree
 IsProgramOf source (Err (Read error)) = ⊥
-IsProgramOf source (Err (Limit limit)) = ⊥
-IsProgramOf source (Err Unbuilt) = SpellsNone source
+IsProgramOf source (Err (Limit limit)) = IsTooDeep source.units × (limit ≡ depth)
+IsProgramOf source (Err (Syntax pos)) = HasSyntaxAt source.units pos
+IsProgramOf source (Err Unbuilt) = AreParsed source.units × SpellsNone source
 IsProgramOf source (Err NoMemory) = Unit {0}
+
+-- each of the units is parsed, or how the first that is none of the grammar is refused
+abbrev pub IsParsedAs : List (List SourceToken) → Result Unit SourceError → Type 0
+IsParsedAs units (Ok _) = AreParsed units
+IsParsedAs units (Err (Read error)) = ⊥
+IsParsedAs units (Err (Limit limit)) = IsTooDeep units × (limit ≡ depth)
+IsParsedAs units (Err (Syntax pos)) = HasSyntaxAt units pos
+IsParsedAs units (Err Unbuilt) = ⊥
+IsParsedAs units (Err NoMemory) = Unit {0}
+
+-- the straight program of sources, or why they give none
+abbrev pub IsStraightOf : Sources → Result Straight SourceError → Type 0
+IsStraightOf source (Ok tree) = IsTheProgram source tree
+IsStraightOf source (Err Unbuilt) = SpellsNone source
+IsStraightOf source (Err NoMemory) = Unit {0}
+IsStraightOf source (Err _) = ⊥

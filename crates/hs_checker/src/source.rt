@@ -2,10 +2,11 @@ ghost use Rattle.std.specs.Prelude.{◌≡◌, map};
 ghost use Rattle.std.specs.String.{string_bytes};
 ghost use Rattle.hs_base.specs.Files.{NeverFall};
 ghost use Rattle.hs_directives.specs.declared.source.Source.{Source};
-ghost use Rattle.hs_checker.specs.Source.{HasReads, IsProgramOf, IsSource, RefusesAs};
+ghost use Rattle.hs_checker.specs.Source.{HasReads, IsParsedAs, IsProgramOf, IsSource, IsStraightOf, RefusesAs};
 
 use crate::straight::read;
-use hs_base::{Files, NoMemory};
+use hs_base::{Files, NoMemory, Pos};
+use hs_decl_parser::{ParseError, unit};
 use hs_directives::{ReadError, SourceTokens, preprocess};
 use hs_tree::straight::Straight;
 use std::alloc::Global;
@@ -17,6 +18,8 @@ pub enum SourceError {
     Read(ReadError),
     /// A quantity passed its limit.
     Limit(hs_base::Limit),
+    /// A unit is none of the grammar; the place is that of its first external declaration that is none.
+    Syntax(Pos),
     /// They are not one unit, or one that is no straight program.
     Unbuilt,
     /// Memory was refused.
@@ -34,9 +37,24 @@ fn refused(error: ReadError) -> SourceError
     }
 }
 
+/// Parses each unit in turn, up to the first that is none of the grammar.
+fn parsed(alloc: Global, units: &[SourceTokens]) -> Result<(), SourceError>
+    ensures { IsParsedAs units.now result }
+{
+    'units: for tokens in units {
+        match unit(alloc, tokens.items()) {
+            Ok(_) => {}
+            Err(ParseError::Limit(limit)) => return Err(SourceError::Limit(limit)),
+            Err(ParseError::Syntax(pos)) => return Err(SourceError::Syntax(pos)),
+            Err(ParseError::NoMemory) => return Err(SourceError::NoMemory),
+        }
+    }
+    Ok(())
+}
+
 /// The tree of units that are one, whose tokens spell it.
-fn program_of(alloc: Global, units: &[SourceTokens]) -> Result<Straight, SourceError>
-    ensures { (source : Source) → source.units ≡ units.now → IsProgramOf source result }
+fn straight_of(alloc: Global, units: &[SourceTokens]) -> Result<Straight, SourceError>
+    ensures { (source : Source) → source.units ≡ units.now → IsStraightOf source result }
 {
     let [tokens] = units else {
         return Err(SourceError::Unbuilt);
@@ -48,11 +66,20 @@ fn program_of(alloc: Global, units: &[SourceTokens]) -> Result<Straight, SourceE
     }
 }
 
+/// The program of units: each is one of the grammar, and they are one, whose tokens spell it.
+fn program_of(alloc: Global, units: &[SourceTokens]) -> Result<Straight, SourceError>
+    ensures { (source : Source) → source.units ≡ units.now → IsProgramOf source result }
+{
+    parsed(alloc, units)?;
+    straight_of(alloc, units)
+}
+
 /// The straight program of the named files and their headers.
 ///
 /// # Errors
 ///
-/// The first refusal of reading; then [`SourceError::Unbuilt`] where the files are not one unit whose tokens spell a straight
+/// The first refusal of reading; then, of the first unit that is none of the grammar, the limit of nesting or
+/// [`SourceError::Syntax`]; then [`SourceError::Unbuilt`] where the files are not one unit whose tokens spell a straight
 /// program.
 pub fn read_program<F: Files>(
     alloc: Global,
