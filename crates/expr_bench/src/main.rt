@@ -9,23 +9,21 @@ ghost use Rattle.hs_syntax.specs.Nesting.{IsShallow};
 ghost use Rattle.hs_syntax.specs.Trees.{Expression};
 ghost use Rattle.hs_expr_parser.specs.declared.parse_end.ParseEnd.TheVariants.{NotExpr};
 
-use hs_base::Bytes;
+use hs_base::NoMemory;
 use hs_expr_parser::{ParseEnd, TypeNames, expr};
 use hs_syntax::shallow;
 use hs_tokens::{Origin, SourceToken, scan};
-use std::alloc::{AllocError, Global};
+use std::alloc::Global;
 use std::{env, fs, io};
 
 /// The most bytes that a file may have.
 const MOST_BYTES: usize = 4_194_304;
 
 /// The typedef name T alone.
-fn type_t(alloc: Global) -> Result<TypeNames, AllocError>
+fn type_t(alloc: Global) -> Result<TypeNames, NoMemory>
     ensures { IfOk result (λ known. known ≡ codes "T" ∷ []) }
 {
-    let mut names = Vec::new(alloc);
-    names.push(Bytes::from_vec(b"T".to_vec(alloc)?))?;
-    Ok(TypeNames { names })
+    TypeNames::new(alloc).with(alloc, b"T")
 }
 
 /// The tokens of the text, or nothing where it is too long or refused.
@@ -64,7 +62,10 @@ fn expression_len(
 }
 
 fn main(rt: HostRuntime) -> io::Result<()> {
-    let known = type_t(rt.alloc())?;
+    let Ok(known) = type_t(rt.alloc()) else {
+        println!(rt; "no memory")?;
+        return Ok(());
+    };
     for name in env::args(&rt)?.skip(1) {
         let text = fs::read(&rt, name.as_str())?;
         let len = text.len();

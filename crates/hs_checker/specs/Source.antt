@@ -2,7 +2,7 @@
 --     IsTheTree tokens tree      the tokens spell the tree, and no other
 --     IsTheProgram source tree   the sources are one unit, which spells the tree and no other
 --     SpellsNone source          they are not one unit, or one that spells no tree
---     AreParsed units            each unit is one of the grammar
+--     AreParsed units            each unit is one of the grammar, and nests no more deeply than it may
 --     IsFirst units Is           the first unit that is none is so
 --     HasSyntaxAt, IsTooDeep     it is no unit of the grammar; it nests too deeply
 --     IsReadAs ..                the named files and their headers are read as these sources
@@ -41,7 +41,7 @@ IsTheProgram source tree = (tokens : List SourceToken) × (source.units ≡ toke
 abbrev pub SpellsNone : Sources → Type 0
 SpellsNone source = (tokens : List SourceToken) (tree : Straight) → source.units ≡ tokens ∷ [] → IsStraight tokens tree → ⊥
 
--- each unit is one of the grammar
+-- each unit is one of the grammar, and nests no more deeply than it may
 abbrev pub AreParsed : List (List SourceToken) → Type 0
 AreParsed [] = Unit {0}
 AreParsed (tokens ∷ rest) = IsParsed tokens × AreParsed rest

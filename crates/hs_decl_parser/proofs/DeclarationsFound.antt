@@ -47,7 +47,7 @@ grouped one two three tokens middle rest first second =
     subst (λ (it : Form). Begins it tokens rest) (form_again one two three) (then_begins first second)
 
 -- declarators of a declaration are the first one, and more
-items_split : (known : Known) (it : Declaring) (its : List Declaring) → items_form known (it ∷ its) ≡ (item_form known it ⨾ more_items_form known its)
+pub items_split : (known : Known) (it : Declaring) (its : List Declaring) → items_form known (it ∷ its) ≡ (item_form known it ⨾ more_items_form known its)
 items_split known it [] = sym (form_nothing (item_form known it))
 items_split known it (next ∷ rest) =
     let own : Form = when (is_named it.declarator) (declarator_form known false it.declarator) in

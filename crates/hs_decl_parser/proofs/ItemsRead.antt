@@ -4,13 +4,13 @@
 --     no_items_all, more_items_all    more declarators behind a first one
 --     items_read                      the first one, and the others up to the `;`
 use Rattle.std.proofs.Common.{◌≡◌, ℕ, Bool, true, false, List, [], ◌∷◌, ◌++◌, Option, Some, None, refl, ap, sym, ◌∙◌, subst, append_assoc, inl, inr}
-use Rattle.std.specs.Prelude.{◌&&◌, ◌||◌, codes}
+use Rattle.std.specs.Prelude.{◌||◌, codes}
 use Rattle.std.specs.Str.{bytes_eq}
 use Rattle.std.proofs.lemmas.Bool.{cases_Bool}
 use Rattle.std.proofs.lemmas.List.{append-nil}
 use Rattle.hs_tokens.specs.declared.token.SourceToken.{SourceToken}
 use Rattle.hs_tokens.specs.declared.token.TokenKind.TheVariants.{Punctuator}
-use Rattle.hs_syntax.specs.Forms.{Form, ◌⨾◌, when, nothing_at_all, mark, IsOf}
+use Rattle.hs_syntax.specs.Forms.{Form, ◌⨾◌, when, mark, IsOf}
 use Rattle.hs_syntax.specs.Grammar.{declarator_form, initialiser_form, start_form, items_form}
 use Rattle.hs_syntax.specs.Names.{is_among}
 use Rattle.hs_syntax.specs.Phrases.{is_named}
@@ -24,9 +24,10 @@ use Rattle.hs_expr_parser.specs.Reading.{Known, ◌>>=◌, going_on}
 use Rattle.hs_expr_parser.specs.Steps.{declarator_at}
 use Rattle.hs_expr_parser.specs.Laws.Apart.{with_text, when_parts, one_token}
 use Rattle.hs_expr_parser.specs.Laws.Enclosed.{headed}
-use Rattle.hs_expr_parser.specs.Laws.FirstTokens.{or_true, grouped, mark_missing, mark_no_mark, mark_ender}
+use Rattle.hs_expr_parser.specs.Laws.FirstTokens.{or_true, mark_missing, mark_no_mark, mark_ender}
 use Rattle.hs_expr_parser.specs.Laws.Phrases.{declarator_reads}
 use Rattle.hs_expr_parser.specs.Laws.Primaries.{closing, closes, mark_reads, behind}
+use Rattle.hs_decl_parser.proofs.DeclarationsFound.{items_split}
 use Rattle.hs_decl_parser.proofs.Deeper.{deeper_one, onwards}
 use Rattle.hs_decl_parser.proofs.Expected.{Whole, ReadsInitialiser, ReadsItems}
 use Rattle.hs_decl_parser.proofs.TestsRead.{mark_stops}
@@ -176,23 +177,6 @@ more_items_all {known = known} {table = table} whole it its starts others earlie
 
 -- ---- all of them
 
--- a phrase is itself with nothing behind it
-with_nothing : (form : Form) → form ≡ form ⨾ nothing_at_all
-with_nothing form = λ i. record { fits = and_true form.fits i; pieces = sym (append-nil form.pieces) i }
-  where
-    and_true : (it : Bool) → it ≡ (it && true)
-    and_true true = refl
-    and_true false = refl
-
--- declarators are one and more of them
-items_again : (known : Known) (it : Declaring) (its : List Declaring) → items_form known (it ∷ its) ≡ item_form known it ⨾ more_items_form known its
-items_again known it [] = with_nothing (item_form known it)
-items_again known it (next ∷ its) =
-    let one : Form = when (is_named it.declarator) (declarator_form known false it.declarator) in
-    let start : Form = start_form known it.initialiser in
-    ap (λ (form : Form). one ⨾ start ⨾ mark (codes ",") ⨾ form) (items_again known next its)
-    ∙ grouped one start (mark (codes ",") ⨾ item_form known next ⨾ more_items_form known its)
-
 -- a declaration's declarators up to its `;`
 pub record ItemsRead (known : Known) (table : Shorter) (it : Declaring) (its : List Declaring) (tokens rest : List SourceToken) : Type 0 where
   pub back : List SourceToken
@@ -231,7 +215,7 @@ items_read known table it its starts others front rest fits =
     let parts = behind (items_form known (it ∷ its)) (mark (codes ";")) front fits in
     let end = one_token Punctuator (codes ";") None parts.back parts.second in
     let inside = behind (item_form known it) (more_items_form known its) parts.front
-    (subst (λ (form : Form). IsOf form parts.front) (items_again known it its) parts.first) in
+    (subst (λ (form : Form). IsOf form parts.front) (items_split known it its) parts.first) in
     let behind' : List SourceToken = end.source ∷ rest in
     let left : List SourceToken = inside.back ++ behind' in
     let same = onwards (front ++ rest) (parts.front ++ behind') (inside.front ++ left)

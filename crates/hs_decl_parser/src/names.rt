@@ -4,9 +4,9 @@ ghost use Rattle.hs_syntax.specs.Phrases.{is_typedef, name_in, name_of, made_by}
 ghost use Rattle.hs_syntax.specs.Views.{specification_of, view_specifier, view_direct, view_declarator, view_item, view_external};
 ghost use Rattle.hs_decl_parser.specs.Typedefs.{is_typedef_word};
 
-use hs_base::{Bytes, NoMemory};
+use hs_base::NoMemory;
 use hs_expr_parser::TypeNames;
-use hs_syntax::{Declarator, Direct, External, Item, Specifier, Storage};
+use hs_syntax::{Direct, External, Item, Specifier, Storage};
 use std::alloc::Global;
 
 /// Whether the specifier is `typedef` (X3.159-1989 3.5.1).
@@ -47,20 +47,13 @@ fn name_in(direct: &Direct) -> &[u8]
     }
 }
 
-/// The name that a declarator names (X3.159-1989 3.5.4).
-fn name_of(alloc: Global, declarator: &Declarator) -> Result<Bytes, NoMemory>
-    ensures { IfOk result (λ name. name ≡ name_of (view_declarator declarator.now)) }
-{
-    Ok(Bytes::from_vec(name_in(&declarator.direct).to_vec(alloc)?))
-}
-
 /// The names, and those of these declarators.
-fn with_all(alloc: Global, known: Vec<Bytes>, items: &[Item]) -> Result<Vec<Bytes>, NoMemory>
-    ensures { IfOk result (λ names. names.items ≡ known.items ++ map (λ item. name_of (view_declarator item.declarator)) items.now) }
+fn with_all(alloc: Global, known: TypeNames, items: &[Item]) -> Result<TypeNames, NoMemory>
+    ensures { IfOk result (λ names. names ≡ known ++ map (λ item. name_of (view_declarator item.declarator)) items.now) }
 {
     let mut names = known;
     'items: for item in items {
-        names.push(name_of(alloc, &item.declarator)?)?;
+        names = names.with(alloc, name_in(&item.declarator.direct))?;
     }
     Ok(names)
 }
@@ -75,9 +68,9 @@ pub(crate) fn with_names(
     ensures { IfOk result (λ names. names ≡ known ++ made_by (view_external it.now)) }
 {
     match it {
-        External::Declaration(it) if is_typedef(&it.specifiers) => Ok(TypeNames {
-            names: with_all(alloc, known.names, &it.items)?,
-        }),
+        External::Declaration(it) if is_typedef(&it.specifiers) => {
+            with_all(alloc, known, &it.items)
+        }
         _ => Ok(known),
     }
 }

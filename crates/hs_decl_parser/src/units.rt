@@ -23,9 +23,7 @@ fn externals(alloc: Global, tokens: &[SourceToken]) -> Result<Vec<External>, Par
     ensures stuck { (pos : Pos) → result ≡ Err (Syntax pos) → IsStuck tokens.now pos }
     ensures unlimited { (it : ALimit) → result ≡ Err (limited it) → ⊥ }
 {
-    let mut known = TypeNames {
-        names: Vec::new(alloc),
-    };
+    let mut known = TypeNames::new(alloc);
     let mut its = Vec::new(alloc);
     let mut rest = tokens;
     'externals: while let Some((source, _)) = first(rest) {

@@ -6,7 +6,6 @@ use hs_expr_parser::is_keyword;
 use hs_tokens::{SourceToken, is_identifier};
 
 /// A word that a statement begins with (X3.159-1989 3.6).
-#[derive(Clone, Copy, Debug, PartialEq, Eq)]
 pub(crate) enum StatementWord {
     If,
     While,

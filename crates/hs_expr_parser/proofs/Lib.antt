@@ -1,4 +1,4 @@
-pub mod Failing
+pub mod Indexed
 pub mod Numbered
 pub mod Reached
 pub mod Seen

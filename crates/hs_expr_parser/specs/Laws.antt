@@ -11,6 +11,7 @@ pub mod Ends
 pub mod Entries
 pub mod Exact
 pub mod ExpressionsFound
+pub mod Fails
 pub mod FirstTokens
 pub mod Firsts
 pub mod Gives

@@ -3,6 +3,7 @@ pub mod Expected
 pub mod Found
 pub mod Given
 pub mod Goals
+pub mod Index
 pub mod Laws
 pub mod Reading
 pub mod Recursion

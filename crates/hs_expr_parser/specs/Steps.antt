@@ -9,7 +9,7 @@ use Rattle.hs_syntax.specs.declared.word.Place.{Place}
 use Rattle.hs_syntax.specs.declared.word.Word.{Word}
 use Rattle.hs_expr_parser.specs.Ahead.{is_mark_ahead}
 use Rattle.hs_expr_parser.specs.Recursion.{Read}
-use Rattle.hs_expr_parser.specs.Reading.{Known, Operand, Branches, Assigned, reading, expression_rule, assignment_rule, conditional_rule, binary_rule, cast_rule, unary_rule, postfix_rule, primary_rule, parens_rule, suffix_rule, index_rule, call_rule, suffixes_rule, operand_at, type_in_parens, sizeof_rule, operand_rule, climb_rule, branches_rule, value_rule, another_rule, commas_rule, arguments_rule, type_rule, specifiers_rule, some_specifiers_rule, specifier_rule, struct_by, enum_by, members_rule, member_rule_of, constants_rule, constant_rule, declarator_rule, base_rule, inside_rule, directs_rule, length_rule, list_rule, declarators_rule, parameters_rule, parameter_rule}
+use Rattle.hs_expr_parser.specs.Reading.{Known, Operand, Branches, Assigned, reading, expression_rule, assignment_rule, conditional_rule, binary_rule, cast_rule, unary_rule, postfix_rule, primary_rule, parens_rule, suffix_rule, suffixes_rule, operand_at, type_in_parens, sizeof_rule, operand_rule, climb_rule, branches_rule, value_rule, another_rule, commas_rule, arguments_rule, type_rule, specifiers_rule, some_specifiers_rule, specifier_rule, struct_by, enum_by, members_rule, member_rule_of, constants_rule, constant_rule, declarator_rule, base_rule, inside_rule, directs_rule, length_rule, list_rule, declarators_rule, parameters_rule, parameter_rule}
 
 -- an expression
 unfoldable pub expression_at : Known → List SourceToken → Read Expression
@@ -50,14 +50,6 @@ parens_at known at rest = parens_rule (reading known) at rest
 -- what is read behind a postfix expression, and it
 unfoldable pub suffix_at : Known → Expression → List SourceToken → Read Expression
 suffix_at known base tokens = suffix_rule (reading known) base tokens
-
--- an element, behind the `[`
-unfoldable pub index_at : Known → Expression → Place → List SourceToken → Read Expression
-index_at known base at rest = index_rule (reading known) base at rest
-
--- a call, behind the `(`
-unfoldable pub call_at : Known → Expression → List SourceToken → Read Expression
-call_at known base rest = call_rule (reading known) base rest
 
 -- the rest of a postfix expression
 unfoldable pub suffixes_at : Known → Expression → List SourceToken → Read Expression

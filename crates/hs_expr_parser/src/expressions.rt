@@ -229,7 +229,7 @@ fn binary<'a>(
 
 /// Reads a binary operator of at least the first level and at most the second, and its right operand.
 #[cycle(read)]
-#[tactic(auto, using(crate::proofs::Stepping::infix_step, crate::proofs::Stepping::infix_nothing, crate::specs::Laws::UnariesRead::level_most))]
+#[tactic(auto, using(crate::proofs::Stepping::infix_step, crate::proofs::Stepping::infix_nothing, crate::specs::Laws::Ranks::level_most))]
 fn infix<'a>(
     alloc: Global,
     known: &TypeNames,

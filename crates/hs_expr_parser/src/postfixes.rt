@@ -14,7 +14,7 @@ use crate::expressions::{assignment, expression};
 use crate::operators::{access_of, postfix_of};
 use crate::parse_end::ParseEnd;
 use crate::type_names::TypeNames;
-use crate::words::{is_known, is_name};
+use crate::words::is_name;
 use hs_base::NoMemory;
 use hs_constants::number_value;
 use hs_syntax::{Access, Expr, Place, PostfixOperator, Word};
@@ -147,7 +147,7 @@ fn primary<'a>(
     };
     let text = source.token.text.items();
     match source.token.kind {
-        TokenKind::Identifier if is_name(text) && !is_known(known, text) => {
+        TokenKind::Identifier if is_name(text) && !known.is_known(text) => {
             Ok((Expr::Name(word_of(alloc, source)?), rest))
         }
         TokenKind::Number if number_value(text).is_some() => {

@@ -1,5 +1,5 @@
 use crate::{ParseEnd, TypeNames, expr};
-use hs_base::Bytes;
+use hs_base::NoMemory;
 use hs_syntax::{Expr, Left, shallow};
 use hs_tokens::{Origin, SourceToken, scan};
 use std::alloc::{AllocError, Global};
@@ -24,10 +24,8 @@ fn tokens_of(alloc: Global, text: &[u8]) -> Result<Vec<SourceToken>, Fail> {
 }
 
 /// The typedef name T alone.
-fn type_t(alloc: Global) -> Result<TypeNames, AllocError> {
-    let mut names = Vec::new(alloc);
-    names.push(Bytes::from_vec(b"T".to_vec(alloc)?))?;
-    Ok(TypeNames { names })
+fn type_t(alloc: Global) -> Result<TypeNames, NoMemory> {
+    TypeNames::new(alloc).with(alloc, b"T")
 }
 
 /// Writes an expression with parentheses around each operation, and brackets for the parentheses that were read.
@@ -261,7 +259,7 @@ fn left_behind(alloc: Global, text: &[u8]) -> Result<Option<usize>, Fail> {
 }
 
 /// What is opened, what stands inside, what closes it, and how often it may be opened.
-const DEEPEST: [(&str, &str, &str, u32); 25] = [
+const DEEPEST: [(&str, &str, &str, u16); 25] = [
     ("(", "a", ")", 256),
     ("(T)", "a", "", 256),
     ("(T)(", "a", ")", 128),
@@ -290,7 +288,7 @@ const DEEPEST: [(&str, &str, &str, u32); 25] = [
 ];
 
 /// The same inside a type name, behind `sizeof(T`.
-const DEEPEST_TYPES: [(&str, &str, &str, u32); 4] = [
+const DEEPEST_TYPES: [(&str, &str, &str, u16); 4] = [
     ("(T", "", ")", 254),
     ("(T, T", "", ")", 254),
     ("(", "*", ")", 253),
@@ -302,12 +300,13 @@ const DEEPEST_TYPES: [(&str, &str, &str, u32); 4] = [
 fn the_deepest_expressions_are_read(rt: HostRuntime) -> Result<(), Fail> {
     let alloc = rt.alloc();
     for (opening, inside, closing, depth) in DEEPEST.iter() {
-        let deepest = nested(alloc, opening, inside, closing, *depth)?;
+        let depth = u32::from(*depth);
+        let deepest = nested(alloc, opening, inside, closing, depth)?;
         assert!(rt;
             left_behind(alloc, deepest.as_bytes())? == Some(0),
             "{opening}"
         );
-        let deeper = nested(alloc, opening, inside, closing, *depth + 1)?;
+        let deeper = nested(alloc, opening, inside, closing, depth + 1)?;
         assert!(rt;
             left_behind(alloc, deeper.as_bytes())?.is_none(),
             "{opening}"
@@ -321,7 +320,8 @@ fn the_deepest_expressions_are_read(rt: HostRuntime) -> Result<(), Fail> {
 fn the_deepest_types_are_read(rt: HostRuntime) -> Result<(), Fail> {
     let alloc = rt.alloc();
     for (opening, inside, closing, depth) in DEEPEST_TYPES.iter() {
-        for (depth, expected) in [(*depth, Some(0)), (*depth + 1, None)] {
+        let depth = u32::from(*depth);
+        for (depth, expected) in [(depth, Some(0)), (depth + 1, None)] {
             let mut text = String::from_str(alloc, "sizeof(T")?;
             text.push_str(&nested(alloc, opening, inside, closing, depth)?)?;
             text.push_str(")")?;

@@ -52,18 +52,11 @@ pub(crate) fn is_name(text: &[u8]) -> bool
     !is_reserved(text)
 }
 
-/// Whether the text is one of the typedef names.
-pub(crate) fn is_known(known: &TypeNames, text: &[u8]) -> bool
-    ensures { result ≡ is_among known.now text.now }
-{
-    known.names.iter().any(|name| name.items() == text)
-}
-
 /// Whether the text is a typedef name (X3.159-1989 3.5.6).
 pub(crate) fn is_type_name(known: &TypeNames, text: &[u8]) -> bool
     ensures { result ≡ is_type_name known.now text.now }
 {
-    is_name(text) && is_known(known, text)
+    is_name(text) && known.is_known(text)
 }
 
 /// Whether the token begins a specifier, where a type specifier stands before it or not (X3.159-1989 3.5).

@@ -7,7 +7,7 @@ use Rattle.hs_syntax.specs.Trees as tree
 use Rattle.hs_syntax.specs.Views.{view, view_specifier, view_declarator}
 use Rattle.hs_syntax.specs.declared.expr.Left.{Left}
 use Rattle.hs_expr_parser.specs.Steps.{assignment_at, some_arguments_at, commas_at, climb_at, suffixes_at, unary_at, operand_of, struct_at, enum_at, specifiers_at, declarator_at, declarators_at, parameters_at, parameter_at, members_at, member_at, constants_at, constant_at, some_specifiers_at, specifier_at}
-use Rattle.hs_expr_parser.proofs.Failing.{fails_along}
+use Rattle.hs_expr_parser.specs.Laws.Fails.{fails_along}
 use Rattle.hs_expr_parser.proofs.Stepping.{arguments_on, arguments_goes, arguments_fails, declarators_on, declarators_goes, declarators_fails, parameters_on, parameters_goes, parameters_fails, members_on, members_goes, members_fails, constants_on, constants_goes, constants_fails, commas_more, climb_more, suffixes_more, specifiers_none, specifiers_more, specifier_dropped, specifier_basic, struct_list_none, struct_close_none, struct_whole, enum_list_none, enum_close_none, enum_whole, unary_prefix_none, unary_prefix_some}
 use Rattle.hs_expr_parser.proofs.Seen.{members_seen, constants_seen}
 use Rattle.hs_expr_parser.specs.Ahead.{mark_at, is_mark_ahead, storage_of, dropped_of, basic_of, prefix_of, begins_specifier}

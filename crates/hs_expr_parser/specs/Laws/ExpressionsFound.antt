@@ -34,6 +34,7 @@ use Rattle.hs_expr_parser.specs.Goals as goal
 use Rattle.hs_expr_parser.specs.Reading.{Known, Shorter, parens_rule, primary_by, primary_rule, index_rule, call_rule, member_rule, suffix_rule, suffixes_rule, postfix_rule, operand_at, type_in_parens, sizeof_rule, unary_by, unary_rule, cast_rule, Operand, operand_by, operand_rule, climb_rule, binary_rule, Branches, branches_rule, conditional_rule, Assigned, value_by, value_rule, assignment_rule, another_rule, joined, commas_rule, expression_rule, arguments_rule}
 use Rattle.hs_expr_parser.specs.Found.{IsFound}
 use Rattle.hs_expr_parser.specs.Laws.Gives.{Gives, none_gives, some_gives, then_gives, going_gives, if_gives, so_gives}
+use Rattle.hs_expr_parser.specs.Laws.Ranks.{level_most}
 use Rattle.hs_expr_parser.specs.Laws.Spelled.{Begins, Goes, form_again, nothing_begins, then_begins, when_begins, token_begins, place_begins, stays, then_goes, behind_goes, form_goes, goes_form, begins_form, goes_begins}
 use Rattle.hs_expr_parser.specs.Laws.Firsts.{token_is, token_of, mark_gives, name_gives, literals_begin}
 use Rattle.hs_expr_parser.specs.Laws.Tables.{Grows, one_grows, more_grows, expression_gives, assignment_gives, conditional_gives, binary_gives, cast_gives, unary_gives, commas_gives, climb_gives, suffixes_gives, arguments_gives, type_gives}
@@ -58,11 +59,6 @@ looser least tight e it loose sources is =
 looser_begins : (least tight : ℕ) (e : Expression) (it : Form) (tokens rest : List SourceToken) → least ≤ tight → Begins (at_least tight e it) tokens rest
     → Begins (at_least least e it) tokens rest
 looser_begins least tight e it tokens rest loose begins = begins_form begins (looser least tight e it loose)
-
--- the tightest operators are of level 10
-level_most : (operator : BinaryOperator) → level_of operator ≤ 10
-level_most binary.Multiply = omega arith
-level_most _ = omega arith
 
 -- a cast is an operand
 cast_operand : (least : ℕ) (e : Expression) (it : Form) → least ≤ 11 → (sources : List SourceToken) → IsOf (as_cast e it) sources

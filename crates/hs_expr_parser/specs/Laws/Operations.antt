@@ -25,9 +25,8 @@ use Rattle.hs_expr_parser.specs.Reading.{Known, Shorter, ◌>>=◌, going_on, Op
 use Rattle.hs_expr_parser.specs.Laws.Along.{Whole, Longer, Reads, longer_along, longer_on, reads_along, climb_longer, climb_stop, commas_longer, commas_stop}
 use Rattle.hs_expr_parser.specs.Laws.Apart.{with_text, split, when_parts, one_token}
 use Rattle.hs_expr_parser.specs.Laws.Primaries.{ReadsAll, mark_reads, ranked, behind}
-use Rattle.hs_expr_parser.specs.Laws.Ranks.{AllRead, tightest, binary_all, conditional_all, assignment_all, expression_all, all_along}
+use Rattle.hs_expr_parser.specs.Laws.Ranks.{AllRead, level_most, tightest, binary_all, conditional_all, assignment_all, expression_all, all_along}
 use Rattle.hs_expr_parser.specs.Laws.Stopping.{looser, binary_joins, assign_joins}
-use Rattle.hs_expr_parser.specs.Laws.UnariesRead.{level_most}
 
 -- ---- binary operators
 

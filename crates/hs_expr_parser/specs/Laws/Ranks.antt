@@ -8,6 +8,8 @@ use Rattle.hs_syntax.specs.Operators.{level_of}
 use Rattle.hs_syntax.specs.Phrases.{rank}
 use Rattle.hs_syntax.specs.Trees as tree
 use Rattle.hs_syntax.specs.Trees.{Expression}
+use Rattle.hs_syntax.specs.declared.operators.BinaryOperator.{BinaryOperator}
+use Rattle.hs_syntax.specs.declared.operators.BinaryOperator.TheVariants as binary
 use Rattle.hs_syntax.specs.declared.operators.PrefixOperator.{PrefixOperator}
 use Rattle.hs_expr_parser.specs.Ahead.{stops, begins_type, begins_specifier, is_ahead, prefix_of, is_keyword}
 use Rattle.hs_expr_parser.specs.Recursion.{Read}
@@ -19,6 +21,11 @@ use Rattle.hs_expr_parser.specs.Laws.Stopping.{looser}
 abbrev pub tightest : Expression → ℕ
 tightest (tree.binary left operator at right) = level_of operator
 tightest _ = 10
+
+-- no binary operator binds more tightly than those of level 10
+pub level_most : (it : BinaryOperator) → level_of it ≤ 10
+level_most binary.Multiply = omega arith
+level_most _ = omega arith
 
 -- the token begins a unary expression that is no postfix one
 abbrev pub is_unary_start : SourceToken → Bool

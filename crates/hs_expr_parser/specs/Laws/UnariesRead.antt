@@ -9,7 +9,7 @@ use Rattle.hs_tokens.specs.declared.token.SourceToken.{SourceToken}
 use Rattle.hs_tokens.specs.declared.token.TokenKind.TheVariants.{Identifier, Literal, Punctuator}
 use Rattle.hs_syntax.specs.Forms.{◌⨾◌, mark, mark_at as mark_form, keyword_at, IsOf}
 use Rattle.hs_syntax.specs.Grammar.{expression_form, type_form}
-use Rattle.hs_syntax.specs.Operators.{prefix_text, level_of}
+use Rattle.hs_syntax.specs.Operators.{prefix_text}
 use Rattle.hs_syntax.specs.Names.{is_among, keywords}
 use Rattle.hs_syntax.specs.Parts.{as_prefixed}
 use Rattle.hs_syntax.specs.Phrases.{rank, as_cast, as_unary, specifier_words}
@@ -17,7 +17,6 @@ use Rattle.hs_syntax.specs.Trees as tree
 use Rattle.hs_syntax.specs.Trees.{Expression, NamedType}
 use Rattle.hs_syntax.specs.declared.operators.AssignOperator.{AssignOperator}
 use Rattle.hs_syntax.specs.declared.operators.BinaryOperator.{BinaryOperator}
-use Rattle.hs_syntax.specs.declared.operators.BinaryOperator.TheVariants as binary
 use Rattle.hs_syntax.specs.declared.operators.PrefixOperator.{PrefixOperator}
 use Rattle.hs_syntax.specs.declared.operators.PrefixOperator.TheVariants.{Increment, Decrement, Address, Dereference, Plus, Minus, Complement, Not}
 use Rattle.hs_syntax.specs.declared.word.Place.{Place}
@@ -29,7 +28,7 @@ use Rattle.hs_expr_parser.specs.Laws.Along.{Whole, Reads, reads_along}
 use Rattle.hs_expr_parser.specs.Laws.Apart.{with_text, split, one_token}
 use Rattle.hs_expr_parser.specs.Expected.{ReadsType}
 use Rattle.hs_expr_parser.specs.Laws.Primaries.{ReadsAll, mark_reads, closing, closes, ranked, bracketed, behind}
-use Rattle.hs_expr_parser.specs.Laws.Ranks.{AllRead, unary_all, cast_all as from_cast, all_along, tightest}
+use Rattle.hs_expr_parser.specs.Laws.Ranks.{AllRead, level_most, unary_all, cast_all as from_cast, all_along, tightest}
 use Rattle.hs_expr_parser.specs.Laws.Stopping.{looser}
 
 -- what is made of an expression that is read
@@ -99,27 +98,6 @@ cast_operand : {known : Known} {table : Shorter} → Whole known table → (e : 
 cast_operand {known = known} whole e front rest reads fits =
     let low = ranked 13 e (expression_form known e) front fits in
     reads_along (whole.plain goal.cast (front ++ rest)) ((reads front rest low.1).cast low.0)
-
--- no binary operator binds more tightly
-pub level_most : (it : BinaryOperator) → level_of it ≤ 10
-level_most binary.Multiply = omega arith
-level_most binary.Divide = omega arith
-level_most binary.Remainder = omega arith
-level_most binary.Add = omega arith
-level_most binary.Subtract = omega arith
-level_most binary.ShiftLeft = omega arith
-level_most binary.ShiftRight = omega arith
-level_most binary.Less = omega arith
-level_most binary.Greater = omega arith
-level_most binary.LessEqual = omega arith
-level_most binary.GreaterEqual = omega arith
-level_most binary.Equal = omega arith
-level_most binary.NotEqual = omega arith
-level_most binary.BitAnd = omega arith
-level_most binary.BitXor = omega arith
-level_most binary.BitOr = omega arith
-level_most binary.And = omega arith
-level_most binary.Or = omega arith
 
 -- what stops before a unary expression stops before a cast: nothing joins at 13
 joins_apart : (among : Bool) (found : Option BinaryOperator) (assigned : Option AssignOperator) (source : SourceToken)

@@ -4,7 +4,7 @@ use Rattle.std.proofs.lemmas.Result.{err_from_is_err_and}
 use Rattle.hs_syntax.specs.Views.{view_declaration}
 use Rattle.hs_expr_parser.specs.Ahead.{is_ahead, begins_specifier}
 use Rattle.hs_decl_parser.specs.Steps.{declaration_at, declarations_at}
-use Rattle.hs_decl_parser.proofs.Failing.{fails_along}
+use Rattle.hs_expr_parser.specs.Laws.Fails.{fails_along}
 use Rattle.hs_decl_parser.proofs.Stepping.{declarations_goes, declarations_fails}
 use Rattle.hs_decl_parser.proofs.declarations.declarations.Goals as goal
 

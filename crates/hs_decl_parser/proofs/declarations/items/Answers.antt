@@ -3,7 +3,7 @@ use Rattle.std.proofs.lemmas.List.{map-append}
 use Rattle.std.proofs.lemmas.Result.{err_from_is_err_and}
 use Rattle.hs_syntax.specs.Views.{view_item}
 use Rattle.hs_decl_parser.specs.Steps.{item_at, items_at}
-use Rattle.hs_decl_parser.proofs.Failing.{fails_along}
+use Rattle.hs_expr_parser.specs.Laws.Fails.{fails_along}
 use Rattle.hs_decl_parser.proofs.Stepping.{items_goes, items_fails}
 use Rattle.hs_decl_parser.proofs.declarations.items.Goals as goal
 

@@ -4,7 +4,7 @@ use Rattle.std.proofs.lemmas.Result.{err_from_is_err_and}
 use Rattle.hs_syntax.specs.Views.{view_label}
 use Rattle.hs_decl_parser.specs.Steps.{label_at, labels_at}
 use Rattle.hs_decl_parser.specs.Words.{begins_label}
-use Rattle.hs_decl_parser.proofs.Failing.{fails_along}
+use Rattle.hs_expr_parser.specs.Laws.Fails.{fails_along}
 use Rattle.hs_decl_parser.proofs.Stepping.{labels_goes, labels_fails}
 use Rattle.hs_decl_parser.proofs.labels.labels.Goals as goal
 

@@ -6,5 +6,5 @@ use Rattle.hs_decl_parser.proofs.names.with_all.Given as goal
 -- the names so far, and those of the declarators that are left
 abbrev pub invariant-items : goal.invariant-items
 invariant-items l =
-    l.names.items ++ map (λ item. name_of (view_declarator item.declarator)) (drop l.item-index l.items)
-    ≡ l.fn.known.items ++ map (λ item. name_of (view_declarator item.declarator)) l.items
+    l.names ++ map (λ item. name_of (view_declarator item.declarator)) (drop l.item-index l.items)
+    ≡ l.fn.known ++ map (λ item. name_of (view_declarator item.declarator)) l.items

@@ -5,7 +5,7 @@ use Rattle.std.proofs.lemmas.Result.{err_from_is_err_and}
 use Rattle.hs_syntax.specs.StatementViews.{view_labelled}
 use Rattle.hs_expr_parser.specs.Ahead.{is_mark_ahead}
 use Rattle.hs_decl_parser.specs.Steps.{labelled_at, statements_at}
-use Rattle.hs_decl_parser.proofs.Failing.{fails_along}
+use Rattle.hs_expr_parser.specs.Laws.Fails.{fails_along}
 use Rattle.hs_decl_parser.proofs.Stepping.{statements_goes, statements_fails}
 use Rattle.hs_decl_parser.proofs.statements.+statement.Goals as goal
 

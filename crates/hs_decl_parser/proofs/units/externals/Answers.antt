@@ -8,7 +8,8 @@ use Rattle.hs_syntax.specs.Views.{view_external}
 use Rattle.hs_decl_parser.specs.Steps.{external_at}
 use Rattle.hs_decl_parser.specs.Units.{names_of, IsStuck}
 use Rattle.hs_decl_parser.proofs.Exact.{Parsed, more_parsed, stuck_parsed, names_more}
-use Rattle.hs_decl_parser.proofs.Failing.{fails_none, same_place}
+use Rattle.hs_expr_parser.specs.Laws.Fails.{fails_none}
+use Rattle.hs_decl_parser.proofs.Failing.{same_place}
 use Rattle.hs_decl_parser.proofs.units.externals.Goals as goal
 
 -- one more

@@ -5,7 +5,7 @@ use Rattle.std.proofs.lemmas.Result.{err_from_is_err_and}
 use Rattle.hs_syntax.specs.Views.{view}
 use Rattle.hs_expr_parser.specs.Steps.{expression_at}
 use Rattle.hs_expr_parser.specs.declared.parse_end.ParseEnd.TheVariants.{NotExpr}
-use Rattle.hs_expr_parser.proofs.Failing.{fails_none}
+use Rattle.hs_expr_parser.specs.Laws.Fails.{fails_none}
 use Rattle.hs_expr_parser.proofs.Numbered.{slice_is, found_from, longest_from, only_from, none_from}
 use Rattle.hs_expr_parser.proofs.longest.expr.Goals as goal
 
