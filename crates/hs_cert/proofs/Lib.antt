@@ -1,0 +1,9 @@
+pub mod Agreeing
+pub mod Balances
+pub mod Fronts
+pub mod Numerals
+pub mod Places
+pub mod Spelled
+pub mod Split
+pub mod Sums
+pub mod Words

@@ -1,0 +1,18 @@
+//! Certificates: a cut with a flow, which show together that the cut is least, their text, and a checker that trusts
+//! nobody. `specs/Certificates.antt` says what is right, `specs/Texts.antt` how a certificate is written.
+#![tactic(auto)]
+
+mod certificate;
+mod flows;
+mod lines;
+mod marks;
+mod printer;
+mod reader;
+#[cfg(test)]
+mod tests;
+mod verifier;
+
+pub use certificate::{CertError, Certificate, Wrong};
+pub use printer::print;
+pub use reader::read;
+pub use verifier::verify;

@@ -1,0 +1,12 @@
+pub mod Among
+pub mod Descending
+pub mod Filling
+pub mod Leasts
+pub mod Marks
+pub mod Obstacles
+pub mod Pushing
+pub mod Rows
+pub mod Search
+pub mod Sides
+pub mod Steps
+pub mod WorkedNetworks

@@ -1,0 +1,7 @@
+use Rattle.std.proofs.Common.{◌≡◌, take, All, None}
+use Rattle.hs_cut.specs.Levels.{level_at}
+use Rattle.hs_cut.proofs.augment.first_reached.Given as goal
+
+-- the vertices so far were not reached
+abbrev pub invariant-loop-vertex : goal.invariant-loop-vertex
+invariant-loop-vertex l = All (λ vertex. level_at l.levels vertex ≡ None) (take l.vertex-index l.vertices)

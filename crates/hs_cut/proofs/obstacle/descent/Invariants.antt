@@ -1,0 +1,9 @@
+use Rattle.hs_cut.proofs.Descending.{IsDescent}
+use Rattle.hs_cut.proofs.obstacle.descent.Given as goal
+
+-- what goes on from the vertex completes the way
+abbrev pub invariant-steps : goal.invariant-steps
+invariant-steps l = IsDescent l.gates l.rows l.levels l.first l.first_level l.vertex l.level l.path.items
+
+abbrev pub decreases-steps : goal.decreases-steps
+decreases-steps l = l.level

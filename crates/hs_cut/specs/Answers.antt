@@ -1,0 +1,11 @@
+-- What `best_cut` answers where there is no cut.
+--     IsEnd network end     the answer is right: an obstacle, and the least; or want of memory, which is free
+use Rattle.std.specs.Prelude.{⊤}
+use Rattle.hs_cut.specs.declared.cut.CutEnd.{CutEnd}
+use Rattle.hs_cut.specs.declared.cut.CutEnd.TheVariants.{NoCut, NoMemory}
+use Rattle.hs_cut.specs.declared.network.Network.{Network}
+use Rattle.hs_cut.specs.Walks.{IsLeastObstacle}
+
+abbrev pub IsEnd : Network → CutEnd → Type 0
+IsEnd network (NoCut vertices) = IsLeastObstacle network vertices
+IsEnd network NoMemory = ⊤

@@ -1,0 +1,43 @@
+-- What levels say of walks: each vertex has as its level the steps of the shortest walk to it, and where it has none, no
+-- walk leads to it.
+--     Reaches gates rows starts vertex steps    a walk of so many steps leads from a start to the vertex
+use Rattle.std.specs.Prelude.{◌≡◌, ℕ, zero, suc, ◌≤◌, List, Option, None, Some, IsTrue}
+use Rattle.std.proofs.Common.{arith, refl}
+use Rattle.std.specs.declared.vec.Vec.{Vec}
+use Rattle.std.specs.declared.alloc.Global.{Global}
+use Rattle.hs_cut.specs.Levels.{AreLevels, IsWithinLevel, level_at, next_to}
+use Rattle.hs_cut.specs.Networks.{among}
+use Rattle.hs_cut.specs.declared.graph.Arc.{Arc}
+use Rattle.hs_cut.specs.declared.levels.Gate.{Gate}
+
+-- no step from a start, or one step more
+abbrev pub Reaches : List Gate → List (Vec Arc Global) → List ℕ → ℕ → ℕ → Type 0
+Reaches gates rows starts vertex zero = IsTrue (among starts vertex)
+Reaches gates rows starts vertex (suc steps) = (from : ℕ) × Reaches gates rows starts from steps × IsTrue (among (next_to gates rows from) vertex)
+
+-- a walk of as many steps as its level leads to a vertex
+pub level-walk : (gates : List Gate) (rows : List (Vec Arc Global)) (starts : List ℕ) (levels : List (Option ℕ)) → AreLevels gates rows starts levels
+    → (level vertex : ℕ) → level_at levels vertex ≡ Some level → Reaches gates rows starts vertex level
+level-walk gates rows starts levels all zero vertex is = all.origin vertex is
+level-walk gates rows starts levels all (suc level) vertex is =
+    let below = all.below vertex level is in
+    (below.0, level-walk gates rows starts levels all level below.0 below.1, below.2)
+
+-- a level within a number is there
+pub further : (own : Option ℕ) (steps : ℕ) → IsWithinLevel steps own → (it : ℕ) × (own ≡ Some it) × (it ≤ steps)
+further None steps is = absurd is
+further (Some it) steps is = (it, refl, is)
+
+-- it is within a greater number too
+within-more : (own : Option ℕ) (steps more_ : ℕ) → IsWithinLevel steps own → steps ≤ more_ → IsWithinLevel more_ own
+within-more None steps more_ is low = is
+within-more (Some it) steps more_ is low = let below : it ≤ steps = is in omega arith
+
+-- and no walk is shorter; so where a vertex has no level, there is none
+pub walk-level : (gates : List Gate) (rows : List (Vec Arc Global)) (starts : List ℕ) (levels : List (Option ℕ)) → AreLevels gates rows starts levels
+    → (steps vertex : ℕ) → Reaches gates rows starts vertex steps → IsWithinLevel steps (level_at levels vertex)
+walk-level gates rows starts levels all zero vertex walk = rw (all.first vertex walk) (omega arith)
+walk-level gates rows starts levels all (suc steps) vertex walk =
+    let before = further (level_at levels walk.0) steps (walk-level gates rows starts levels all steps walk.0 walk.1) in
+    let low : before.0 ≤ steps = before.2 in
+    within-more (level_at levels vertex) (suc before.0) (suc steps) (all.above walk.0 vertex before.0 before.1 walk.2) (omega arith)

@@ -1,0 +1,14 @@
+pub mod Answers
+pub mod Arcs
+pub mod CutFlows
+pub mod Descents
+pub mod Duality
+pub mod FilledEdges
+pub mod Flows
+pub mod LevelLaws
+pub mod Levels
+pub mod NetOut
+pub mod Networks
+pub mod Pushes
+pub mod WalkLaws
+pub mod Walks
