@@ -17,6 +17,7 @@ pub record IsInside (network : Network) (inside : List ℕ) : Type 0 where
   pub ascends : IsStrictlyIncreasing inside
   pub vertices : All (λ vertex. vertex < network.vertices) inside
 
+-- Its inside is one, and each edge has a number that is not too large.
 pub record IsCertificate (network : Network) (c : Certificate) : Type 0 where
   pub inside : IsInside network c.inside
   pub each : length c.flow ≡ length network.edges

@@ -26,6 +26,7 @@ flow_lines edge (amount ∷ flow) = flow_line edge amount ++ flow_lines (suc edg
 abbrev pub crossings_line : Network → List ℕ → List ℕ
 crossings_line network inside = codes "crossings " ++ decimal (crossings (among inside) network.edges) ++ 10 ∷ []
 
+-- the three, in this order
 abbrev pub text_of : Network → Certificate → List ℕ
 text_of network c = inside_line c.inside ++ flow_lines 0 c.flow ++ crossings_line network c.inside
 

@@ -16,6 +16,7 @@ use Rattle.hs_cut.specs.Duality.{least}
 use Rattle.hs_cut.specs.Flows.{AreOfSize, Fits, most, net_out, out_over}
 use Rattle.hs_cut.specs.Levels.{IsWithinLevel, level_at, opens}
 use Rattle.hs_cut.specs.NetOut.{crossings-cons}
+use Rattle.hs_cut.specs.WalkLaws.{alike as one_side}
 use Rattle.hs_cut.specs.Networks.{IsChosen, IsCut, IsLeast, IsNumbered, Side, among, crosses, crossings}
 use Rattle.hs_cut.specs.Pushes.{IsFull, IsPartial, IsSized, amount_at, edge_at, no_edge, residual, residuals}
 use Rattle.hs_cut.specs.declared.network.CutEdge.{CutEdge}
@@ -188,14 +189,6 @@ leaves edge amount false opened is = split edge.slot (sym (ap (λ n. not edge.sl
     split false opened = refl
     split true opened = absurd (let less : int_lt (negsuc 0) (negsuc 0) ≡ true = opened in grind (arith, ints))
 
--- an edge with ends on both sides crosses
-crossing : (from to : Bool) → xor from to ≡ false → from ≡ to
-unfolding xor
-crossing true true same = refl
-crossing true false same = absurd cc
-crossing false true same = absurd cc
-crossing false false same = refl
-
 -- no step leaves a least cut
 step-stays : (network : Network) (flow : List ℤ) (side other : Side) (from to : ℕ) → IsNumbered network → Fits network side flow → IsLeast network other
     → IsStep network.edges (residuals network.edges flow) from to → other from ≡ true → other to ≡ true
@@ -237,7 +230,7 @@ step-stays network flow side other from to numbered fits least_ step there = spl
     split false it =
         let slotless = leaves step.edge (amount_at flow step.index) step.along opened (carried step.along step.begins step.ends it) in
         let apart = rw is at (least_.cut.slotless step.index no_edge below) in
-        alike_ step.along step.begins step.ends (crossing (other step.edge.from) (other step.edge.to) (apart slotless))
+        alike_ step.along step.begins step.ends (one_side (other step.edge.from) (other step.edge.to) (apart slotless))
 
 -- what was reached is in each least cut
 pub reached-within : (network : Network) (rows : List (Vec Arc Global)) (flow : List ℤ) (levels : List (Option ℕ)) (side other : Side) → IsNumbered network → IsGraph network.edges rows

@@ -6,6 +6,7 @@ use Rattle.hs_cut.specs.declared.cut.CutEnd.TheVariants.{NoCut, NoMemory}
 use Rattle.hs_cut.specs.declared.network.Network.{Network}
 use Rattle.hs_cut.specs.Walks.{IsLeastObstacle}
 
+-- where there is no cut, the least obstacle; want of memory at any time
 abbrev pub IsEnd : Network → CutEnd → Type 0
 IsEnd network (NoCut vertices) = IsLeastObstacle network vertices
 IsEnd network NoMemory = ⊤

@@ -42,11 +42,13 @@ HasNoOutside network side = All (λ vertex. IsFalse (side vertex)) network.outsi
 abbrev pub CrossesSlots : Network → Side → Type 0
 CrossesSlots network side = All (λ edge. IsFalse edge.slot → IsFalse (crosses side edge)) network.edges
 
+-- it has what must be inside, nothing that must be outside, and only slots cross
 pub record IsCut (network : Network) (side : Side) : Type 0 where
   pub inside : HasInside network side
   pub outside : HasNoOutside network side
   pub slotless : CrossesSlots network side
 
+-- no cut has fewer crossings
 pub record IsLeast (network : Network) (side : Side) : Type 0 where
   pub cut : IsCut network side
   pub least : (other : Side) → IsCut network other → crossings side network.edges ≤ crossings other network.edges
@@ -55,10 +57,12 @@ pub record IsLeast (network : Network) (side : Side) : Type 0 where
 abbrev pub IsWithin : Side → Side → Type 0
 IsWithin side other = (vertex : ℕ) → IsTrue (side vertex) → IsTrue (other vertex)
 
+-- every least cut contains it
 pub record IsChosen (network : Network) (side : Side) : Type 0 where
   pub least : IsLeast network side
   pub within : (other : Side) → IsLeast network other → IsWithin side other
 
+-- the numbers of the network are vertices
 pub record IsNumbered (network : Network) : Type 0 where
   pub edges : All (λ edge. (edge.from < network.vertices) × (edge.to < network.vertices)) network.edges
   pub inside : All (λ vertex. vertex < network.vertices) network.inside

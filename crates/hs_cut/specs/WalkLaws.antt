@@ -1,4 +1,5 @@
 -- A way out stays on one side of a cut: its edges are no slots, so none of them crosses.
+--     alike                           the ends of an edge that does not cross
 --     joins-alike, is_joined-alike    the two vertices that such an edge joins
 --     way_out-outside                 all of a way out is outside
 use Rattle.std.specs.Prelude.{ℕ, ◌≡◌, Bool, ◌&&◌, not, List, [], ◌∷◌, IsTrue, IsFalse, nat_eq}
@@ -14,7 +15,7 @@ use Rattle.hs_cut.specs.NetOut.{CrossSlots}
 use Rattle.hs_cut.specs.CutFlows.{holds-among}
 
 -- where an edge does not cross, its ends are on one side
-alike : (one other : Bool) → xor one other ≡ false → one ≡ other
+pub alike : (one other : Bool) → xor one other ≡ false → one ≡ other
 unfolding xor
 alike true true apart = refl
 alike true false apart = cc
