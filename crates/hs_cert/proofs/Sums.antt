@@ -7,18 +7,8 @@ use Rattle.std.proofs.lemmas.Int.{ints}
 use Rattle.hs_cut.specs.declared.network.CutEdge.{CutEdge}
 use Rattle.hs_cut.specs.Networks.{Side}
 use Rattle.hs_cut.specs.Flows.{out_over, net_out}
+use Rattle.hs_cut.specs.NetOut.{out_over-size}
 use Rattle.hs_cert.proofs.Places.{written}
-
--- one edge takes out no more than flows over it
-pub out_over_small : (side : Side) (edge : CutEdge) (amount : ℤ) (bound : ℕ) → nat_abs amount ≤ bound
-    → nat_abs (out_over side edge amount) ≤ bound
-out_over_small side edge amount bound small = by_sides (side edge.from) (side edge.to) amount bound small
-  where
-    by_sides : (from to : Bool) (amount : ℤ) (bound : ℕ) → nat_abs amount ≤ bound → nat_abs (cond from amount (pos 0) -ℤ cond to amount (pos 0)) ≤ bound
-    by_sides true true amount bound small = omega (arith, ints)
-    by_sides true false amount bound small = omega (arith, ints)
-    by_sides false true amount bound small = omega (arith, ints)
-    by_sides false false amount bound small = omega (arith, ints)
 
 -- what the edges from this one on take out
 pub net_out_more : (side : Side) (edges : List CutEdge) (flow : List ℤ) (i : ℕ) (d : CutEdge) (e : ℤ) → i < length edges → i < length flow
@@ -77,7 +67,7 @@ balance_more edges flow sums first second i bound d back below within from_withi
     rw is_second (balanced sums first vertex edge.from edge.to amount back from_within to_within is_back is_first) in
     let left = net_out_more (nat_eq vertex) edges flow i d (pos 0) below within in (
       rw now (total_more (get_or sums vertex (pos 0)) _ _ _ (rw (← left) before)),
-      rw now (total_small (get_or sums vertex (pos 0)) _ i bound low (out_over_small (nat_eq vertex) edge amount bound small)),
+      rw now (total_small (get_or sums vertex (pos 0)) _ i bound low (out_over-size (nat_eq vertex) edge amount bound small)),
     )
 
 -- the place of a vertex after the first of the two writes

@@ -87,12 +87,7 @@ fn read_any(alloc: Global, text: &[u8], network: &Network) -> Result<Certificate
 fn ascend(numbers: &[u32]) -> bool
     ensures { IsTrue result ↔ IsStrictlyIncreasing numbers.now }
 {
-    for at in 1..numbers.len() {
-        if numbers[at] <= numbers[at - 1] {
-            return false;
-        }
-    }
-    true
+    numbers.is_sorted_by(|one, next| one < next)
 }
 
 /// Whether the numbers ascend, and are vertices.

@@ -1,9 +1,8 @@
--- As much flows out of a set as edges cross it, just where each edge that crosses carries one unit out.
+-- Where as much flows out of a set as edges cross it, each edge that crosses carries one unit out.
 --     IsFilled side edge amount          the edge takes one out where it crosses, and nothing elsewhere
---     out_over-filled, net_out-filled    as much flows out as edges cross, just where each edge is filled
---     IsFilled-out, -in, -within         what fills an edge that leaves the set, one that enters it, one that does not cross
+--     out_over-filled                    each edge is filled, where as much flows out as edges cross
 --     carries_out, carries_in            what flows over an edge that leaves or enters, where as much flows out as edges cross
-use Rattle.std.proofs.Common.{◌≡◌, ℕ, zero, suc, ◌+◌, ◌<◌, ◌≤◌, ℤ, pos, negsuc, ◌+ℤ◌, ◌-ℤ◌, ◌≤ℤ◌, nat_abs, Bool, true, false, cond, List, [], ◌∷◌, length, IsTrue, IsFalse, get_or, refl, ap, ◌∙◌, arith, All, zip}
+use Rattle.std.proofs.Common.{◌≡◌, ℕ, zero, suc, ◌+◌, ◌<◌, ◌≤◌, ℤ, pos, negsuc, ◌+ℤ◌, ◌-ℤ◌, ◌≤ℤ◌, nat_abs, Bool, true, false, cond, List, [], ◌∷◌, length, IsTrue, IsFalse, get_or, ap, ◌∙◌, arith, zip}
 use mathlib.Core.Bool.{xor}
 use Rattle.std.proofs.lemmas.Int.{ints}
 use Rattle.std.proofs.lemmas.List.Elements.{All-head, All-tail}
@@ -59,37 +58,6 @@ out_over-filled side (edge ∷ edges) (amount ∷ flow) sized slotless filled i 
           → IsFilled side (get_or (edge ∷ edges) k none) (get_or (amount ∷ flow) k default)
       at zero low short further = here
       at (suc k) low short further = further k none default (omega arith) (omega arith)
-
--- and the other way round
-pub net_out-filled : (side : Side) (edges : List CutEdge) (flow : List ℤ) → length flow ≡ length edges
-    → All (λ it. IsFilled side it.0 it.1) (zip edges flow) → net_out side edges flow ≡ pos (crossings side edges)
-net_out-filled side [] flow each filled = refl
-net_out-filled side (edge ∷ edges) [] each filled = absurd (omega arith)
-net_out-filled side (edge ∷ edges) (amount ∷ flow) each filled =
-    let one : IsFilled side edge amount = All-head (λ it. IsFilled side it.0 it.1) (edge, amount) (zip edges flow) filled in
-    let rest = net_out-filled side edges flow (omega arith) (All-tail (λ it. IsFilled side it.0 it.1) (edge, amount) (zip edges flow) filled) in
-    rw crossings-cons (rw (one, rest) refl)
-
--- an edge that leaves the set is filled by one unit along it
-pub IsFilled-out : (side : Side) (edge : CutEdge) → IsTrue (side edge.from) → IsFalse (side edge.to) → IsFilled side edge (pos 1)
-unfolding xor
-IsFilled-out side edge from to = rw (from, to) refl
-
--- one that enters it by one unit against it
-pub IsFilled-in : (side : Side) (edge : CutEdge) → IsFalse (side edge.from) → IsTrue (side edge.to) → IsFilled side edge (negsuc 0)
-unfolding xor
-IsFilled-in side edge from to = rw (from, to) refl
-
-within : (one to : Bool) (amount : ℤ) → IsFalse (xor one to) → cond one amount (pos 0) -ℤ cond to amount (pos 0) ≡ pos (cond (xor one to) 1 0)
-unfolding xor
-within true true amount apart = omega (arith, ints)
-within true false amount apart = cc
-within false true amount apart = cc
-within false false amount apart = refl
-
--- another by whatever flows over it
-pub IsFilled-within : (side : Side) (edge : CutEdge) (amount : ℤ) → IsFalse (crosses side edge) → IsFilled side edge amount
-IsFilled-within side edge amount apart = within (side edge.from) (side edge.to) amount apart
 
 -- an edge out of the set
 out-one : (one to : Bool) (amount : ℤ) → IsTrue one → IsFalse to

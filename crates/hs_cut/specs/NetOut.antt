@@ -1,8 +1,8 @@
 -- What flows out of a set, less what flows in, over the edges of a list: sums, and their bounds.
 --     net_out-empty, net_out-same, net_out-join, net_out-with     sets: none, the same, two without a common vertex, one vertex more
---     net_out-append, net_out-slice_set                           lists: one after the other, one number changed
---     net_out-size, net_out-crossings                             how much it is at most
-use Rattle.std.proofs.Common.{◌≡◌, ℕ, zero, suc, ◌+◌, ◌*◌, ◌<◌, ◌≤◌, ℤ, pos, negsuc, ◌+ℤ◌, ◌-ℤ◌, ◌≤ℤ◌, nat_abs, Bool, true, false, ◌&&◌, ◌||◌, cond, List, [], ◌∷◌, ◌++◌, length, IsFalse, nat_eq, get_or, slice_set, refl, ap, ◌∙◌, arith, All, zip, suc-mul, true≢false}
+--     net_out-slice_set                                           one number changed
+--     out_over-size, net_out-crossings                            how much it is at most
+use Rattle.std.proofs.Common.{◌≡◌, ℕ, zero, suc, ◌+◌, ◌<◌, ◌≤◌, ℤ, pos, negsuc, ◌+ℤ◌, ◌-ℤ◌, ◌≤ℤ◌, nat_abs, Bool, true, false, ◌&&◌, ◌||◌, cond, List, [], ◌∷◌, length, IsFalse, nat_eq, get_or, slice_set, refl, arith, All, zip, true≢false}
 use mathlib.Core.Bool.{xor}
 use Rattle.std.proofs.lemmas.Int.{ints}
 use Rattle.std.proofs.lemmas.Bool.Decides.{nat_tests}
@@ -83,25 +83,6 @@ net_out-with side vertex absent edges flow = net_out-join side (nat_eq vertex) (
   apart it true same = let at : vertex ≡ it = grind (arith, nat_tests) in rw (← at) (rw absent refl)
   apart it false other = grind (arith, nat_tests)
 
--- one list of edges after the other
-pub net_out-append : (side : Side) (edges more : List CutEdge) (flow rest : List ℤ) → length flow ≡ length edges
-    → net_out side (edges ++ more) (flow ++ rest) ≡ net_out side edges flow +ℤ net_out side more rest
-net_out-append side [] more [] rest each = omega (arith, ints)
-net_out-append side [] more (amount ∷ flow) rest each = absurd (omega arith)
-net_out-append side (edge ∷ edges) more [] rest each = absurd (omega arith)
-net_out-append side (edge ∷ edges) more (amount ∷ flow) rest each =
-    let so : length flow ≡ length edges = omega arith in
-    let tail = net_out-append side edges more flow rest so in
-    grouped (out_over side edge amount) (net_out side (edges ++ more) (flow ++ rest)) (net_out side edges flow) (net_out side more rest) tail
-
--- one edge more at the end
-pub net_out-push : (side : Side) (edges : List CutEdge) (flow : List ℤ) (edge : CutEdge) (amount : ℤ) → length flow ≡ length edges
-    → net_out side (edges ++ edge ∷ []) (flow ++ amount ∷ []) ≡ net_out side edges flow +ℤ out_over side edge amount
-net_out-push side edges flow edge amount each =
-    net_out-append side edges (edge ∷ []) flow (amount ∷ []) each ∙ ap (λ it. net_out side edges flow +ℤ it) (alone (out_over side edge amount)) where
-      alone : (one : ℤ) → one +ℤ pos 0 ≡ one
-      alone one = omega (arith, ints)
-
 -- what a change of one number changes
 pub net_out-slice_set : (side : Side) (edges : List CutEdge) (flow : List ℤ) (i : ℕ) (amount default : ℤ) (none : CutEdge)
     → i < length edges → i < length flow
@@ -118,51 +99,15 @@ net_out-slice_set side (edge ∷ edges) (before ∷ flow) (suc i) amount default
     grouped (out_over side edge before) (net_out side edges (slice_set flow i amount)) (net_out side edges flow)
     (out_over side (get_or edges i none) amount -ℤ out_over side (get_or edges i none) (get_or flow i default)) further
 
--- a number of limited size is at most the limit, and the limit below 0 at least
-pub top-from_size : (it : ℤ) (limit : ℕ) → nat_abs it ≤ limit → (it ≤ℤ pos limit)
-top-from_size (pos n) limit low = omega (arith, ints)
-top-from_size (negsuc n) limit low = omega (arith, ints)
-
-pub bottom-from_size : (it : ℤ) (limit : ℕ) → nat_abs it ≤ limit → (pos 0 ≤ℤ (it +ℤ pos limit))
-bottom-from_size (pos n) limit low = omega (arith, ints)
-bottom-from_size (negsuc n) limit low = omega (arith, ints)
-
--- and the other way round
-pub size-from_ends : (it : ℤ) (limit : ℕ) → (it ≤ℤ pos limit) → (pos 0 ≤ℤ (it +ℤ pos limit)) → nat_abs it ≤ limit
-size-from_ends (pos n) limit top bottom = omega (arith, ints)
-size-from_ends (negsuc n) limit top bottom = omega (arith, ints)
-
--- a sum of two numbers of limited size
-pub size-add : (one other : ℤ) (a b : ℕ) → nat_abs one ≤ a → nat_abs other ≤ b → nat_abs (one +ℤ other) ≤ a + b
-size-add one other a b low short =
-    let one_top = top-from_size one a low in
-    let one_bottom = bottom-from_size one a low in
-    let other_top = top-from_size other b short in
-    let other_bottom = bottom-from_size other b short in
-    size-from_ends (one +ℤ other) (a + b) (omega (arith, ints)) (omega (arith, ints))
-
--- the edge alone
+-- an edge takes out no more than flows over it
 pub out_over-size : (side : Side) (edge : CutEdge) (amount : ℤ) (limit : ℕ) → nat_abs amount ≤ limit → nat_abs (out_over side edge amount) ≤ limit
-out_over-size side edge amount limit low =
-    by_cases (side edge.from) (side edge.to) (top-from_size amount limit low) (bottom-from_size amount limit low) where
-      by_cases : (one to : Bool) → (amount ≤ℤ pos limit) → (pos 0 ≤ℤ (amount +ℤ pos limit))
-          → nat_abs (cond one amount (pos 0) -ℤ cond to amount (pos 0)) ≤ limit
-      by_cases true true top bottom = size-from_ends (amount -ℤ amount) limit (omega (arith, ints)) (omega (arith, ints))
-      by_cases true false top bottom = size-from_ends (amount -ℤ pos 0) limit (omega (arith, ints)) (omega (arith, ints))
-      by_cases false true top bottom = size-from_ends (pos 0 -ℤ amount) limit (omega (arith, ints)) (omega (arith, ints))
-      by_cases false false top bottom = omega arith
-
--- all edges: no more than their number times the limit
-pub net_out-size : (side : Side) (limit : ℕ) (edges : List CutEdge) (flow : List ℤ) → All (λ amount. nat_abs amount ≤ limit) flow
-    → nat_abs (net_out side edges flow) ≤ length edges * limit
-net_out-size side limit [] flow low = omega arith
-net_out-size side limit (edge ∷ edges) [] low = omega arith
-net_out-size side limit (edge ∷ edges) (amount ∷ flow) low =
-    let here : nat_abs amount ≤ limit = All-head (λ it. nat_abs it ≤ limit) amount flow low in
-    let one = out_over-size side edge amount limit here in
-    let rest = net_out-size side limit edges flow (All-tail (λ it. nat_abs it ≤ limit) amount flow low) in
-    let both = size-add (out_over side edge amount) (net_out side edges flow) limit (length edges * limit) one rest in
-    rw suc-mul (omega (arith, both))
+out_over-size side edge amount limit low = by_sides (side edge.from) (side edge.to) amount limit low
+  where
+    by_sides : (from to : Bool) (amount : ℤ) (limit : ℕ) → nat_abs amount ≤ limit → nat_abs (cond from amount (pos 0) -ℤ cond to amount (pos 0)) ≤ limit
+    by_sides true true amount limit low = omega (arith, ints)
+    by_sides true false amount limit low = omega (arith, ints)
+    by_sides false true amount limit low = omega (arith, ints)
+    by_sides false false amount limit low = omega (arith, ints)
 
 -- no more cross than there are
 pub crossings-length : (side : Side) (edges : List CutEdge) → crossings side edges ≤ length edges
