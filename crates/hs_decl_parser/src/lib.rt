@@ -12,8 +12,6 @@ mod names;
 mod parse_error;
 mod parts;
 mod statements;
-#[cfg(test)]
-mod tests;
 mod units;
 mod words;
 

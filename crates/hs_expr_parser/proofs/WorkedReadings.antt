@@ -4,9 +4,9 @@ use Rattle.std.specs.Prelude.{codes}
 use Rattle.hs_tokens.specs.declared.token.SourceToken.{SourceToken}
 use Rattle.hs_tokens.specs.declared.token.TokenKind.{TokenKind}
 use Rattle.hs_tokens.specs.declared.token.TokenKind.TheVariants.{Identifier, Number, Literal, Punctuator}
+use Rattle.hs_syntax.specs.Forms.{nowhere}
 use Rattle.hs_syntax.specs.Names.{keywords}
 use Rattle.hs_syntax.specs.Phrases.{specifier_words}
-use Rattle.hs_syntax.specs.Spelling.{nowhere}
 use Rattle.hs_syntax.specs.Trees as tree
 use Rattle.hs_syntax.specs.Trees.{Expression, NamedType}
 use Rattle.hs_syntax.specs.declared.operators.AssignOperator.TheVariants.{Plain}

@@ -12,8 +12,6 @@ mod operators;
 mod parse_end;
 mod postfixes;
 mod rank;
-#[cfg(test)]
-mod tests;
 mod type_names;
 mod types;
 mod unaries;

@@ -10,20 +10,13 @@ use Rattle.hs_syntax.specs.Parts.{in_parens}
 use Rattle.hs_syntax.specs.Phrases.{begins_none, begins_parameters, has_specifiers, is_empty, is_typed, rank}
 use Rattle.hs_syntax.specs.Trees as tree
 
--- the first of two, and the second
-left_of : (one other : Bool) → (one && other) ≡ true → one ≡ true
-left_of one other both = (and_parts one other both).0
-
-right_of : (one other : Bool) → (one && other) ≡ true → other ≡ true
-right_of one other both = (and_parts one other both).1
-
 pub groups_left : GroupsLeft
 groups_left known a b c first second at place = (
   λ fits.
-      let low : nat_le (2 + level_of second) (2 + level_of first) ≡ true = left_of _ _ (left_of _ _ fits) in
+      let low : nat_le (2 + level_of second) (2 + level_of first) ≡ true = (and_parts _ _ (and_parts _ _ fits).0).0 in
       omega (arith, leb-true (2 + level_of second) (2 + level_of first) low),
   λ fits.
-      let high : nat_le (2 + suc (level_of first)) (2 + level_of second) ≡ true = left_of _ _ (right_of _ _ fits) in
+      let high : nat_le (2 + suc (level_of first)) (2 + level_of second) ≡ true = (and_parts _ _ (and_parts _ _ fits).1).0 in
       omega (arith, leb-true (2 + suc (level_of first)) (2 + level_of second) high),
 )
 
@@ -44,8 +37,8 @@ pub types_begin_parameters : TypesBeginParameters
 types_begin_parameters known it fits =
     let begins = begins_parameters known (declarator_form known true it).pieces in
     let inside = not begins && (declarator_form known true it).fits in
-    not_true begins (left_of (not begins) (declarator_form known true it).fits
-    (right_of (not (is_empty it)) inside (left_of (not (is_empty it) && inside) true fits)))
+    let both : (not (is_empty it) && inside) ≡ true = (and_parts (not (is_empty it) && inside) true fits).0 in
+    not_true begins (and_parts (not begins) (declarator_form known true it).fits (and_parts (not (is_empty it)) inside both).1).0
 
 pub specifiers_go_on : SpecifiersGoOn
-specifiers_go_on known it fits = left_of _ _ (right_of _ _ (right_of _ _ fits))
+specifiers_go_on known it fits = (and_parts _ _ (and_parts _ _ (and_parts _ _ fits).1).1).0

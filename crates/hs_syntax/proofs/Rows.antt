@@ -1,10 +1,9 @@
 -- Rows on which the definitions compute.
 use Rattle.std.proofs.Common.{◌≡◌, ℕ, Bool, true, false, List, [], ◌∷◌, length, map, Option, Some, None, refl}
 use Rattle.std.specs.Prelude.{codes}
-use Rattle.hs_syntax.specs.Forms.{Form}
+use Rattle.hs_syntax.specs.Forms.{Form, nowhere}
 use Rattle.hs_syntax.specs.Grammar.{declarator_form, expression_form, statement_form, unit_form}
 use Rattle.hs_syntax.specs.Names.{keywords}
-use Rattle.hs_syntax.specs.Spelling.{nowhere}
 use Rattle.hs_syntax.specs.Trees as tree
 use Rattle.hs_syntax.specs.Phrases.{specifier_words}
 use Rattle.hs_syntax.specs.Trees.{Expression, Lefts, Specification, Declared, Statement, Compound, ExternalDeclaration, TranslationUnit}

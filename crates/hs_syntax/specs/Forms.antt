@@ -1,4 +1,5 @@
 -- What the grammar is written in: a form is the tokens of a phrase, and whether the phrase is one of the grammar.
+--     nowhere                      no place in any file
 --     Piece                        a token as a tree has it
 --     Form, ◌⨾◌, when, nothing_at_all     forms, one after another, under a condition, and the empty one
 --     mark, word, keyword_at, ..   the forms of one token
@@ -6,11 +7,16 @@
 use Rattle.std.specs.Prelude.{◌≡◌, ℕ, Bool, true, ◌&&◌, List, [], ◌∷◌, ◌++◌, Option, Some, None, IfSome}
 use Rattle.hs_base.specs.declared.pos.Pos.{Pos}
 use Rattle.hs_tokens.specs.declared.token.Origin.{Origin}
+use Rattle.hs_tokens.specs.declared.token.Origin.TheVariants.{Plain}
 use Rattle.hs_tokens.specs.declared.token.SourceToken.{SourceToken}
 use Rattle.hs_tokens.specs.declared.token.TokenKind.{TokenKind}
 use Rattle.hs_tokens.specs.declared.token.TokenKind.TheVariants.{Identifier, Number, Character, Literal, Punctuator}
 use Rattle.hs_syntax.specs.declared.word.Place.{Place}
 use Rattle.hs_syntax.specs.declared.word.Word.{Word}
+
+-- no place in any file: lines and columns count from 1
+abbrev pub nowhere : Place
+nowhere = record { pos = record { file = 0; line = 0; col = 0 }; origin = Plain }
 
 -- a token: its kind and its text, and its place where the tree has it
 pub record Piece : Type 0 where

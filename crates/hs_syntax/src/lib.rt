@@ -2,7 +2,6 @@
 //! which relates trees and tokens.
 #![tactic(auto)]
 
-mod copy;
 mod decl;
 mod expr;
 mod laws;
@@ -10,13 +9,7 @@ mod level;
 mod mark;
 mod nesting;
 mod operators;
-mod same;
-#[cfg(test)]
-mod spell_tests;
-mod spelling;
 mod stmt;
-#[cfg(test)]
-mod tests;
 mod unit;
 mod word;
 
@@ -31,7 +24,6 @@ pub use operators::{
     Access, AssignOperator, Basic, BinaryOperator, Dropped, Pointer, PostfixOperator,
     PrefixOperator, Storage,
 };
-pub use spelling::spell;
 pub use stmt::{Block, Label, Labelled, Stmt};
 pub use unit::{External, Unit};
 pub use word::{Place, Word};

@@ -1,0 +1,3 @@
+pub mod Sourced
+pub mod Written
+pub mod WrittenDeclarations

@@ -1,6 +1,0 @@
-use Rattle.hs_syntax.specs.Views.{view}
-use Rattle.hs_syntax.proofs.Sameness.{same_but_places}
-use Rattle.hs_syntax.proofs.expr.Expr.is_same_but_places.Goals as goal
-
-pub returns : goal.returns
-returns c = same_but_places (view c.args.self.now) (view c.args.other.now) c.is_alike.result c.is_alike.ensures
