@@ -10,8 +10,6 @@ mod numbers;
 mod reader;
 mod stale_uses;
 mod steps;
-#[cfg(test)]
-mod tests;
 
 pub use reader::read;
 pub use stale_uses::check;

@@ -1,5 +1,6 @@
-use super::read;
+//! The reader of straight programs: the steps of a worked row with their places, and what is a straight program.
 use hs_base::Pos;
+use hs_checker::straight::read;
 use hs_tokens::{Origin, SourceToken, scan};
 use hs_tree::straight::{Expr, Step};
 use std::alloc::Global;
@@ -77,38 +78,64 @@ fn is_body_read(alloc: Global, body: &str) -> Result<bool, Fail> {
     is_read(alloc, &text)
 }
 
+/// The first of the bodies that is read, if any.
+fn read_body<'a>(alloc: Global, bodies: &[&'a str]) -> Result<Option<&'a str>, Fail> {
+    for body in bodies {
+        if is_body_read(alloc, body)? {
+            return Ok(Some(*body));
+        }
+    }
+    Ok(None)
+}
+
+/// Bodies that end too early, too late, or in another value.
+const ENDS: [&str; 6] = [
+    "",
+    "return 0;",
+    "return 0; } }",
+    "char x; x = 1; return 0",
+    "char x; x = 1; return 1; }",
+    "char x; x = 1 return 0; }",
+];
+
+/// Bodies whose numbers are out of range or have no form.
+const NUMBERS: [&str; 4] = [
+    "char x; x = 128; return 0; }",
+    "char x; x = 01; return 0; }",
+    "char x; x = + 1; return 0; }",
+    "char **h; h = NewHandle(32768); return 0; }",
+];
+
+/// Bodies with names that are declared twice, are reserved, have no form, or are not declared.
+const NAMES: [&str; 5] = [
+    "char x; char *x; return 0; }",
+    "char while; return 0; }",
+    "char HLock; return 0; }",
+    "char 1x; return 0; }",
+    "char x; y = 1; return 0; }",
+];
+
+/// Bodies that use a variable before it is assigned or against its type, or declare one too late.
+const USES: [&str; 4] = [
+    "char x; putchar(x); return 0; }",
+    "char *p; p = 1; return 0; }",
+    "char **h; char *p; p = *h; return 0; }",
+    "char x; x = 1; char y; return 0; }",
+];
+
 // Most of them are a text of the next table with one thing changed.
 #[test]
 fn what_is_no_straight_program_is_refused(rt: HostRuntime) -> Result<(), Fail> {
-    let bodies = [
-        "",
-        "return 0;",
-        "return 0; } }",
-        "char x; putchar(x); return 0; }",
-        "char x; x = 128; return 0; }",
-        "char x; x = 01; return 0; }",
-        "char **h; h = NewHandle(32768); return 0; }",
-        "char x; char *x; return 0; }",
-        "char while; return 0; }",
-        "char HLock; return 0; }",
-        "char 1x; return 0; }",
-        "char x; y = 1; return 0; }",
-        "char *p; p = 1; return 0; }",
-        "char **h; char *p; p = *h; return 0; }",
-        "char x; x = 1; char y; return 0; }",
-        "char x; x = 1 return 0; }",
-        "char x; x = + 1; return 0; }",
-        "char x; x = 1; return 0",
-        "char x; x = 1; return 1; }",
-    ];
-    for body in bodies {
-        assert!(rt; !is_body_read(rt.alloc(), body)?);
-    }
-    assert!(rt; !is_read(rt.alloc(), "")?);
-    assert!(rt; !is_read(rt.alloc(), "char **NewHandle(lo")?);
+    let alloc = rt.alloc();
+    assert_eq!(rt; read_body(alloc, &ENDS)?, None);
+    assert_eq!(rt; read_body(alloc, &NUMBERS)?, None);
+    assert_eq!(rt; read_body(alloc, &NAMES)?, None);
+    assert_eq!(rt; read_body(alloc, &USES)?, None);
+    assert!(rt; !is_read(alloc, "")?);
+    assert!(rt; !is_read(alloc, "char **NewHandle(lo")?);
     let joined =
         "char **NewHandle(long n); void HLock(char **h); void HUnlock(char **h); int putchar(int c); intmain(void) { return 0; }";
-    assert!(rt; !is_read(rt.alloc(), joined)?);
+    assert!(rt; !is_read(alloc, joined)?);
     Ok(())
 }
 
@@ -125,7 +152,7 @@ fn what_is_a_straight_program_is_read(rt: HostRuntime) -> Result<(), Fail> {
         "char **h; char *p; h = NewHandle(0); p = *h; *p = *p; return 0; }",
     ];
     for body in bodies {
-        assert!(rt; is_body_read(rt.alloc(), body)?);
+        assert!(rt; is_body_read(rt.alloc(), body)?, "{body}");
     }
     Ok(())
 }

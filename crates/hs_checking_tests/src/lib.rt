@@ -1,0 +1,5 @@
+//! Tests of the checker of straight programs. It exports nothing.
+#![tactic(auto)]
+
+#[cfg(test)]
+mod straight;
