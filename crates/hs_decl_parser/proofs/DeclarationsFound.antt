@@ -20,7 +20,7 @@ use Rattle.hs_syntax.specs.declared.word.Place.{Place}
 use Rattle.hs_expr_parser.specs.Ahead.{is_ahead, is_mark_ahead, begins_specifier}
 use Rattle.hs_expr_parser.specs.Reading.{Known}
 use Rattle.hs_expr_parser.specs.Laws.Gives.{Gives, some_gives, then_gives, going_gives, if_gives, so_gives}
-use Rattle.hs_expr_parser.specs.Laws.Spelled.{Begins, form_again, nothing_begins, then_begins, when_begins}
+use Rattle.hs_expr_parser.specs.Laws.Spelled.{Begins, form_again, nothing_begins, then_begins, when_begins, form_nothing}
 use Rattle.hs_expr_parser.specs.Laws.Firsts.{mark_gives}
 use Rattle.hs_expr_parser.specs.Laws.Tables.{Grows, one_grows, more_grows, Declares}
 use Rattle.hs_expr_parser.specs.Laws.SpecifiersFound.{SomeSpecified, followed}
@@ -30,15 +30,6 @@ use Rattle.hs_decl_parser.specs.Reading.{Shorter, braces_rule, starting_value, i
 use Rattle.hs_decl_parser.proofs.TablesFound.{Adds, none_added, one_added, initialiser_gives, initialisers_gives, items_gives, declarations_gives}
 
 -- ---- forms
-
--- a test and none
-and_nothing : (one : Bool) → (one && true) ≡ one
-and_nothing true = refl
-and_nothing false = refl
-
--- a form and nothing behind it
-form_nothing : (one : Form) → (one ⨾ nothing_at_all) ≡ one
-form_nothing one = λ i. record { fits = and_nothing one.fits i; pieces = append-nil one.pieces i }
 
 -- three forms, where the first two are found together
 pub grouped : (one two three : Form) (tokens middle rest : List SourceToken) → Begins (one ⨾ two) tokens middle → Begins three middle rest

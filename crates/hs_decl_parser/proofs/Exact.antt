@@ -18,7 +18,7 @@ use Rattle.hs_expr_parser.specs.Recursion.{Read}
 use Rattle.hs_expr_parser.specs.Steps.{declarator_at}
 use Rattle.hs_expr_parser.specs.Laws.Apart.{split}
 use Rattle.hs_expr_parser.specs.Laws.Gives.{Gives}
-use Rattle.hs_expr_parser.specs.Laws.Spelled.{Begins, is_behind, form_again}
+use Rattle.hs_expr_parser.specs.Laws.Spelled.{Begins, is_behind, form_again, form_nothing}
 use Rattle.hs_decl_parser.specs.Steps.{external_at}
 use Rattle.hs_decl_parser.specs.Units.{names_of, BeginsNone, IsStuck}
 use Rattle.hs_decl_parser.proofs.Complete.{all_external}
@@ -60,19 +60,10 @@ external_none known tokens is n it fits =
 
 -- ---- units
 
--- a condition that always holds
-and_true : (condition : Bool) → (condition && true) ≡ condition
-and_true true = refl
-and_true false = refl
-
--- a phrase in front of nothing
-before_nothing : (form : Form) → (form ⨾ nothing_at_all) ≡ form
-before_nothing form = λ i. record { fits = and_true form.fits i; pieces = append-nil form.pieces i }
-
 -- one more external declaration
 more_form : (known : Known) (its : TranslationUnit) (it : ExternalDeclaration)
     → unit_form known (its ++ it ∷ []) ≡ (unit_form known its ⨾ external_form (known ++ names_of its) it)
-more_form known [] it = before_nothing (external_form known it) ∙ ap (λ known. external_form known it) (sym (append-nil known))
+more_form known [] it = form_nothing (external_form known it) ∙ ap (λ known. external_form known it) (sym (append-nil known))
 more_form known (first ∷ rest) it =
     ap (λ form. external_form known first ⨾ form) (more_form (known ++ made_by first) rest it)
     ∙ sym (form_again (external_form known first) (unit_form (known ++ made_by first) rest) (external_form ((known ++ made_by first) ++ names_of rest) it))

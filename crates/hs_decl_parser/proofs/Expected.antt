@@ -14,14 +14,11 @@ use Rattle.hs_syntax.specs.Trees as tree
 use Rattle.hs_syntax.specs.Trees.{Initialising, Initialisers, Declaring, Declaration, Labelling, Statement, Compound, Statements, ExternalDeclaration}
 use Rattle.hs_expr_parser.specs.Ahead.{is_ahead, is_mark_ahead, begins_specifier, stops}
 use Rattle.hs_expr_parser.specs.Reading.{Known}
+use Rattle.hs_expr_parser.specs.Laws.Recursions.{Short}
 use Rattle.hs_decl_parser.specs.Found.{more_items_form}
 use Rattle.hs_decl_parser.specs.Goals.{Goal, Tree}
 use Rattle.hs_decl_parser.specs.Reading.{Shorter, rule, initialiser_rule, initialisers_rule, items_rule, declaration_rule, declarations_rule, labels_rule, statement_rule, block_rule, statements_rule, external_rule}
 use Rattle.hs_decl_parser.specs.Words.{is_else_ahead, begins_label}
-
--- what is left is no longer than what was read
-abbrev pub Short : Shorter → Type 0
-Short table = (it : Goal) (tokens : List SourceToken) (tree : Tree it) (rest : List SourceToken) → table it tokens ≡ Some (tree, rest) → length rest ≤ length tokens
 
 -- a table that reads by the rules
 pub record Whole (known : Known) (table : Shorter) : Type 0 where

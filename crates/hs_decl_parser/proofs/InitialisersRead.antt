@@ -17,11 +17,12 @@ use Rattle.hs_expr_parser.specs.Ahead.{place_of, is_punctuator, is_mark_ahead, m
 use Rattle.hs_expr_parser.specs.Recursion.{Read}
 use Rattle.hs_expr_parser.specs.Reading.{Known, ◌>>=◌, going_on}
 use Rattle.hs_expr_parser.specs.Steps.{assignment_at}
-use Rattle.hs_expr_parser.specs.Laws.Apart.{with_text, one_token}
+use Rattle.hs_expr_parser.specs.Laws.Apart.{with_text, one_token, first_when}
 use Rattle.hs_expr_parser.specs.Laws.Commas.{after_comma}
-use Rattle.hs_expr_parser.specs.Laws.FirstTokens.{grouped, join, mark_missing, mark_no_mark}
+use Rattle.hs_expr_parser.specs.Laws.FirstTokens.{grouped, mark_missing, mark_no_mark}
 use Rattle.hs_expr_parser.specs.Laws.Phrases.{assignment_reads}
 use Rattle.hs_expr_parser.specs.Laws.Primaries.{closes, mark_reads, bracketed, behind}
+use Rattle.hs_expr_parser.specs.Laws.Spelled.{is_behind}
 use Rattle.hs_decl_parser.proofs.Expected.{Whole, initialisers_in, ReadsInitialiser, ReadsInitialisers}
 use Rattle.hs_decl_parser.proofs.NotAhead.{not_ahead, brace_no_assignment, close_no_assignment}
 use Rattle.hs_decl_parser.proofs.TestsRead.{mark_stops}
@@ -49,15 +50,6 @@ value_all {known = known} {table = table} whole e front rest fits ends =
     let reads = assignment_reads known e front rest fits ends in
     let brace = not_ahead (assignment_at known) Punctuator (codes "{") e (front ++ rest) rest (brace_no_assignment known) reads in
     ap (initialiser_by known table (front ++ rest)) (mark_missing (codes "{") (front ++ rest) brace) ∙ ap (λ found. found >>= made_value) reads
-
--- a condition on the first of two phrases
-first_when : (condition : Bool) (one other : Form) (sources : List SourceToken) → IsOf (when condition one ⨾ other) sources
-    → (condition ≡ true) × IsOf (one ⨾ other) sources
-first_when true one other sources fits = (refl, fits)
-first_when false one other sources fits = absurd (nothing fits.0)
-  where
-    nothing : false ≡ true → ⊥
-    nothing is = cc
 
 -- a list of them in braces
 pub list_all : {known : Known} {table : Shorter} → Whole known table → (at : Place) (its : Initialisers) (comma : Bool) → ReadsInitialisers known table its
@@ -108,7 +100,7 @@ initialisers_more : {known : Known} {table : Shorter} → Whole known table → 
 initialisers_more {known = known} {table = table} whole it its earlier comma two three rest reads has second third ends =
     let form : Form = initialisers_form known its in
     let after = after_comma form two second in
-    let all = join form (comma_form comma) after.others three after.fits third in
+    let all = is_behind form (comma_form comma) after.others three after.fits third in
     let same : after.others ++ (three ++ rest) ≡ (after.others ++ three) ++ rest = sym (append_assoc after.others three rest) in
     let tokens : List SourceToken = after.others ++ (three ++ rest) in
     let read = reads (earlier ++ it ∷ []) comma (after.others ++ three) rest has all ends in

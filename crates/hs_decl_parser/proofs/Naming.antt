@@ -16,7 +16,8 @@ use Rattle.hs_syntax.specs.declared.operators.Storage.TheVariants as storage
 use Rattle.hs_decl_parser.specs.Typedefs.{is_typedef_word}
 
 -- one more specifier
-more : (it : Specified) (rest : Bool) (its : tree.Specification) → is_typedef its ≡ rest → is_typedef (tree.more_specifiers it its) ≡ (is_typedef_word it || rest)
+more : (it : Specified) (rest : Bool) (its : tree.Specification) → is_typedef its ≡ rest → is_typedef (tree.more_specifiers it its)
+    ≡ (is_typedef_word it || rest)
 more (tree.storage storage.Typedef at) rest its is = refl
 more (tree.storage storage.Extern at) rest its is = is
 more (tree.storage storage.Static at) rest its is = is

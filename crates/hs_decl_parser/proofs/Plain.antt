@@ -1,7 +1,6 @@
 -- Each rule reads the same where it may ask the table about shorter lists alone: it asks about no others.
---     plain              a rule over shorter lists alone
---     reading_short      what is left is no longer than what was read
---     reading_is, whole  the reading is one round of its rules
+--     rule_alike       a rule over shorter lists alone
+--     whole, round     so the reading is a table that reads by the rules
 use Rattle.std.proofs.Common.{◌≡◌, ℕ, zero, suc, ◌<◌, ◌≤◌, Bool, true, false, List, [], ◌∷◌, ◌++◌, length, Option, Some, None, ◌∙◌, arith}
 use Rattle.std.specs.Prelude.{nat_lt, if◌then◌else◌}
 use Rattle.hs_tokens.specs.declared.token.SourceToken.{SourceToken}
@@ -10,17 +9,19 @@ use Rattle.hs_syntax.specs.Trees.{Specified, Declared, Initialising, Declaring, 
 use Rattle.hs_syntax.specs.declared.word.Place.{Place}
 use Rattle.hs_expr_parser.specs.Ahead.{place_of}
 use Rattle.hs_expr_parser.specs.Reading.{Known}
-use Rattle.hs_expr_parser.specs.Recursion.{Read, below, rounds}
+use Rattle.hs_expr_parser.specs.Recursion.{below}
 use Rattle.hs_expr_parser.specs.Laws.Bound.{Alike, alike_none, alike_some, alike_more, alike_bind, alike_going, alike_if, alike_mark, alike_first}
 use Rattle.hs_expr_parser.specs.Laws.Phrases.{expression_short, assignment_short, conditional_short, specifiers_short, declarator_short}
-use Rattle.hs_expr_parser.specs.Laws.Recursions.{below_is, fixed_is}
+use Rattle.hs_expr_parser.specs.Laws.Recursions as recursions
+use Rattle.hs_expr_parser.specs.Laws.Recursions.{Short, IsByRules}
+use Rattle.hs_expr_parser.specs.Laws.Rounds.{asks, fixed_by_rules}
 use Rattle.hs_decl_parser.specs.Goals as goal
 use Rattle.hs_decl_parser.specs.Goals.{Goal, Tree}
 use Rattle.hs_decl_parser.specs.Reading.{Shorter, braces_rule, starting_value, initialiser_rule, initialisers_rule, start_rule, item_behind, item_rule, items_rule, declared_rule, declaration_rule, declarations_rule, inner_rule, block_rule, test_rule, optional_rule, if_rule, while_rule, do_rule, controls_rule, for_rule, switch_rule, ended_rule, return_rule, plain_rule, statement_by, statement_rule, label_rule, labels_rule, labelled_rule, statements_rule, rule, reading}
 use Rattle.hs_decl_parser.specs.Words.{statement_word_of, keyword_at}
 use Rattle.hs_decl_parser.specs.declared.words.StatementWord.{StatementWord}
 use Rattle.hs_decl_parser.specs.declared.words.StatementWord.TheVariants.{If, While, Do, For, Switch, Break, Continue, Return}
-use Rattle.hs_decl_parser.proofs.Expected.{Short, Whole}
+use Rattle.hs_decl_parser.proofs.Expected.{Whole}
 
 -- ---- what asks no table
 
@@ -41,7 +42,8 @@ test known tokens =
     alike_some (omega arith)
 
 -- an expression or none
-optional : (known : Known) (mark : List ℕ) (tokens : List SourceToken) → Alike (length tokens) (optional_rule known mark tokens) (optional_rule known mark tokens)
+optional : (known : Known) (mark : List ℕ) (tokens : List SourceToken)
+    → Alike (length tokens) (optional_rule known mark tokens) (optional_rule known mark tokens)
 optional known mark tokens =
     alike_going (alike_mark _ tokens) (λ end rest short. alike_some short)
     (alike_bind (expression_short known tokens) λ e short.
@@ -66,7 +68,8 @@ return_of : (known : Known) (at : Place) (rest : List SourceToken) → Alike (su
 return_of known at rest = alike_bind (optional known _ rest) λ value short. alike_some (omega arith)
 
 -- a label
-label : (known : Known) (source : SourceToken) (rest : List SourceToken) → Alike (suc (length rest)) (label_rule known source rest) (label_rule known source rest)
+label : (known : Known) (source : SourceToken) (rest : List SourceToken)
+    → Alike (suc (length rest)) (label_rule known source rest) (label_rule known source rest)
 label known source rest =
     alike_if _
     (alike_bind (conditional_short known rest) λ e short.
@@ -75,23 +78,13 @@ label known source rest =
     (alike_bind (alike_mark _ rest) λ colon short. alike_some (omega arith))
 
 module _ (known : Known) (limit : ℕ) (table : Shorter) (shorts : Short table) where
-  -- what the table reads below the limit
-  asks : (it : Goal) (tokens : List SourceToken) → length tokens < limit → Alike (suc (length tokens)) (below limit table it tokens) (table it tokens)
-  asks it tokens low =
-      record {
-        same = below_is limit table it tokens low;
-        short = λ all is.
-            let short : length all.1 ≤ length tokens = shorts it tokens all.0 all.1 is in
-            omega arith;
-      }
-
   -- ---- declarations
 
   -- a list of initialisers
   braces : (at : Place) (rest : List SourceToken) → length rest < limit
       → Alike (suc (length rest)) (braces_rule (below limit table) at rest) (braces_rule table at rest)
   braces at rest low =
-      alike_bind (asks (goal.initialisers []) rest low) λ its short.
+      alike_bind (asks limit table shorts (goal.initialisers []) rest low) λ its short.
       alike_bind (alike_mark _ its.1) λ close shorter.
       alike_some (omega arith)
 
@@ -108,7 +101,7 @@ module _ (known : Known) (limit : ℕ) (table : Shorter) (shorts : Short table) 
       alike_bind (initialiser tokens low) λ it short.
       alike_going (alike_mark _ it.1)
       (λ comma rest shorter.
-      alike_if _ (alike_some (omega arith)) (alike_more (omega arith) (asks (goal.initialisers (earlier ++ it.0 ∷ [])) rest (omega arith))))
+      alike_if _ (alike_some (omega arith)) (alike_more (omega arith) (asks limit table shorts (goal.initialisers (earlier ++ it.0 ∷ [])) rest (omega arith))))
       (alike_some (omega arith))
 
   -- what a declarator starts with
@@ -117,7 +110,7 @@ module _ (known : Known) (limit : ℕ) (table : Shorter) (shorts : Short table) 
   start tokens low =
       alike_going (alike_mark _ tokens)
       (λ equals rest short.
-      alike_bind (asks goal.initialiser rest (omega arith)) λ it shorter.
+      alike_bind (asks limit table shorts goal.initialiser rest (omega arith)) λ it shorter.
       alike_some (omega arith))
       (alike_some (omega arith))
 
@@ -140,7 +133,7 @@ module _ (known : Known) (limit : ℕ) (table : Shorter) (shorts : Short table) 
       alike_going (alike_mark _ tokens)
       (λ comma rest short.
       alike_bind (item rest (omega arith)) λ it shorter.
-      alike_more (omega arith) (asks (goal.items (earlier ++ it.0 ∷ [])) it.1 (omega arith)))
+      alike_more (omega arith) (asks limit table shorts (goal.items (earlier ++ it.0 ∷ [])) it.1 (omega arith)))
       (alike_some (omega arith))
 
   -- the rest of a declaration
@@ -167,7 +160,7 @@ module _ (known : Known) (limit : ℕ) (table : Shorter) (shorts : Short table) 
   declarations earlier tokens low =
       alike_if _
       (alike_bind (declaration tokens low) λ it short.
-      alike_more (omega arith) (asks (goal.declarations (earlier ++ it.0 ∷ [])) it.1 (omega arith)))
+      alike_more (omega arith) (asks limit table shorts (goal.declarations (earlier ++ it.0 ∷ [])) it.1 (omega arith)))
       (alike_some (omega arith))
 
   -- ---- statements
@@ -176,8 +169,8 @@ module _ (known : Known) (limit : ℕ) (table : Shorter) (shorts : Short table) 
   inner : (at : Place) (rest : List SourceToken) → length rest < limit
       → Alike (suc (length rest)) (inner_rule (below limit table) at rest) (inner_rule table at rest)
   inner at rest low =
-      alike_bind (asks (goal.declarations []) rest low) λ declarations short.
-      alike_bind (asks (goal.statements []) declarations.1 (omega arith)) λ statements shorter.
+      alike_bind (asks limit table shorts (goal.declarations []) rest low) λ declarations short.
+      alike_bind (asks limit table shorts (goal.statements []) declarations.1 (omega arith)) λ statements shorter.
       alike_bind (alike_mark _ statements.1) λ close shortest.
       alike_some (omega arith)
 
@@ -193,10 +186,10 @@ module _ (known : Known) (limit : ℕ) (table : Shorter) (shorts : Short table) 
       → Alike (suc (length rest)) (if_rule known (below limit table) at rest) (if_rule known table at rest)
   if_of at rest low =
       alike_bind (test known rest) λ check short.
-      alike_bind (asks goal.statement check.1 (omega arith)) λ taken shorter.
+      alike_bind (asks limit table shorts goal.statement check.1 (omega arith)) λ taken shorter.
       alike_going (alike_keyword _ taken.1)
       (λ word others shortest.
-      alike_bind (asks goal.statement others (omega arith)) λ otherwise least.
+      alike_bind (asks limit table shorts goal.statement others (omega arith)) λ otherwise least.
       alike_some (omega arith))
       (alike_some (omega arith))
 
@@ -205,14 +198,14 @@ module _ (known : Known) (limit : ℕ) (table : Shorter) (shorts : Short table) 
       → Alike (suc (length rest)) (while_rule known (below limit table) at rest) (while_rule known table at rest)
   while_of at rest low =
       alike_bind (test known rest) λ check short.
-      alike_bind (asks goal.statement check.1 (omega arith)) λ body shorter.
+      alike_bind (asks limit table shorts goal.statement check.1 (omega arith)) λ body shorter.
       alike_some (omega arith)
 
   -- `do`
   do_of : (at : Place) (rest : List SourceToken) → length rest < limit
       → Alike (suc (length rest)) (do_rule known (below limit table) at rest) (do_rule known table at rest)
   do_of at rest low =
-      alike_bind (asks goal.statement rest low) λ body short.
+      alike_bind (asks limit table shorts goal.statement rest low) λ body short.
       alike_bind (alike_keyword _ body.1) λ word shorter.
       alike_bind (test known word.1) λ check shortest.
       alike_bind (alike_mark _ check.1) λ end least.
@@ -223,7 +216,7 @@ module _ (known : Known) (limit : ℕ) (table : Shorter) (shorts : Short table) 
       → Alike (suc (length rest)) (for_rule known (below limit table) at rest) (for_rule known table at rest)
   for_of at rest low =
       alike_bind (controls known rest) λ its short.
-      alike_bind (asks goal.statement its.1 (omega arith)) λ body shorter.
+      alike_bind (asks limit table shorts goal.statement its.1 (omega arith)) λ body shorter.
       alike_some (omega arith)
 
   -- `switch`
@@ -270,7 +263,7 @@ module _ (known : Known) (limit : ℕ) (table : Shorter) (shorts : Short table) 
   labels earlier (source ∷ rest) low =
       alike_if _
       (alike_bind (label known source rest) λ it short.
-      alike_more (omega arith) (asks (goal.labels (earlier ++ it.0 ∷ [])) it.1 (omega arith)))
+      alike_more (omega arith) (asks limit table shorts (goal.labels (earlier ++ it.0 ∷ [])) it.1 (omega arith)))
       (alike_some (omega arith))
 
   -- a statement with its labels
@@ -287,7 +280,7 @@ module _ (known : Known) (limit : ℕ) (table : Shorter) (shorts : Short table) 
   statements earlier tokens low =
       alike_if _ (alike_some (omega arith))
       (alike_bind (labelled tokens low) λ it short.
-      alike_more (omega arith) (asks (goal.statements (earlier ++ it.0 ∷ [])) it.1 (omega arith)))
+      alike_more (omega arith) (asks limit table shorts (goal.statements (earlier ++ it.0 ∷ [])) it.1 (omega arith)))
 
   -- ---- all of them
 
@@ -302,49 +295,14 @@ module _ (known : Known) (limit : ℕ) (table : Shorter) (shorts : Short table) 
   rule_alike (goal.statements earlier) tokens low = statements earlier tokens low
   rule_alike goal.statement tokens low = alike_more (omega arith) (statement tokens low)
 
--- each rule reads the same over shorter lists alone
-pub plain : (known : Known) (table : Shorter) → Short table → (it : Goal) (tokens : List SourceToken)
-    → rule known (below (length tokens) table) it tokens ≡ rule known table it tokens
-plain known table shorts it tokens = (rule_alike known (length tokens) table shorts it tokens (omega arith)).same
-
--- what a rule leaves is no longer than what it reads
-rule_short : (known : Known) (table : Shorter) → Short table → Short (rule known table)
-rule_short known table shorts it tokens tree rest is =
-    let short : length rest < suc (length tokens) = (rule_alike known (length tokens) table shorts it tokens (omega arith)).short (tree, rest) is in
-    omega arith
-
--- what is read below a limit is read without it
-below_by : (shorter : Bool) {A : Type 0} (it : Read A) (all : A × List SourceToken) → (if shorter then it else None) ≡ Some all → it ≡ Some all
-below_by true it all is = is
-below_by false it all is = absurd cc
-
--- what is left below a limit is no longer either
-below_short : (limit : ℕ) (table : Shorter) → Short table → Short (below limit table)
-below_short limit table shorts it tokens tree rest is =
-    shorts it tokens tree rest (below_by (nat_lt (length tokens) limit) (table it tokens) (tree, rest) is)
-
--- nor is what the rules leave, one inside another
-rounds_short : (known : Known) (n : ℕ) → Short (rounds (rule known) n)
-rounds_short known zero it tokens tree rest is = absurd cc
-rounds_short known (suc n) it tokens tree rest is =
-    rule_short known (below (length tokens) (rounds (rule known) n)) (below_short (length tokens) (rounds (rule known) n) (rounds_short known n))
-    it tokens tree rest is
-
--- what is left behind what is read is no longer than all of it
-pub reading_short : (known : Known) → Short (reading known)
-unfolding reading
-reading_short known it tokens tree rest is = rounds_short known (suc (length tokens)) it tokens tree rest is
-
--- what is read is what its rule reads
-pub reading_is : (known : Known) → Short (reading known) → (it : Goal) (tokens : List SourceToken)
-    → reading known it tokens ≡ rule known (reading known) it tokens
-unfolding reading
-reading_is known shorts it tokens = fixed_is (rule known) it tokens ∙ plain known (reading known) shorts it tokens
-
 -- the reading is a table that reads by the rules
+reads_by_rules : (known : Known) → IsByRules (rule known) (reading known)
+unfolding reading
+reads_by_rules known = fixed_by_rules (rule known) (λ limit table shorts it tokens low. rule_alike known limit table shorts it tokens low)
+
 pub whole : (known : Known) → Whole known (reading known)
-whole known = record { plain = reading_is known (reading_short known); short = reading_short known }
+whole known = record { plain = (reads_by_rules known).plain; short = (reads_by_rules known).short }
 
 -- one round of it
 pub round : (known : Known) → reading known ≡ rule known (reading known)
-round known = λ i it tokens. reading_is known (reading_short known) it tokens i
+round known = recursions.round (reads_by_rules known)

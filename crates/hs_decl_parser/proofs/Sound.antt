@@ -13,7 +13,7 @@ use Rattle.hs_syntax.specs.Trees as tree
 use Rattle.hs_syntax.specs.Trees.{Specified, Declared, ExternalDeclaration}
 use Rattle.hs_expr_parser.specs.Ahead.{is_ahead, is_mark_ahead, begins_specifier}
 use Rattle.hs_expr_parser.specs.Reading.{Known}
-use Rattle.hs_expr_parser.specs.Recursion.{below, rounds}
+use Rattle.hs_expr_parser.specs.Laws.Recursions.{fixed_always}
 use Rattle.hs_expr_parser.specs.Laws.Gives.{Gives, some_gives, then_gives, going_gives, if_gives}
 use Rattle.hs_expr_parser.specs.Laws.Spelled.{Begins, nothing_begins, then_begins, when_begins}
 use Rattle.hs_expr_parser.specs.Laws.Firsts.{mark_gives}
@@ -53,25 +53,10 @@ rule_found known table found goal.statement tokens statement rest is =
     let it = (statement_found known table found tokens).holds statement rest is in
     (it.begins.front, it.begins.whole, (it.begins.is, it.closed))
 
--- a table below a limit reads what the table reads
-below_found : (known : Known) (limit : ℕ) (table : Shorter) → IsFound known table → IsFound known (below limit table)
-below_found known limit table found it tokens tree rest = by_test (nat_lt (length tokens) limit)
-  where
-    by_test : (shorter : Bool) → (if shorter then table it tokens else None) ≡ Some (tree, rest) → Takes known it tree tokens rest
-    by_test true is = found it tokens tree rest is
-    by_test false is = absurd cc
-
--- the rules applied any number of times
-rounds_found : (known : Known) (n : ℕ) → IsFound known (rounds (rule known) n)
-rounds_found known zero it tokens tree rest is = absurd cc
-rounds_found known (suc n) it tokens tree rest is =
-    rule_found known (below (length tokens) (rounds (rule known) n)) (below_found known (length tokens) (rounds (rule known) n) (rounds_found known n))
-    it tokens tree rest is
-
 -- what the reading gives is in the grammar
 pub reading_found : (known : Known) → IsFound known (reading known)
 unfolding reading
-reading_found known it tokens tree rest is = rounds_found known (suc (length tokens)) it tokens tree rest is
+reading_found known = fixed_always (Takes known) (rule known) (rule_found known)
 
 -- ---- external declarations
 

@@ -53,7 +53,8 @@ word_gives text (source ∷ rest) = given (is_keyword text source) refl
     given false is = none_gives
 
 -- an `else` that is read stands there
-else_there : (tokens : List SourceToken) (at : Place) (rest : List SourceToken) → keyword_at (codes "else") tokens ≡ Some (at, rest) → is_else_ahead tokens ≡ true
+else_there : (tokens : List SourceToken) (at : Place) (rest : List SourceToken) → keyword_at (codes "else") tokens ≡ Some (at, rest)
+    → is_else_ahead tokens ≡ true
 else_there [] at rest is = absurd cc
 else_there (source ∷ others) at rest is = given (is_keyword (codes "else") source) is
   where
@@ -271,7 +272,8 @@ module _ (known : Known) (table : Shorter) (found : IsFound known table) where
       some_gives (tree.return_ at e) after (record { begins = then_begins word value; closed = λ ends. absurd cc }))
 
   -- a statement that begins with no word of its own
-  plain_found : (source : SourceToken) (rest : List SourceToken) → Gives (λ it after. Stated known it (source ∷ rest) after) (plain_rule known table source rest)
+  plain_found : (source : SourceToken) (rest : List SourceToken)
+      → Gives (λ it after. Stated known it (source ∷ rest) after) (plain_rule known table source rest)
   plain_found source rest =
       if_gives (is_punctuator (codes "{") source) _ _
       (λ is.

@@ -12,6 +12,7 @@ use Rattle.hs_syntax.specs.declared.word.Place.{Place}
 use Rattle.hs_expr_parser.specs.Ahead.{place_of, is_punctuator, is_keyword, is_ahead, is_mark_ahead, mark_at, begins_specifier}
 use Rattle.hs_expr_parser.specs.Reading.{Known, ◌>>=◌, going_on}
 use Rattle.hs_expr_parser.specs.Recursion.{Read}
+use Rattle.hs_expr_parser.specs.Laws.Along.{stays}
 use Rattle.hs_expr_parser.specs.Steps.{expression_at, assignment_at, conditional_at, some_specifiers_at, declarator_at}
 use Rattle.hs_decl_parser.specs.Goals as goal
 use Rattle.hs_decl_parser.specs.Reading.{Shorter, Controls, reading, braces_rule, starting_value, declared_rule, bare, inner_rule, statement_by, function_rule, specified_rule}
@@ -25,10 +26,6 @@ use Rattle.hs_decl_parser.proofs.Plain.{round}
 found_goes : {A B : Type 0} {found : Read A} (more : A → List SourceToken → B) (stop : B) (it : A) (rest : List SourceToken)
     → found ≡ Some (it, rest) → going_on found more stop ≡ more it rest
 found_goes more stop it rest is = ap (λ found. going_on found more stop) is
-
--- what was not found stops
-none_stops : {A B : Type 0} {found : Read A} (more : A → List SourceToken → B) (stop : B) → found ≡ None → going_on found more stop ≡ stop
-none_stops more stop is = ap (λ found. going_on found more stop) is
 
 -- ---- initialisers
 
@@ -47,7 +44,7 @@ initialiser_list known tokens brace rest is =
 pub initialiser_value : (known : Known) (tokens : List SourceToken) → mark_at (codes "{") tokens ≡ None
     → initialiser_at known tokens ≡ (assignment_at known tokens >>= (λ e. Some (tree.value e.0, e.1)))
 unfolding initialiser_at
-initialiser_value known tokens is = none_stops (λ brace rest. braces_rule (reading known) brace rest) (starting_value known tokens) is
+initialiser_value known tokens is = stays (λ brace rest. braces_rule (reading known) brace rest) (starting_value known tokens) is
 
 -- what is left behind initialisers
 unfoldable pub initialisers_on : Known → List Initialising → List SourceToken → Read (List Initialising × Bool)
@@ -70,14 +67,16 @@ pub initialisers_end : (known : Known) (its : List Initialising) (rest : List So
     → initialisers_on known its rest ≡ Some ((its, false), rest)
 unfolding initialisers_on
 initialisers_end known its rest is =
-    none_stops (λ comma next. if is_mark_ahead (codes "}") next then Some ((its, true), next) else initialisers_at known its next) (Some ((its, false), rest)) is
+    stays (λ comma next. if is_mark_ahead (codes "}") next then Some ((its, true), next) else initialisers_at known its next)
+    (Some ((its, false), rest)) is
 
 -- a comma ends them
 pub initialisers_close : (known : Known) (its : List Initialising) (rest : List SourceToken) (comma : Place) (next : List SourceToken)
     → mark_at (codes ",") rest ≡ Some (comma, next) → is_mark_ahead (codes "}") next ≡ true → initialisers_on known its rest ≡ Some ((its, true), next)
 unfolding initialisers_on
 initialisers_close known its rest comma next is ahead =
-    found_goes (λ comma next. if is_mark_ahead (codes "}") next then Some ((its, true), next) else initialisers_at known its next) (Some ((its, false), rest)) comma next is
+    found_goes (λ comma next. if is_mark_ahead (codes "}") next then Some ((its, true), next) else initialisers_at known its next)
+    (Some ((its, false), rest)) comma next is
     ∙ ap (λ closed. if closed then Some ((its, true), next) else initialisers_at known its next) ahead
 
 -- behind a comma
@@ -86,12 +85,14 @@ initialisers_next : (known : Known) (its : List Initialising) (rest : List Sourc
     → initialisers_on known its rest ≡ (initialiser_at known next >>= (λ it. initialisers_on known (its ++ it.0 ∷ []) it.1))
 unfolding initialisers_on
 initialisers_next known its rest comma next is ahead =
-    found_goes (λ comma next. if is_mark_ahead (codes "}") next then Some ((its, true), next) else initialisers_at known its next) (Some ((its, false), rest)) comma next is
+    found_goes (λ comma next. if is_mark_ahead (codes "}") next then Some ((its, true), next) else initialisers_at known its next)
+    (Some ((its, false), rest)) comma next is
     ∙ ap (λ closed. if closed then Some ((its, true), next) else initialisers_at known its next) ahead
     ∙ initialisers_step known its next
 
 -- one more
-pub initialisers_goes : (known : Known) (its : List Initialising) (rest : List SourceToken) (comma : Place) (next : List SourceToken) (it : Initialising) (left : List SourceToken)
+pub initialisers_goes : (known : Known) (its : List Initialising) (rest : List SourceToken) (comma : Place) (next : List SourceToken)
+    (it : Initialising) (left : List SourceToken)
     → mark_at (codes ",") rest ≡ Some (comma, next) → is_mark_ahead (codes "}") next ≡ false → initialiser_at known next ≡ Some (it, left)
     → initialisers_on known its rest ≡ initialisers_on known (its ++ it ∷ []) left
 initialisers_goes known its rest comma next it left is ahead read =
@@ -115,7 +116,7 @@ start_some known tokens equals rest is =
 
 pub start_none : (known : Known) (tokens : List SourceToken) → mark_at (codes "=") tokens ≡ None → start_at known tokens ≡ Some (None, tokens)
 unfolding start_at
-start_none known tokens is = none_stops (λ equals rest. reading known goal.initialiser rest >>= (λ it. Some (Some it.0, it.1))) (Some (None, tokens)) is
+start_none known tokens is = stays (λ equals rest. reading known goal.initialiser rest >>= (λ it. Some (Some it.0, it.1))) (Some (None, tokens)) is
 
 pub item_from_step : (known : Known) (declared : Declared) (tokens : List SourceToken)
     → item_from known declared tokens ≡ (start_at known tokens >>= (λ start. Some (record { declarator = declared; initialiser = start.0 }, start.1)))
@@ -132,14 +133,15 @@ items_step : (known : Known) (its : List Declaring) (tokens : List SourceToken)
     ≡ going_on (mark_at (codes ",") tokens) (λ comma rest. item_at known rest >>= (λ it. items_at known (its ++ it.0 ∷ []) it.1)) (Some (its, tokens))
 unfolding items_at item_at
 items_step known its tokens =
-    λ i. going_on (mark_at (codes ",") tokens) (λ comma rest. item_at known rest >>= (λ it. round known i (goal.items (its ++ it.0 ∷ [])) it.1)) (Some (its, tokens))
+    λ i. going_on (mark_at (codes ",") tokens) (λ comma rest. item_at known rest >>= (λ it. round known i (goal.items (its ++ it.0 ∷ [])) it.1))
+    (Some (its, tokens))
 
 -- no comma follows
 pub items_end : (known : Known) (its : List Declaring) (tokens : List SourceToken) → mark_at (codes ",") tokens ≡ None
     → items_at known its tokens ≡ Some (its, tokens)
 items_end known its tokens is =
     items_step known its tokens
-    ∙ none_stops (λ comma rest. item_at known rest >>= (λ it. items_at known (its ++ it.0 ∷ []) it.1)) (Some (its, tokens)) is
+    ∙ stays (λ comma rest. item_at known rest >>= (λ it. items_at known (its ++ it.0 ∷ []) it.1)) (Some (its, tokens)) is
 
 -- behind a comma
 items_next : (known : Known) (its : List Declaring) (tokens : List SourceToken) (comma : Place) (next : List SourceToken)
@@ -150,7 +152,8 @@ items_next known its tokens comma next is =
     ∙ found_goes (λ comma rest. item_at known rest >>= (λ it. items_at known (its ++ it.0 ∷ []) it.1)) (Some (its, tokens)) comma next is
 
 -- one more
-pub items_goes : (known : Known) (its : List Declaring) (tokens : List SourceToken) (comma : Place) (next : List SourceToken) (it : Declaring) (left : List SourceToken)
+pub items_goes : (known : Known) (its : List Declaring) (tokens : List SourceToken) (comma : Place) (next : List SourceToken) (it : Declaring)
+    (left : List SourceToken)
     → mark_at (codes ",") tokens ≡ Some (comma, next) → item_at known next ≡ Some (it, left)
     → items_at known its tokens ≡ items_at known (its ++ it ∷ []) left
 items_goes known its tokens comma next it left is read =
@@ -192,11 +195,12 @@ pub declaration_declares : (known : Known) (its : List Specified) (rest : List S
     → declaration_on known its rest ≡ (declarator_at known false rest >>= (λ declared. declared_at known its declared.0 declared.1))
 unfolding declaration_on
 declaration_declares known its rest is =
-    none_stops (λ end left. Some (bare its, left)) (declarator_at known false rest >>= (λ declared. declared_at known its declared.0 declared.1)) is
+    stays (λ end left. Some (bare its, left)) (declarator_at known false rest >>= (λ declared. declared_at known its declared.0 declared.1)) is
 
 declarations_step : (known : Known) (its : List Declaration) (tokens : List SourceToken)
     → declarations_at known its tokens
-    ≡ (if is_ahead (begins_specifier known false) tokens then (declaration_at known tokens >>= (λ it. declarations_at known (its ++ it.0 ∷ []) it.1)) else Some (its, tokens))
+    ≡ (if is_ahead (begins_specifier known false) tokens then
+    (declaration_at known tokens >>= (λ it. declarations_at known (its ++ it.0 ∷ []) it.1)) else Some (its, tokens))
 unfolding declarations_at declaration_at
 declarations_step known its tokens =
     λ i. if is_ahead (begins_specifier known false) tokens
@@ -233,7 +237,8 @@ declarations_fails known its tokens is read =
 
 pub inner_step : (known : Known) (at : Place) (rest : List SourceToken)
     → inner_at known at rest
-    ≡ (declarations_at known [] rest >>= (λ declarations. statements_at known [] declarations.1 >>= (λ statements. mark_at (codes "}") statements.1 >>= (λ close.
+    ≡ (declarations_at known [] rest >>= (λ declarations.
+    statements_at known [] declarations.1 >>= (λ statements. mark_at (codes "}") statements.1 >>= (λ close.
     Some (tree.compound at declarations.0 (statements_from statements.0) close.0, close.1)))))
 unfolding inner_at declarations_at statements_at
 inner_step known at rest = λ i. inner_rule (round known i) at rest
@@ -261,7 +266,7 @@ pub optional_some : (known : Known) (mark : List ℕ) (tokens : List SourceToken
     → optional_at known mark tokens ≡ (expression_at known tokens >>= (λ e. mark_at mark e.1 >>= (λ end. Some (Some e.0, end.1))))
 unfolding optional_at
 optional_some known mark tokens is =
-    none_stops (λ end rest. Some (None, rest)) (expression_at known tokens >>= (λ e. mark_at mark e.1 >>= (λ end. Some (Some e.0, end.1)))) is
+    stays (λ end rest. Some (None, rest)) (expression_at known tokens >>= (λ e. mark_at mark e.1 >>= (λ end. Some (Some e.0, end.1)))) is
 
 pub controls_step : (known : Known) (tokens : List SourceToken)
     → controls_at known tokens
@@ -275,7 +280,8 @@ controls_step known tokens = refl
 -- what follows the first branch of an `if`
 unfoldable pub if_on : Known → Place → Expression → Statement → List SourceToken → Read Statement
 if_on known at test taken rest =
-    going_on (keyword_at (codes "else") rest) (λ word others. statement_at known others >>= (λ otherwise. Some (tree.if_else at test taken otherwise.0, otherwise.1)))
+    going_on (keyword_at (codes "else") rest)
+    (λ word others. statement_at known others >>= (λ otherwise. Some (tree.if_else at test taken otherwise.0, otherwise.1)))
     (Some (tree.if_ at test taken, rest))
 
 pub if_step : (known : Known) (at : Place) (rest : List SourceToken)
@@ -292,14 +298,16 @@ pub if_alone : (known : Known) (at : Place) (test : Expression) (taken : Stateme
     → if_on known at test taken rest ≡ Some (tree.if_ at test taken, rest)
 unfolding if_on
 if_alone known at test taken rest is =
-    none_stops (λ word others. statement_at known others >>= (λ otherwise. Some (tree.if_else at test taken otherwise.0, otherwise.1))) (Some (tree.if_ at test taken, rest)) is
+    stays (λ word others. statement_at known others >>= (λ otherwise. Some (tree.if_else at test taken otherwise.0, otherwise.1)))
+    (Some (tree.if_ at test taken, rest)) is
 
 pub if_otherwise : (known : Known) (at : Place) (test : Expression) (taken : Statement) (rest : List SourceToken) (word : Place) (others : List SourceToken)
     → keyword_at (codes "else") rest ≡ Some (word, others)
     → if_on known at test taken rest ≡ (statement_at known others >>= (λ otherwise. Some (tree.if_else at test taken otherwise.0, otherwise.1)))
 unfolding if_on
 if_otherwise known at test taken rest word others is =
-    found_goes (λ word others. statement_at known others >>= (λ otherwise. Some (tree.if_else at test taken otherwise.0, otherwise.1))) (Some (tree.if_ at test taken, rest))
+    found_goes (λ word others. statement_at known others >>= (λ otherwise. Some (tree.if_else at test taken otherwise.0, otherwise.1)))
+    (Some (tree.if_ at test taken, rest))
     word others is
 
 pub while_step : (known : Known) (at : Place) (rest : List SourceToken)
@@ -312,12 +320,14 @@ while_step known at rest =
 
 pub do_step : (known : Known) (at : Place) (rest : List SourceToken)
     → do_at known at rest
-    ≡ (statement_at known rest >>= (λ body. keyword_at (codes "while") body.1 >>= (λ word. test_at known word.1 >>= (λ test. mark_at (codes ";") test.1 >>= (λ end.
+    ≡ (statement_at known rest >>= (λ body. keyword_at (codes "while") body.1 >>=
+    (λ word. test_at known word.1 >>= (λ test. mark_at (codes ";") test.1 >>= (λ end.
     Some (tree.do_ at body.0 test.0, end.1))))))
 unfolding do_at test_at statement_at
 do_step known at rest =
     let more : Statement × List SourceToken → Read Statement =
-    λ body. keyword_at (codes "while") body.1 >>= (λ word. test_at known word.1 >>= (λ test. mark_at (codes ";") test.1 >>= (λ end. Some (tree.do_ at body.0 test.0, end.1)))) in
+    λ body. keyword_at (codes "while") body.1 >>=
+    (λ word. test_at known word.1 >>= (λ test. mark_at (codes ";") test.1 >>= (λ end. Some (tree.do_ at body.0 test.0, end.1)))) in
     λ i. round known i goal.statement rest >>= more
 
 pub for_step : (known : Known) (at : Place) (rest : List SourceToken)
@@ -484,7 +494,8 @@ statement_expression known source rest none brace is = statement_plain known sou
 -- ---- labels
 
 pub label_case : (known : Known) (source : SourceToken) (rest : List SourceToken) → is_keyword (codes "case") source ≡ true
-    → label_at known source rest ≡ (conditional_at known rest >>= (λ e. mark_at (codes ":") e.1 >>= (λ colon. Some (tree.case_ (place_of source) e.0, colon.1))))
+    → label_at known source rest ≡ (conditional_at known rest >>=
+    (λ e. mark_at (codes ":") e.1 >>= (λ colon. Some (tree.case_ (place_of source) e.0, colon.1))))
 unfolding label_at
 label_case known source rest is =
     ap (λ it. if it then (conditional_at known rest >>= (λ e. mark_at (codes ":") e.1 >>= (λ colon. Some (tree.case_ (place_of source) e.0, colon.1))))
@@ -546,7 +557,8 @@ statements_step : (known : Known) (its : List OneStatement) (tokens : List Sourc
     ≡ (if is_mark_ahead (codes "}") tokens then Some (its, tokens) else (labelled_at known tokens >>= (λ it. statements_at known (its ++ it.0 ∷ []) it.1)))
 unfolding statements_at labelled_at
 statements_step known its tokens =
-    λ i. if is_mark_ahead (codes "}") tokens then Some (its, tokens) else (labelled_at known tokens >>= (λ it. round known i (goal.statements (its ++ it.0 ∷ [])) it.1))
+    λ i. if is_mark_ahead (codes "}") tokens then Some (its, tokens) else
+    (labelled_at known tokens >>= (λ it. round known i (goal.statements (its ++ it.0 ∷ [])) it.1))
 
 -- a `}` follows
 pub statements_end : (known : Known) (its : List OneStatement) (tokens : List SourceToken) → is_mark_ahead (codes "}") tokens ≡ true
@@ -613,13 +625,15 @@ pub specified_bare : (known : Known) (its : List Specified) (rest : List SourceT
     → mark_at (codes ";") rest ≡ Some (end, left) → specified_on known its rest ≡ Some (tree.declaration (bare its), left)
 unfolding specified_on
 specified_bare known its rest end left is =
-    found_goes (λ end left. Some (tree.declaration (bare its), left)) (declarator_at known false rest >>= (λ declared. external_from known its declared.0 declared.1)) end left is
+    found_goes (λ end left. Some (tree.declaration (bare its), left))
+    (declarator_at known false rest >>= (λ declared. external_from known its declared.0 declared.1)) end left is
 
 pub specified_declares : (known : Known) (its : List Specified) (rest : List SourceToken) → mark_at (codes ";") rest ≡ None
     → specified_on known its rest ≡ (declarator_at known false rest >>= (λ declared. external_from known its declared.0 declared.1))
 unfolding specified_on
 specified_declares known its rest is =
-    none_stops (λ end left. Some (tree.declaration (bare its), left)) (declarator_at known false rest >>= (λ declared. external_from known its declared.0 declared.1)) is
+    stays (λ end left. Some (tree.declaration (bare its), left))
+    (declarator_at known false rest >>= (λ declared. external_from known its declared.0 declared.1)) is
 
 pub external_specified : (known : Known) (tokens : List SourceToken) → is_ahead (begins_specifier known false) tokens ≡ true
     → external_at known tokens ≡ specified_at known tokens

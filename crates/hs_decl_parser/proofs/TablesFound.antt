@@ -13,7 +13,7 @@ use Rattle.hs_syntax.specs.Phrases.{ends_open}
 use Rattle.hs_syntax.specs.StatementViews.{OneStatement, initialisers_from, statements_from}
 use Rattle.hs_syntax.specs.Trees.{Initialising, Declaring, Declaration, Labelling, Statement}
 use Rattle.hs_expr_parser.specs.Reading.{Known}
-use Rattle.hs_expr_parser.specs.Laws.Gives.{Gives, so_gives}
+use Rattle.hs_expr_parser.specs.Laws.Gives.{Gives, so_gives, always_gives}
 use Rattle.hs_expr_parser.specs.Laws.Spelled.{Begins}
 use Rattle.hs_expr_parser.specs.Laws.Tables.{Grows}
 use Rattle.hs_decl_parser.specs.Found.{more_items_form, Takes, IsFound}
@@ -49,20 +49,17 @@ pub record Stated (known : Known) (it : Statement) (tokens rest : List SourceTok
   pub closed : ends_open it ≡ true → is_else_ahead rest ≡ false
 
 module _ (known : Known) (table : Shorter) (found : IsFound known table) where
-  -- what is found
-  at_goal : (it : Goal) (tokens : List SourceToken) → Gives (λ (tree : Tree it) rest. Takes known it tree tokens rest) (table it tokens)
-  at_goal it tokens = record { holds = λ tree rest is. found it tokens tree rest is }
-
   pub initialiser_gives : (tokens : List SourceToken)
       → Gives (λ (it : Initialising) rest. Begins (initialiser_form known it) tokens rest) (table goal.initialiser tokens)
-  initialiser_gives tokens = so_gives (table goal.initialiser tokens) (at_goal goal.initialiser tokens)
+  initialiser_gives tokens = so_gives (table goal.initialiser tokens) (always_gives (Takes known) table found goal.initialiser tokens)
       (λ tree rest it. record { front = it.0; whole = it.1; is = it.2 })
 
   pub initialisers_gives : (earlier : List Initialising) (tokens : List SourceToken)
       → Gives (λ (all : List Initialising × Bool) rest.
       Grows earlier all.0 (λ its. initialisers_form known (initialisers_from its) ⨾ comma_form all.1) tokens rest)
       (table (goal.initialisers earlier) tokens)
-  initialisers_gives earlier tokens = so_gives (table (goal.initialisers earlier) tokens) (at_goal (goal.initialisers earlier) tokens)
+  initialisers_gives earlier tokens = so_gives (table (goal.initialisers earlier) tokens)
+      (always_gives (Takes known) table found (goal.initialisers earlier) tokens)
       (λ all rest it. record {
         first = it.2.0;
         others = it.2.1;
@@ -72,25 +69,26 @@ module _ (known : Known) (table : Shorter) (found : IsFound known table) where
 
   pub items_gives : (earlier : List Declaring) (tokens : List SourceToken)
       → Gives (λ (all : List Declaring) rest. Adds earlier all (more_items_form known) tokens rest) (table (goal.items earlier) tokens)
-  items_gives earlier tokens = so_gives (table (goal.items earlier) tokens) (at_goal (goal.items earlier) tokens)
+  items_gives earlier tokens = so_gives (table (goal.items earlier) tokens) (always_gives (Takes known) table found (goal.items earlier) tokens)
       (λ all rest it. record { its = it.2.0; whole = it.2.1; begins = record { front = it.0; whole = it.1; is = it.2.2 } })
 
   pub declarations_gives : (earlier : List Declaration) (tokens : List SourceToken)
       → Gives (λ (all : List Declaration) rest. Adds earlier all (declarations_form known) tokens rest) (table (goal.declarations earlier) tokens)
-  declarations_gives earlier tokens = so_gives (table (goal.declarations earlier) tokens) (at_goal (goal.declarations earlier) tokens)
+  declarations_gives earlier tokens = so_gives (table (goal.declarations earlier) tokens)
+      (always_gives (Takes known) table found (goal.declarations earlier) tokens)
       (λ all rest it. record { its = it.2.0; whole = it.2.1; begins = record { front = it.0; whole = it.1; is = it.2.2 } })
 
   pub labels_gives : (earlier : List Labelling) (tokens : List SourceToken)
       → Gives (λ (all : List Labelling) rest. Adds earlier all (labels_form known) tokens rest) (table (goal.labels earlier) tokens)
-  labels_gives earlier tokens = so_gives (table (goal.labels earlier) tokens) (at_goal (goal.labels earlier) tokens)
+  labels_gives earlier tokens = so_gives (table (goal.labels earlier) tokens) (always_gives (Takes known) table found (goal.labels earlier) tokens)
       (λ all rest it. record { its = it.2.0; whole = it.2.1; begins = record { front = it.0; whole = it.1; is = it.2.2 } })
 
   pub statements_gives : (earlier : List OneStatement) (tokens : List SourceToken)
       → Gives (λ (all : List OneStatement) rest. Adds earlier all (λ its. statements_form known (statements_from its)) tokens rest)
       (table (goal.statements earlier) tokens)
-  statements_gives earlier tokens = so_gives (table (goal.statements earlier) tokens) (at_goal (goal.statements earlier) tokens)
+  statements_gives earlier tokens = so_gives (table (goal.statements earlier) tokens) (always_gives (Takes known) table found (goal.statements earlier) tokens)
       (λ all rest it. record { its = it.2.0; whole = it.2.1; begins = record { front = it.0; whole = it.1; is = it.2.2 } })
 
   pub statement_gives : (tokens : List SourceToken) → Gives (λ (it : Statement) rest. Stated known it tokens rest) (table goal.statement tokens)
-  statement_gives tokens = so_gives (table goal.statement tokens) (at_goal goal.statement tokens)
+  statement_gives tokens = so_gives (table goal.statement tokens) (always_gives (Takes known) table found goal.statement tokens)
       (λ tree rest it. record { begins = record { front = it.0; whole = it.1; is = it.2.0 }; closed = it.2.1 })

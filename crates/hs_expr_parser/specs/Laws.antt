@@ -22,6 +22,7 @@ pub mod Plain
 pub mod Primaries
 pub mod Ranks
 pub mod Recursions
+pub mod Rounds
 pub mod Sound
 pub mod SpecifiersFound
 pub mod SpecifiersRead

@@ -63,7 +63,8 @@ has_more-lt (it ∷ rest) = more (length rest)
     more : (n : ℕ) → true ≡ nat_lt 0 (suc n)
     more n = grind (arith, nat_tests)
 
-module _ {A : Type 0} (pieces : List A → List Piece) (all : List A) (i : ℕ) (it : A) (whole : List Token) (within : i < length all) (is : it ≡ get_or all i it) where
+module _ {A : Type 0} (pieces : List A → List Piece) (all : List A) (i : ℕ) (it : A) (whole : List Token) (within : i < length all)
+    (is : it ≡ get_or all i it) where
   -- What is left begins with the element.
   here : drop i all ≡ it ∷ drop (i + 1) all
   here = drop_more all i it within ∙ ap (λ (first : A). first ∷ drop (i + 1) all) (sym is)
@@ -99,7 +100,8 @@ pub lefts_on : (known : List (List ℕ)) (it : Left) (rest : List Left) → (lef
 lefts_on known it rest = sym (append_assoc (expression_form known (view it.operand)).pieces (mark_at it.at (codes ",")).pieces _)
 
 -- The declarators of a member, one on.
-pub declarators_on : (known : List (List ℕ)) (it : Declarator) (rest : List Declarator) → (declarators_form known (declarators_from (map view_declarator (it ∷ rest)))).pieces
+pub declarators_on : (known : List (List ℕ)) (it : Declarator) (rest : List Declarator)
+    → (declarators_form known (declarators_from (map view_declarator (it ∷ rest)))).pieces
     ≡ (declarator_form known false (view_declarator it)).pieces
     ++ ((comma_form (has_more rest)).pieces ++ (declarators_form known (declarators_from (map view_declarator rest))).pieces)
 declarators_on known it [] = refl
@@ -117,7 +119,8 @@ pub members_on : (known : List (List ℕ)) (it : Member) (rest : List Member) �
 members_on known it rest = ap (λ one. (members_form known (members_from (one ∷ map view_member rest))).pieces) (view_member-out it)
 
 -- Parameters, one on.
-pub parameters_on : (known : List (List ℕ)) (it : Parameter) (rest : List Parameter) → (parameters_form known (parameters_from (map view_parameter (it ∷ rest)))).pieces
+pub parameters_on : (known : List (List ℕ)) (it : Parameter) (rest : List Parameter)
+    → (parameters_form known (parameters_from (map view_parameter (it ∷ rest)))).pieces
     ≡ ((specification_form known false (specification_of it.specifiers.items)).pieces ++ (declarator_form known true (view_declarator it.declarator)).pieces)
     ++ ((comma_form (has_more rest)).pieces ++ (parameters_form known (parameters_from (map view_parameter rest))).pieces)
 parameters_on known it [] = refl
@@ -128,8 +131,10 @@ nothing_between : (first rest : List Piece) → first ++ rest ≡ (first ++ []) 
 nothing_between first rest = ap (λ pieces. pieces ++ rest) (sym (append-nil first))
 
 -- Constants, one on.
-pub constants_on : (known : List (List ℕ)) (it : Constant) (rest : List Constant) → (constants_form known (constants_from (map view_constant (it ∷ rest)))).pieces
-    ≡ (constants_form known (constants_from (map view_constant (it ∷ [])))).pieces ++ ((comma_form (has_more rest)).pieces ++ (constants_form known (constants_from (map view_constant rest))).pieces)
+pub constants_on : (known : List (List ℕ)) (it : Constant) (rest : List Constant)
+    → (constants_form known (constants_from (map view_constant (it ∷ rest)))).pieces
+    ≡ (constants_form known (constants_from (map view_constant (it ∷ [])))).pieces
+    ++ ((comma_form (has_more rest)).pieces ++ (constants_form known (constants_from (map view_constant rest))).pieces)
 constants_on known (Plain name) [] = refl
 constants_on known (Plain name) (Plain other ∷ rest) = refl
 constants_on known (Plain name) (Valued' other p e ∷ rest) = refl

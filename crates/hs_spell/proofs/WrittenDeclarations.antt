@@ -13,8 +13,10 @@ use Rattle.hs_syntax.specs.declared.stmt.Label.TheVariants.{Case, Default}
 use Rattle.hs_spell.proofs.Written.{has_more}
 
 -- Initialisers, one on.
-pub initialisers_on : (known : List (List ℕ)) (it : Initialiser) (rest : List Initialiser) → (initialisers_form known (initialisers_from (map view_initialiser (it ∷ rest)))).pieces
-    ≡ (initialiser_form known (view_initialiser it)).pieces ++ ((comma_form (has_more rest)).pieces ++ (initialisers_form known (initialisers_from (map view_initialiser rest))).pieces)
+pub initialisers_on : (known : List (List ℕ)) (it : Initialiser) (rest : List Initialiser)
+    → (initialisers_form known (initialisers_from (map view_initialiser (it ∷ rest)))).pieces
+    ≡ (initialiser_form known (view_initialiser it)).pieces
+    ++ ((comma_form (has_more rest)).pieces ++ (initialisers_form known (initialisers_from (map view_initialiser rest))).pieces)
 initialisers_on known it [] = refl
 initialisers_on known it (other ∷ rest) = refl
 

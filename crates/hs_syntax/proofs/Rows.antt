@@ -124,7 +124,11 @@ twenty = (refl, refl)
 -- `typedef int T; T x;`, and not `T x; typedef int T;`
 abbrev declared_as : Specification → List ℕ → ExternalDeclaration
 declared_as specification text =
-    tree.declaration (record { specifiers = specification; items = record { declarator = tree.pointing [] (tree.identifier (word text)); initialiser = None } ∷ [] })
+    tree.declaration (record {
+      specifiers = specification;
+      items =
+          record { declarator = tree.pointing [] (tree.identifier (word text)); initialiser = None } ∷ [];
+    })
 
 abbrev makes_type : ExternalDeclaration
 makes_type = declared_as (tree.more_specifiers (tree.storage Typedef nowhere) (basic_type Int)) (codes "T")

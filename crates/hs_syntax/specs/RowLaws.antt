@@ -84,30 +84,35 @@ declarators_row _ (more_of-Declarator pointers direct rest) =
 
 -- the row of declarators
 pub view_declarators-row : (v : Vec Declarator Global) → view_declarators (hidden-the_row-Declarator-6 v) ≡ declarators_from (map view_declarator v.items)
-view_declarators-row v = declarators_row _ (hidden-the_row-Declarator-6 v) ∙ ap (λ its. declarators_from (map view_declarator its)) (items_hidden-the_row-Declarator-6 v)
+view_declarators-row v = declarators_row _ (hidden-the_row-Declarator-6 v)
+    ∙ ap (λ its. declarators_from (map view_declarator its)) (items_hidden-the_row-Declarator-6 v)
 
 -- each parameter with its view
 parameters_row : (m : _) (row : Row_of-Parameter m) → view_parameters row ≡ parameters_from (map view_parameter (items-the_row-Parameter m row))
 parameters_row _ end_of-Parameter = refl
 parameters_row _ (more_of-Parameter shape specifiers pointers direct rest) =
     let declared = tree.pointing pointers.items (view_direct direct) in
-    let specified : view_specifiers specifiers ≡ specification_of (shown-the_row-Specifier-0 shape specifiers).items = specifiers_row _ specifiers ∙ ap specification_of (sym (items_shown-the_row-Specifier-0 shape specifiers)) in
+    let specified : view_specifiers specifiers ≡ specification_of (shown-the_row-Specifier-0 shape specifiers).items = specifiers_row _ specifiers
+    ∙ ap specification_of (sym (items_shown-the_row-Specifier-0 shape specifiers)) in
     ap (λ specification. tree.more_parameters specification declared (view_parameters rest)) specified
     ∙ ap (tree.more_parameters (specification_of (shown-the_row-Specifier-0 shape specifiers).items) declared) (parameters_row _ rest)
 
 -- the row of parameters
 pub view_parameters-row : (v : Vec Parameter Global) → view_parameters (hidden-the_row-Parameter-1 v) ≡ parameters_from (map view_parameter v.items)
-view_parameters-row v = parameters_row _ (hidden-the_row-Parameter-1 v) ∙ ap (λ its. parameters_from (map view_parameter its)) (items_hidden-the_row-Parameter-1 v)
+view_parameters-row v = parameters_row _ (hidden-the_row-Parameter-1 v)
+    ∙ ap (λ its. parameters_from (map view_parameter its)) (items_hidden-the_row-Parameter-1 v)
 
 -- A type name behind a pointer has the view of the type name.
 pub boxed_type : (it : TypeName) → tree.typed_as (view_specifiers (hidden-the_row-Specifier-0 it.specifiers)) (view_declarator it.declarator) ≡ view_type it
 boxed_type it = ap (λ specification. tree.typed_as specification (view_declarator it.declarator)) (view_specifiers-row it.specifiers)
 
 -- The view of members is made of their two lists.
-pub view_member-out : (it : Member) → view_member it ≡ one_member (specification_of (out-Member it).specifiers.items) (declarators_from (map view_declarator (out-Member it).declarators.items))
+pub view_member-out : (it : Member) → view_member it
+    ≡ one_member (specification_of (out-Member it).specifiers.items) (declarators_from (map view_declarator (out-Member it).declarators.items))
 unfolding out-Member shown-the_row-Specifier-0 shown-the_row-Declarator-6 denote.Hole.Carrier.out denote.Hole.Carrier.shown
 view_member-out (Member' shape specifiers shape' declarators) =
-    let specified : view_specifiers specifiers ≡ specification_of (shown-the_row-Specifier-0 shape specifiers).items = specifiers_row _ specifiers ∙ ap specification_of (sym (items_shown-the_row-Specifier-0 shape specifiers)) in
+    let specified : view_specifiers specifiers ≡ specification_of (shown-the_row-Specifier-0 shape specifiers).items = specifiers_row _ specifiers
+    ∙ ap specification_of (sym (items_shown-the_row-Specifier-0 shape specifiers)) in
     let declared : view_declarators declarators ≡ declarators_from (map view_declarator (shown-the_row-Declarator-6 shape' declarators).items) =
     declarators_row _ declarators ∙ ap (λ its. declarators_from (map view_declarator its)) (sym (items_shown-the_row-Declarator-6 shape' declarators)) in
     ap (λ specification. one_member specification (view_declarators declarators)) specified
@@ -115,7 +120,8 @@ view_member-out (Member' shape specifiers shape' declarators) =
 
 -- Members that are put together have the views of their lists.
 pub view_member-rolled : (specifiers : Vec Specifier Global) (declarators : Vec Declarator Global)
-    → view_member (roll-Member record { specifiers = specifiers; declarators = declarators }) ≡ one_member (specification_of specifiers.items) (declarators_from (map view_declarator declarators.items))
+    → view_member (roll-Member record { specifiers = specifiers; declarators = declarators })
+    ≡ one_member (specification_of specifiers.items) (declarators_from (map view_declarator declarators.items))
 unfolding roll-Member denote.Hole.Carrier.roll
 view_member-rolled specifiers declarators =
     ap (λ specification. one_member specification (view_declarators (hidden-the_row-Declarator-6 declarators))) (view_specifiers-row specifiers)
@@ -131,17 +137,21 @@ pub view_lefts-same : (v w : Vec Left Global) → map view_left v.items ≡ map 
 view_lefts-same v w same = view_lefts-row v ∙ ap lefts_from same ∙ sym (view_lefts-row w)
 
 -- the same of members
-pub view_members-same : (v w : Vec Member Global) → map view_member v.items ≡ map view_member w.items → view_members (hidden-the_row-Member-4 v) ≡ view_members (hidden-the_row-Member-4 w)
+pub view_members-same : (v w : Vec Member Global) → map view_member v.items ≡ map view_member w.items → view_members (hidden-the_row-Member-4 v)
+    ≡ view_members (hidden-the_row-Member-4 w)
 view_members-same v w same = view_members-row v ∙ ap members_from same ∙ sym (view_members-row w)
 
 -- the same of constants
-pub view_constants-same : (v w : Vec Constant Global) → map view_constant v.items ≡ map view_constant w.items → view_constants (hidden-the_row-Constant-5 v) ≡ view_constants (hidden-the_row-Constant-5 w)
+pub view_constants-same : (v w : Vec Constant Global) → map view_constant v.items ≡ map view_constant w.items
+    → view_constants (hidden-the_row-Constant-5 v) ≡ view_constants (hidden-the_row-Constant-5 w)
 view_constants-same v w same = view_constants-row v ∙ ap constants_from same ∙ sym (view_constants-row w)
 
 -- the same of parameters
-pub view_parameters-same : (v w : Vec Parameter Global) → map view_parameter v.items ≡ map view_parameter w.items → view_parameters (hidden-the_row-Parameter-1 v) ≡ view_parameters (hidden-the_row-Parameter-1 w)
+pub view_parameters-same : (v w : Vec Parameter Global) → map view_parameter v.items ≡ map view_parameter w.items
+    → view_parameters (hidden-the_row-Parameter-1 v) ≡ view_parameters (hidden-the_row-Parameter-1 w)
 view_parameters-same v w same = view_parameters-row v ∙ ap parameters_from same ∙ sym (view_parameters-row w)
 
 -- Where no entry is left, the views of the copies are all.
-pub views-done : {X Y : Type 0} (f : X → Y) (copies all : List X) (n : ℕ) → length all ≤ n → map f copies ++ map f (drop n all) ≡ map f all → map f copies ≡ map f all
+pub views-done : {X Y : Type 0} (f : X → Y) (copies all : List X) (n : ℕ) → length all ≤ n → map f copies ++ map f (drop n all) ≡ map f all
+    → map f copies ≡ map f all
 views-done f copies all n le invariant = grind (arith, common_steps)

@@ -19,7 +19,8 @@ initialisers_row _ (more_of-Initialiser it rest) = ap (tree.more_initialisers (v
 
 -- the row of initialisers
 pub view_initialisers-row : (v : Vec Initialiser Global) → view_initialisers (hidden-the_row-Initialiser-0 v) ≡ initialisers_from (map view_initialiser v.items)
-view_initialisers-row v = initialisers_row _ (hidden-the_row-Initialiser-0 v) ∙ ap (λ its. initialisers_from (map view_initialiser its)) (items_hidden-the_row-Initialiser-0 v)
+view_initialisers-row v = initialisers_row _ (hidden-the_row-Initialiser-0 v)
+    ∙ ap (λ its. initialisers_from (map view_initialiser its)) (items_hidden-the_row-Initialiser-0 v)
 
 -- each labelled statement with its view
 statements_row : (m : _) (row : Row_of-Labelled m) → view_statements row ≡ statements_from (map view_labelled (items-the_row-Labelled m row))
@@ -31,7 +32,9 @@ pub view_statements-row : (v : Vec Labelled Global) → view_statements (hidden-
 view_statements-row v = statements_row _ (hidden-the_row-Labelled-0 v) ∙ ap (λ its. statements_from (map view_labelled its)) (items_hidden-the_row-Labelled-0 v)
 
 -- The view of a block is made of its lists.
-pub view_block-out : (it : Block) → view_block it ≡ tree.compound (out-Block it).opening (map view_declaration (out-Block it).declarations.items) (statements_from (map view_labelled (out-Block it).statements.items)) (out-Block it).closing
+pub view_block-out : (it : Block) → view_block it
+    ≡ tree.compound (out-Block it).opening (map view_declaration (out-Block it).declarations.items)
+    (statements_from (map view_labelled (out-Block it).statements.items)) (out-Block it).closing
 unfolding out-Block shown-the_row-Labelled-0 denote.Hole.Carrier.out denote.Hole.Carrier.shown
 view_block-out (Block' opening declarations shape its closing) =
     let stated : view_statements its ≡ statements_from (map view_labelled (shown-the_row-Labelled-0 shape its).items) =
@@ -47,5 +50,6 @@ view_block-rolled opening closing declarations statements =
     ap (λ its. tree.compound opening (map view_declaration declarations.items) its closing) (view_statements-row statements)
 
 -- Lists with the same views have the same view in a row.
-pub view_initialisers-same : (v w : Vec Initialiser Global) → map view_initialiser v.items ≡ map view_initialiser w.items → view_initialisers (hidden-the_row-Initialiser-0 v) ≡ view_initialisers (hidden-the_row-Initialiser-0 w)
+pub view_initialisers-same : (v w : Vec Initialiser Global) → map view_initialiser v.items ≡ map view_initialiser w.items
+    → view_initialisers (hidden-the_row-Initialiser-0 v) ≡ view_initialisers (hidden-the_row-Initialiser-0 w)
 view_initialisers-same v w same = view_initialisers-row v ∙ ap initialisers_from same ∙ sym (view_initialisers-row w)

@@ -17,7 +17,7 @@ use Rattle.hs_expr_parser.specs.Goals.{Goal, Tree}
 use Rattle.hs_expr_parser.specs.Recursion.{Read}
 use Rattle.hs_expr_parser.specs.Reading.{Known, Shorter, ◌>>=◌, going_on, rule, Operand, Branches, Assigned, joined, suffix_rule, suffixes_rule, cast_rule, operand_rule, climb_rule, binary_rule, branches_rule, conditional_rule, value_rule, assignment_rule, another_rule, commas_rule, expression_rule}
 use Rattle.hs_expr_parser.specs.Laws.Plain as plain
-use Rattle.hs_expr_parser.specs.Laws.Plain.{Short}
+use Rattle.hs_expr_parser.specs.Laws.Recursions.{Short}
 use Rattle.hs_expr_parser.specs.Laws.Stopping.{looser, suffix_none, operand_none, branches_none, value_none, another_none}
 
 -- a table that reads by the rules
@@ -57,7 +57,8 @@ suffix_short known table short e tokens it rest is = (plain.suffix known (length
 
 operand_short : (known : Known) (table : Shorter) → Short table → (least most : ℕ) (tokens : List SourceToken) (it : Operand) (rest : List SourceToken)
     → operand_rule table least most tokens ≡ Some (it, rest) → suc (length rest) ≤ length tokens
-operand_short known table short least most tokens it rest is = (plain.operand known (length tokens) table short least most tokens (omega arith)).short (it, rest) is
+operand_short known table short least most tokens it rest is =
+    (plain.operand known (length tokens) table short least most tokens (omega arith)).short (it, rest) is
 
 branches_short : (known : Known) (table : Shorter) → Short table → (tokens : List SourceToken) (it : Branches) (rest : List SourceToken)
     → branches_rule table tokens ≡ Some (it, rest) → suc (length rest) ≤ length tokens
@@ -167,7 +168,8 @@ then_longer more longer on =
     record { it = last.it; left = last.left; is = ap (λ it. it >>= (λ x. more x.0 x.1)) longer.is ∙ last.is; less = omega (arith, last.less, longer.less) }
 
 -- a cast, as an operand of binary operators
-pub up_binary : {known : Known} {table : Shorter} → Whole known table → (least : ℕ) (tokens : List SourceToken) (e : Expression) (rest : List SourceToken) → least ≤ 11
+pub up_binary : {known : Known} {table : Shorter} → Whole known table
+    → (least : ℕ) (tokens : List SourceToken) (e : Expression) (rest : List SourceToken) → least ≤ 11
     → Reads (cast_rule known table tokens) e rest (stops 13 rest) → Reads (binary_rule known table least tokens) e rest (stops (2 + least) rest)
 up_binary {known = known} {table = table} whole least tokens e rest most reads = record {
   longer = then_longer (λ it left. climb_rule table least 10 it left) reads.longer (λ it left. climb_longer whole least 10 it left);
@@ -218,7 +220,8 @@ pub up_assignment : {known : Known} {table : Shorter} → Whole known table → 
     → Reads (conditional_rule known table tokens) e rest (stops 2 rest) → Reads (assignment_rule known table tokens) e rest (stops 1 rest)
 up_assignment {known = known} {table = table} whole tokens e rest reads =
     let more : Expression → List SourceToken → Read Expression =
-    λ target left. going_on (value_behind table target left) (λ it others. Some (tree.assign target it.operator it.at it.value, others)) (Some (target, left)) in
+    λ target left. going_on (value_behind table target left) (λ it others. Some (tree.assign target it.operator it.at it.value, others))
+    (Some (target, left)) in
     record {
       longer = then_longer more reads.longer (λ target left.
           going_longer (value_behind table target left) (λ it others. Some (tree.assign target it.operator it.at it.value, others)) target left

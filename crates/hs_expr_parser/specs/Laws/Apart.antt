@@ -1,9 +1,11 @@
 -- The tokens of a form, taken apart.
 --     with_text kind text source     the token with this kind and this text
+--     kind_same, token_is, spelled_is      what a test on a token tells of it
 --     split, when_parts, one_token   the parts of phrases one after another, under a condition, of one token
-use Rattle.std.proofs.Common.{◌≡◌, ℕ, Bool, true, false, List, [], ◌∷◌, ◌++◌, Option, Some, None, IfSome, refl, ap}
+use Rattle.std.proofs.Common.{◌≡◌, ℕ, Bool, true, false, List, [], ◌∷◌, ◌++◌, Option, Some, None, IfSome, refl, ap, sym, ◌∙◌, inl, inr}
 use Rattle.std.specs.Prelude.{◌&&◌}
 use Rattle.std.specs.Str.{bytes_eq}
+use Rattle.std.proofs.lemmas.Bool.{and_parts, cases_Bool}
 use Rattle.std.proofs.lemmas.Slice.Eq.{bytes_eq-Decides}
 use Rattle.hs_tokens.specs.Marks.{is_same_kind}
 use Rattle.hs_tokens.specs.declared.token.SourceToken.{SourceToken}
@@ -11,12 +13,7 @@ use Rattle.hs_tokens.specs.declared.token.TokenKind.{TokenKind}
 use Rattle.hs_tokens.specs.declared.token.TokenKind.TheVariants.{Identifier, Number, Character, Literal, Punctuator}
 use Rattle.hs_syntax.specs.Forms.{Piece, Form, ◌⨾◌, when, token, IsAt, Spells, IsOf}
 use Rattle.hs_syntax.specs.declared.word.Place.{Place}
-use Rattle.hs_expr_parser.specs.Ahead.{place_of, is_token}
-
--- both of two tests
-pub both : (one other : Bool) → (one && other) ≡ true → (one ≡ true) × (other ≡ true)
-both true other is = (refl, is)
-both false other is = absurd cc
+use Rattle.hs_expr_parser.specs.Ahead.{place_of, is_token, spelled_so}
 
 -- the token with this kind and this text
 abbrev pub with_text : TokenKind → List ℕ → SourceToken → SourceToken
@@ -34,32 +31,27 @@ kind_same Number Number same = refl
 kind_same Character Character same = refl
 kind_same Literal Literal same = refl
 kind_same Punctuator Punctuator same = refl
-kind_same Identifier Number same = absurd cc
-kind_same Identifier Character same = absurd cc
-kind_same Identifier Literal same = absurd cc
-kind_same Identifier Punctuator same = absurd cc
-kind_same Number Identifier same = absurd cc
-kind_same Number Character same = absurd cc
-kind_same Number Literal same = absurd cc
-kind_same Number Punctuator same = absurd cc
-kind_same Character Identifier same = absurd cc
-kind_same Character Number same = absurd cc
-kind_same Character Literal same = absurd cc
-kind_same Character Punctuator same = absurd cc
-kind_same Literal Identifier same = absurd cc
-kind_same Literal Number same = absurd cc
-kind_same Literal Character same = absurd cc
-kind_same Literal Punctuator same = absurd cc
-kind_same Punctuator Identifier same = absurd cc
-kind_same Punctuator Number same = absurd cc
-kind_same Punctuator Character same = absurd cc
-kind_same Punctuator Literal same = absurd cc
+kind_same _ _ same = absurd cc
 
 -- a token that passes the test
 pub token_is : (kind : TokenKind) (text : List ℕ) (source : SourceToken) → is_token kind text source ≡ true → source ≡ with_text kind text source
 token_is kind text source is =
-    let tests = both (is_same_kind source.token.kind kind) (bytes_eq source.token.text text) is in
+    let tests = and_parts (is_same_kind source.token.kind kind) (bytes_eq source.token.text text) is in
     source_is kind text source (kind_same source.token.kind kind tests.0) ((bytes_eq-Decides source.token.text text).0 tests.1)
+
+-- the text is the spelling of what it spells
+pub spelled_is : {A : Type 0} (spelling : A → List ℕ) (all : List A) (text : List ℕ) (it : A)
+    → spelled_so spelling all text ≡ Some it → text ≡ spelling it
+spelled_is spelling [] text it is = absurd cc
+spelled_is spelling (first ∷ rest) text it is =
+    elim (cases_Bool (bytes_eq text (spelling first))) [
+      | inl same ↦
+          let found : Some first ≡ Some it = sym (rw same refl) ∙ is in
+          (bytes_eq-Decides text (spelling first)).0 same ∙ ap spelling cc
+      | inr other ↦
+          let found : spelled_so spelling rest text ≡ Some it = sym (rw other refl) ∙ is in
+          spelled_is spelling rest text it found
+    ]
 
 -- tokens of pieces behind others
 spells_split : (pieces others : List Piece) (sources : List SourceToken) → Spells (pieces ++ others) sources
@@ -80,14 +72,14 @@ pub record Split (one other : Form) (sources : List SourceToken) : Type 0 where
 
 pub split : (one other : Form) (sources : List SourceToken) → IsOf (one ⨾ other) sources → Split one other sources
 split one other sources is =
-    let tests = both one.fits other.fits is.0 in
+    let tests = and_parts one.fits other.fits is.0 in
     let parts = spells_split one.pieces other.pieces sources is.1 in
     record { front = parts.0; back = parts.1; whole = parts.2; first = (tests.0, parts.3); second = (tests.1, parts.4) }
 
 -- a phrase under a condition
 pub when_parts : (condition : Bool) (form : Form) (sources : List SourceToken) → IsOf (when condition form) sources → (condition ≡ true) × IsOf form sources
 when_parts condition form sources is =
-    let tests = both condition form.fits is.0 in
+    let tests = and_parts condition form.fits is.0 in
     (tests.0, (tests.1, is.1))
 
 -- one token
@@ -108,3 +100,12 @@ one_token kind text place [] is = absurd is.1
 one_token kind text place (source ∷ []) is =
     record { source = source; alone = refl; is = source_is kind text source is.1.0 is.1.1; at = at_place source place is.1.2 }
 one_token kind text place (source ∷ next ∷ rest) is = absurd is.1.3
+
+-- a condition on the first of two phrases
+pub first_when : (condition : Bool) (one other : Form) (sources : List SourceToken)
+    → IsOf (when condition one ⨾ other) sources → (condition ≡ true) × IsOf (one ⨾ other) sources
+first_when true one other sources fits = (refl, fits)
+first_when false one other sources fits = absurd (nothing fits.0)
+  where
+    nothing : false ≡ true → ⊥
+    nothing is = cc

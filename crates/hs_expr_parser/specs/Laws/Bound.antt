@@ -86,7 +86,8 @@ alike_if false are others = others
 -- ---- the first token
 
 -- what a token is, by cases
-first_by : {A : Type 0} (rest : List SourceToken) (it : Option A) → Alike (suc (length rest)) (option_map (λ it. (it, rest)) it) (option_map (λ it. (it, rest)) it)
+first_by : {A : Type 0} (rest : List SourceToken) (it : Option A)
+    → Alike (suc (length rest)) (option_map (λ it. (it, rest)) it) (option_map (λ it. (it, rest)) it)
 first_by rest None = alike_none
 first_by rest (Some it) = alike_some (omega arith)
 

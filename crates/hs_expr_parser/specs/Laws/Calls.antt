@@ -101,7 +101,8 @@ abbrev called : Expression → List Expression → Expression
 called base its = tree.call base (expressions_from its)
 
 -- a call
-call_by : {known : Known} {table : Shorter} → Whole known table → (base : Expression) (its : Expressions) (opening close : SourceToken) (tokens inside rest : List SourceToken)
+call_by : {known : Known} {table : Shorter} → Whole known table
+    → (base : Expression) (its : Expressions) (opening close : SourceToken) (tokens inside rest : List SourceToken)
     → opening ≡ with_text Punctuator (codes "(") opening → close ≡ with_text Punctuator (codes ")") close → 15 ≤ rank base
     → AllRead known table base tokens (opening ∷ (inside ++ (close ∷ rest))) → IsOf (arguments_form known its) inside → ReadsArguments known table its
     → AllRead known table (tree.call base its) tokens rest
@@ -121,7 +122,8 @@ call_by {known = known} {table = table} whole base its opening close tokens insi
         let found = reads [] inside close rest refl fits is_close in
         let found_read : table (goal.arguments []) (inside ++ (close ∷ rest)) ≡ Some (listed (tree.more_expressions e others), close ∷ rest) =
         whole.plain (goal.arguments []) (inside ++ (close ∷ rest)) ∙ found.0 in
-        rw (found.1) (closes (table (goal.arguments []) (inside ++ (close ∷ rest))) (listed (tree.more_expressions e others)) (codes ")") close rest (called base)
+        rw (found.1) (closes (table (goal.arguments []) (inside ++ (close ∷ rest))) (listed (tree.more_expressions e others)) (codes ")") close rest
+        (called base)
         found_read is_close
         ∙ ap (λ it. Some (tree.call base it, rest)) (listed_from (tree.more_expressions e others)))
 

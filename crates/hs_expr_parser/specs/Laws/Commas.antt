@@ -36,5 +36,6 @@ pub entries_more : {A : Type 0} (more : List A → List SourceToken → Read (Li
     → (read >>= entries_then more earlier) ≡ Some (earlier ++ it ∷ its, rest)
 entries_more more read earlier its it comma others rest reads is on =
     ap (λ found. found >>= entries_then more earlier) reads
-    ∙ ap (λ found. going_on found (λ comma left. more (earlier ++ it ∷ []) left) (Some (earlier ++ it ∷ [], comma ∷ others))) (mark_reads (codes ",") comma others is)
+    ∙ ap (λ found. going_on found (λ comma left. more (earlier ++ it ∷ []) left) (Some (earlier ++ it ∷ [], comma ∷ others)))
+    (mark_reads (codes ",") comma others is)
     ∙ on ∙ ap (λ all. Some (all, rest)) (append_assoc earlier (it ∷ []) its)

@@ -56,7 +56,8 @@ directs_then known base middle direct tokens between rest first second = record 
 
 -- what stands behind the base
 directs_more : (known : Known) (base direct : Directly) (tail : Form) (tokens rest : List SourceToken) → names direct ≡ names base
-    → ((inner : Bool) → direct_form known inner direct ≡ (direct_form known inner base ⨾ tail)) → Begins tail tokens rest → Directs known base direct tokens rest
+    → ((inner : Bool) → direct_form known inner direct ≡ (direct_form known inner base ⨾ tail)) → Begins tail tokens rest
+    → Directs known base direct tokens rest
 directs_more known base direct tail tokens rest same forms begins = record {
   same = same;
   front = begins.front;
@@ -101,16 +102,20 @@ void_clash : (known : Known) (its : Parameters) (tokens middle after : List Sour
     → Begins (parameters_form known its) tokens middle → mark_at (codes ")") middle ≡ Some (close, after) → void_alone tokens ≡ None → ⊥
 void_clash known tree.no_parameters tokens middle after close is begins closes none = absurd cc
 void_clash known (tree.more_parameters tree.no_specifiers declared others) tokens middle after close is begins closes none = absurd cc
-void_clash known (tree.more_parameters (tree.more_specifiers it (tree.more_specifiers other further)) declared others) tokens middle after close is begins closes none =
+void_clash known (tree.more_parameters (tree.more_specifiers it
+    (tree.more_specifiers other further)) declared others) tokens middle after close is begins closes none =
     absurd cc
-void_clash known (tree.more_parameters (tree.more_specifiers it tree.no_specifiers) declared (tree.more_parameters other further others)) tokens middle after close is
+void_clash known (tree.more_parameters (tree.more_specifiers it tree.no_specifiers) declared
+    (tree.more_parameters other further others)) tokens middle after close is
     begins closes none = absurd cc
-void_clash known (tree.more_parameters (tree.more_specifiers it tree.no_specifiers) declared tree.no_parameters) tokens middle after close is begins closes none =
+void_clash known
+    (tree.more_parameters (tree.more_specifiers it tree.no_specifiers) declared tree.no_parameters) tokens middle after close is begins closes none =
     let tests = and_parts (is_void it) (is_empty declared) is in
     let word = void_of it tests.0 in
     let empty = empty_of declared tests.1 in
     let alone : Begins (parameters_form known
-    (tree.more_parameters (tree.more_specifiers (tree.basic Void word.0) tree.no_specifiers) (tree.pointing [] tree.nothing) tree.no_parameters)) tokens middle =
+    (tree.more_parameters (tree.more_specifiers (tree.basic Void word.0) tree.no_specifiers)
+    (tree.pointing [] tree.nothing) tree.no_parameters)) tokens middle =
     subst (λ (it : Specified). Begins (parameters_form known
     (tree.more_parameters (tree.more_specifiers it tree.no_specifiers) (tree.pointing [] tree.nothing) tree.no_parameters)) tokens middle) word.1
     (subst (λ (declared : Declared). Begins (parameters_form known
@@ -192,7 +197,8 @@ record Based (known : Known) (inner : Bool) (base : Directly) (tokens rest : Lis
 
 module _ (known : Known) (table : Shorter) (found : IsFound known table) where
   -- a declarator in parentheses
-  inside_found : (inner : Bool) (source : SourceToken) (rest : List SourceToken) → (is_punctuator (codes "(") source && not (inner && begins_list known rest)) ≡ true
+  inside_found : (inner : Bool) (source : SourceToken) (rest : List SourceToken)
+      → (is_punctuator (codes "(") source && not (inner && begins_list known rest)) ≡ true
       → Gives (λ base after. Based known inner base (source ∷ rest) after) (inside_rule table inner rest)
   inside_found inner source rest is =
       let tests = and_parts (is_punctuator (codes "(") source) (not (inner && begins_list known rest)) is in
@@ -276,11 +282,13 @@ module _ (known : Known) (table : Shorter) (found : IsFound known table) where
         | inr several ↦ several
       ] in
       some_gives (tree.function base (parameters_from its)) after
-      (directs_more known base (tree.function base (parameters_from its)) (mark (codes "(") ⨾ (all ⨾ mark (codes ")"))) (source ∷ rest) after refl (λ inner. refl)
+      (directs_more known base (tree.function base (parameters_from its)) (mark (codes "(") ⨾ (all ⨾ mark (codes ")"))) (source ∷ rest) after refl
+      (λ inner. refl)
       (then_begins (token_begins source rest so.0 so.1) (then_begins (when_begins (ap not several) listed) closing.plain)))))))
 
   -- the rest of a declarator
-  pub directs_found : (base : Directly) (tokens : List SourceToken) → Gives (λ direct rest. Directs known base direct tokens rest) (directs_rule table base tokens)
+  pub directs_found : (base : Directly) (tokens : List SourceToken)
+      → Gives (λ direct rest. Directs known base direct tokens rest) (directs_rule table base tokens)
   directs_found base [] = some_gives base [] (directs_stay known base [])
   directs_found base (source ∷ rest) =
       if_gives (is_punctuator (codes "[") source) _ _

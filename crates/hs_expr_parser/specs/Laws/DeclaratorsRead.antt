@@ -65,13 +65,15 @@ identifier_all {known = known} {table = table} whole it inner source front rest 
     ∙ then_directs known table inner (one.source ∷ rest) (tree.identifier it) rest (identifier_reads known table inner it one.source rest one.is one.at parts.0)
 
 -- a declarator in parentheses
-parens_by : {known : Known} {table : Shorter} → Whole known table → (inner : Bool) (it : Declared) (opening close : SourceToken) (tokens rest : List SourceToken)
+parens_by : {known : Known} {table : Shorter} → Whole known table
+    → (inner : Bool) (it : Declared) (opening close : SourceToken) (tokens rest : List SourceToken)
     → opening ≡ with_text Punctuator (codes "(") opening → close ≡ with_text Punctuator (codes ")") close → (inner && begins_list known tokens) ≡ false
     → declarator_rule known table inner tokens ≡ Some (it, close ∷ rest) → is_empty it ≡ false
     → base_rule known table inner (opening ∷ tokens) ≡ Some (tree.parens_of it, rest)
 parens_by {known = known} {table = table} whole inner it opening close tokens rest opens closed no_list reads full =
     ap (λ (first : SourceToken). base_rule known table inner (first ∷ tokens)) opens
-    ∙ rw no_list (ap (λ found. found >>= (λ it. mark_at (codes ")") it.1 >>= (λ close. filled it.0 close.1))) (whole.plain (goal.declarator inner) tokens ∙ reads)
+    ∙ rw no_list (ap (λ found. found >>= (λ it. mark_at (codes ")") it.1 >>= (λ close. filled it.0 close.1)))
+    (whole.plain (goal.declarator inner) tokens ∙ reads)
     ∙ ap (λ found. found >>= (λ close. filled it close.1)) (mark_reads (codes ")") close rest closed)
     ∙ rw full refl)
 
@@ -91,7 +93,8 @@ no_list_there known true it front rest fits apart full =
         no_list known (declarator_form known true it).pieces (source ∷ front) [] apart (declarator_opens known true it fits.0) fits.1 refl
 
 -- where its tokens stand in front, it is read
-pub parens_of_all : {known : Known} {table : Shorter} → Whole known table → (it : Declared) → ReadsDeclarator known table it → ReadsDirect known table (tree.parens_of it)
+pub parens_of_all : {known : Known} {table : Shorter} → Whole known table → (it : Declared) → ReadsDeclarator known table it
+    → ReadsDirect known table (tree.parens_of it)
 parens_of_all {known = known} {table = table} whole it reads inner source front rest fits named =
     let form = declarator_form known inner it in
     let its = bracketed (codes "(") (codes ")") None (when (not (is_empty it)) (in_parens known inner form)) (source ∷ front) fits in
@@ -151,7 +154,8 @@ after_list {known = known} {table = table} whole base it opening more rest opens
     ∙ ap (λ found. found >>= (λ it. table (goal.directs it.0) it.1)) reads ∙ whole.plain (goal.directs it) rest
 
 -- a base with a length behind it
-length_behind : {known : Known} {table : Shorter} → Whole known table → (inner : Bool) (base it : Directly) (opening : SourceToken) (tokens front more rest : List SourceToken)
+length_behind : {known : Known} {table : Shorter} → Whole known table
+    → (inner : Bool) (base it : Directly) (opening : SourceToken) (tokens front more rest : List SourceToken)
     → ReadsDirect known table base → IsOf (direct_form known inner base) front → (inner || names base) ≡ true → tokens ≡ front ++ (opening ∷ more)
     → opening ≡ with_text Punctuator (codes "[") opening → length_rule table base more ≡ Some (it, rest)
     → directly known table inner tokens ≡ directs_rule table it rest
@@ -162,7 +166,8 @@ length_behind {known = known} {table = table} whole inner base it opening tokens
     ∙ after_length whole base it opening more rest opens length'
 
 -- a base with a list behind it
-list_behind : {known : Known} {table : Shorter} → Whole known table → (inner : Bool) (base it : Directly) (opening : SourceToken) (tokens front more rest : List SourceToken)
+list_behind : {known : Known} {table : Shorter} → Whole known table
+    → (inner : Bool) (base it : Directly) (opening : SourceToken) (tokens front more rest : List SourceToken)
     → ReadsDirect known table base → IsOf (direct_form known inner base) front → (inner || names base) ≡ true → tokens ≡ front ++ (opening ∷ more)
     → opening ≡ with_text Punctuator (codes "(") opening
     → (list_rule table base more ≡ Some (it, rest)) × (begins_list known more ≡ true)
@@ -176,11 +181,13 @@ list_behind {known = known} {table = table} whole inner base it opening tokens f
 array_reads : (table : Shorter) (base : Directly) (close : SourceToken) (rest : List SourceToken) → close ≡ with_text Punctuator (codes "]") close
     → length_rule table base (close ∷ rest) ≡ Some (tree.array base, rest)
 array_reads table base close rest closed =
-    ap (λ found. going_on found (λ close others. Some (tree.array base, others)) (table goal.conditional (close ∷ rest) >>= closing (tree.sized_array base) (codes "]")))
+    ap (λ found. going_on found (λ close others. Some (tree.array base, others))
+    (table goal.conditional (close ∷ rest) >>= closing (tree.sized_array base) (codes "]")))
     (mark_reads (codes "]") close rest closed)
 
 -- an array without a length
-pub array_all : {known : Known} {table : Shorter} → Whole known table → (base : Directly) → ReadsDirect known table base → ReadsDirect known table (tree.array base)
+pub array_all : {known : Known} {table : Shorter} → Whole known table → (base : Directly) → ReadsDirect known table base
+    → ReadsDirect known table (tree.array base)
 array_all {known = known} {table = table} whole base reads inner source front rest fits named =
     let its = enclosed (direct_form known inner base) (codes "[") (codes "]") None nothing_at_all (source ∷ front) fits in
     let none = no_tokens its.inside its.fits in
@@ -213,18 +220,21 @@ length_reads : {known : Known} {table : Shorter} → Whole known table → (base
     → length_rule table base tokens ≡ Some (tree.sized_array base e, rest)
 length_reads {known = known} {table = table} whole base e close tokens rest is_close low all =
     let stopped : stops 2 (close ∷ rest) ≡ true = ap (λ it. is_below 2 (joins it)) is_close in
-    ap (λ found. going_on found (λ close others. Some (tree.array base, others)) (table goal.conditional tokens >>= closing (tree.sized_array base) (codes "]")))
+    ap (λ found. going_on found (λ close others. Some (tree.array base, others))
+    (table goal.conditional tokens >>= closing (tree.sized_array base) (codes "]")))
     (mark_missing (codes "]") tokens (no_bracket known table tokens all.expression.longer))
     ∙ closes (table goal.conditional tokens) e (codes "]") close rest (tree.sized_array base)
     (whole.plain goal.conditional tokens ∙ (all.conditional low).exact stopped) is_close
 
 -- an array with a length
-pub sized_array_all : {known : Known} {table : Shorter} → Whole known table → (base : Directly) (e : Expression) → ReadsDirect known table base → ReadsAll known table e
+pub sized_array_all : {known : Known} {table : Shorter} → Whole known table → (base : Directly) (e : Expression) → ReadsDirect known table base
+    → ReadsAll known table e
     → ReadsDirect known table (tree.sized_array base e)
 sized_array_all {known = known} {table = table} whole base e reads others inner source front rest fits named =
     let its = enclosed (direct_form known inner base) (codes "[") (codes "]") None (as_conditional e (expression_form known e)) (source ∷ front) fits in
     let low = ranked 2 e (expression_form known e) its.inside its.fits in
-    length_behind whole inner base (tree.sized_array base e) its.opening (source ∷ (front ++ rest)) its.front (its.inside ++ (its.close ∷ rest)) rest reads its.first
+    length_behind whole inner base (tree.sized_array base e) its.opening (source ∷ (front ++ rest)) its.front
+    (its.inside ++ (its.close ∷ rest)) rest reads its.first
     named (its.whole rest) its.opens
     (length_reads whole base e its.close (its.inside ++ (its.close ∷ rest)) rest its.closed low.0 (others its.inside (its.close ∷ rest) low.1))
 
@@ -242,7 +252,8 @@ list_by table base tokens close void =
 
 -- a list is read, and it begins as one
 list_reads : {known : Known} {table : Shorter} → Whole known table → (base : Directly) (its : Parameters) (close : SourceToken) (inside rest : List SourceToken)
-    → ReadsParameters known table its → IsOf (when (not (is_void_alone its)) (parameters_form known its)) inside → close ≡ with_text Punctuator (codes ")") close
+    → ReadsParameters known table its → IsOf (when (not (is_void_alone its)) (parameters_form known its)) inside → close
+    ≡ with_text Punctuator (codes ")") close
     → (list_rule table base (inside ++ (close ∷ rest)) ≡ Some (tree.function base its, rest)) × (begins_list known (inside ++ (close ∷ rest)) ≡ true)
 list_reads {known = known} {table = table} whole base tree.no_parameters close (source ∷ inside) rest reads fits closed = absurd fits.1
 list_reads {known = known} {table = table} whole base tree.no_parameters close [] rest reads fits closed =
@@ -255,7 +266,8 @@ list_reads {known = known} {table = table} whole base (tree.more_parameters spec
     let tokens : List SourceToken = inside ++ (close ∷ rest) in
     let parts = when_parts (not (is_void_alone its)) (parameters_form known its) inside fits in
     let read = reads [] inside (close ∷ rest) refl parts.1 (ap (is_punctuator (codes ")")) closed) in (
-      ap (λ found. list_by table base tokens found (void_alone tokens)) (mark_missing (codes ")") tokens (specifier_no_mark known false (codes ")") tokens read.1))
+      ap (λ found. list_by table base tokens found (void_alone tokens))
+          (mark_missing (codes ")") tokens (specifier_no_mark known false (codes ")") tokens read.1))
           ∙ ap (λ found. list_by table base tokens None found)
           (void_missing known its inside (close ∷ rest) refl parts.1 (not_true (is_void_alone its) parts.0))
           ∙ closes (table (goal.parameters []) tokens) (parameters_in its) (codes ")") close rest (λ its. tree.function base (parameters_from its))
@@ -268,8 +280,10 @@ list_reads {known = known} {table = table} whole base (tree.more_parameters spec
 pub function_all : {known : Known} {table : Shorter} → Whole known table → (base : Directly) (its : Parameters) → ReadsDirect known table base
     → ReadsParameters known table its → ReadsDirect known table (tree.function base its)
 function_all {known = known} {table = table} whole base its reads others inner source front rest fits named =
-    let list = enclosed (direct_form known inner base) (codes "(") (codes ")") None (when (not (is_void_alone its)) (parameters_form known its)) (source ∷ front) fits in
-    list_behind whole inner base (tree.function base its) list.opening (source ∷ (front ++ rest)) list.front (list.inside ++ (list.close ∷ rest)) rest reads list.first
+    let list = enclosed (direct_form known inner base) (codes "(") (codes ")") None (when (not (is_void_alone its)) (parameters_form known its))
+    (source ∷ front) fits in
+    list_behind whole inner base (tree.function base its) list.opening (source ∷ (front ++ rest)) list.front
+    (list.inside ++ (list.close ∷ rest)) rest reads list.first
     named (list.whole rest) list.opens (list_reads whole base its list.close list.inside rest others list.fits list.closed)
 
 -- `void` alone is read, and it begins a list
@@ -293,7 +307,8 @@ pub function_of_void_all : {known : Known} {table : Shorter} → Whole known tab
 function_of_void_all {known = known} {table = table} whole base at reads inner source front rest fits named =
     let list = enclosed (direct_form known inner base) (codes "(") (codes ")") None (keyword_at at (codes "void")) (source ∷ front) fits in
     let one = one_token Identifier (codes "void") (Some at) list.inside list.fits in
-    list_behind whole inner base (tree.function_of_void base at) list.opening (source ∷ (front ++ rest)) list.front (one.source ∷ list.close ∷ rest) rest reads list.first
+    list_behind whole inner base (tree.function_of_void base at) list.opening (source ∷ (front ++ rest)) list.front
+    (one.source ∷ list.close ∷ rest) rest reads list.first
     named (list.whole rest ∙ ap (λ inside. list.front ++ (list.opening ∷ (inside ++ (list.close ∷ rest)))) one.alone) list.opens
     (void_reads known table base at one.source list.close rest one.is one.at list.closed)
 
@@ -305,7 +320,8 @@ with_first : (it : Pointer) (its : List Pointer) (source : SourceToken) (front r
 with_first it its source front rest is others = λ i. with_pointer (is i) source (front ++ rest) (others i)
 
 -- a dropped word is one
-dropped_pointer : (it : Dropped) (source : SourceToken) → pointer_of (with_text Identifier (dropped_text it) source) ≡ Some (pointer.Dropped it (place_of source))
+dropped_pointer : (it : Dropped) (source : SourceToken) → pointer_of (with_text Identifier (dropped_text it) source)
+    ≡ Some (pointer.Dropped it (place_of source))
 dropped_pointer dropped.Auto source = refl
 dropped_pointer dropped.Register source = refl
 dropped_pointer dropped.Const source = refl
@@ -336,8 +352,10 @@ directs_stop table base (source ∷ rest) ends = rw (ender_no_mark (codes "[") s
 
 -- what stands behind the pointers is read
 direct_reads : (known : Known) (table : Shorter) (inner : Bool) (direct : Directly) (front rest : List SourceToken) → ReadsDirect known table direct
-    → IsOf (direct_form known inner direct) front → (inner || names direct) ≡ true → ended rest ≡ true → directly known table inner (front ++ rest) ≡ Some (direct, rest)
-direct_reads known table inner direct (source ∷ front) rest reads fits named ends = reads inner source front rest fits named ∙ directs_stop table direct rest ends
+    → IsOf (direct_form known inner direct) front → (inner || names direct) ≡ true → ended rest ≡ true → directly known table inner (front ++ rest)
+    ≡ Some (direct, rest)
+direct_reads known table inner direct (source ∷ front) rest reads fits named ends = reads inner source front rest fits named
+    ∙ directs_stop table direct rest ends
 direct_reads known table inner direct [] rest reads fits named ends =
     let nothing = nothing_is known inner direct fits.1 in
     let is_inner : inner ≡ true = sym (or_false inner) ∙ ap (λ it. inner || names it) (sym nothing) ∙ named in

@@ -13,10 +13,9 @@ use Rattle.hs_expr_parser.specs.Goals as goal
 use Rattle.hs_expr_parser.specs.Recursion.{Read}
 use Rattle.hs_expr_parser.specs.Reading.{Known, reading, expression_rule}
 use Rattle.hs_expr_parser.specs.Laws.Complete.{all_expression}
-use Rattle.hs_expr_parser.specs.Laws.Plain.{reading_short, reading_is}
+use Rattle.hs_expr_parser.specs.Laws.Wholly.{whole}
 use Rattle.hs_expr_parser.specs.Laws.Ranks.{AllRead}
 use Rattle.hs_expr_parser.specs.Laws.Sound.{reading_found}
-use Rattle.hs_expr_parser.specs.Laws.Wholly.{whole}
 
 -- what was read, or this where nothing was
 abbrev tree_of : Expression → Read Expression → Expression
@@ -30,7 +29,7 @@ left_of (Some it) = it.1
 
 -- the reading of an expression is its rule
 by_rule : (known : Known) (tokens : List SourceToken) → reading known goal.expression tokens ≡ expression_rule known (reading known) tokens
-by_rule known tokens = reading_is known (reading_short known) goal.expression tokens
+by_rule known tokens = (whole known).plain goal.expression tokens
 
 -- an expression of the grammar is read at each rank
 all_read : (known : Known) (front rest : List SourceToken) (e : Expression) → IsExpression known front e → AllRead known (reading known) e (front ++ rest) rest
@@ -57,7 +56,8 @@ expression_longest known tokens e rest is front back other same fits =
     subst (λ (it : List SourceToken). length it ≤ length back) (sym left) longer.less
 
 -- the same tokens are one expression at most
-pub expression_only : (known : Known) (front : List SourceToken) (e other : Expression) → IsExpression known front e → IsExpression known front other → e ≡ other
+pub expression_only : (known : Known) (front : List SourceToken) (e other : Expression) → IsExpression known front e → IsExpression known front other
+    → e ≡ other
 expression_only known front e other fits also = ap (tree_of e) (sym (read_alone known front e fits) ∙ read_alone known front other also)
 
 -- nothing is not something

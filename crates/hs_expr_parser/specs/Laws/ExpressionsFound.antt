@@ -98,7 +98,8 @@ taken : (least most : ℕ) (left : Expression) (operator : BinaryOperator) (at :
 taken least most left operator at right known above below begins =
     let it : Form = expression_form known left in
     let new : Expression = tree.binary left operator at right in
-    let loose : (sources : List SourceToken) → IsOf (as_operand most left (as_operand least left it)) sources → IsOf (as_operand (level_of operator) left it) sources =
+    let loose : (sources : List SourceToken) → IsOf (as_operand most left (as_operand least left it)) sources
+    → IsOf (as_operand (level_of operator) left it) sources =
     λ sources is.
     let inner = but_for (nat_le (2 + most) (rank left)) (as_operand least left it) sources is in
     let outer = (and_parts (nat_le (2 + most) (rank left)) (nat_le (2 + least) (rank left) && it.fits) is.0).0 in
@@ -111,7 +112,8 @@ taken least most left operator at right known above below begins =
     λ sources is.
     let own : nat_le (2 + level_of operator) (2 + level_of operator) ≡ true = grind (arith, nat_tests) in
     let lowest : nat_le (2 + least) (2 + level_of operator) ≡ true = grind (arith, nat_tests) in
-    let fits : (nat_le (2 + level_of operator) (2 + level_of operator) && (nat_le (2 + least) (2 + level_of operator) && (expression_form known new).fits)) ≡ true =
+    let fits : (nat_le (2 + level_of operator) (2 + level_of operator)
+    && (nat_le (2 + least) (2 + level_of operator) && (expression_form known new).fits)) ≡ true =
     rw (own, lowest) is.0 in
     (fits, is.1) in
     form_goes loose (goes_form (behind_goes (as_operand (level_of operator) left it) begins) tight)
@@ -148,7 +150,8 @@ joined_is known (one_left e at ∷ lefts) right sources is = is
 -- what follows a test stands there
 abbrev IsBranches : Known → Branches → List SourceToken → List SourceToken → Type 0
 IsBranches known it tokens rest =
-    Begins (form.mark_at it.at (codes "?") ⨾ expression_form known it.taken ⨾ mark (codes ":") ⨾ as_conditional it.otherwise (expression_form known it.otherwise))
+    Begins (form.mark_at it.at (codes "?") ⨾ expression_form known it.taken ⨾ mark (codes ":") ⨾ as_conditional it.otherwise
+    (expression_form known it.otherwise))
     tokens rest
 
 -- what is assigned stands there
@@ -209,7 +212,8 @@ module _ (known : Known) (table : Shorter) (found : IsFound known table) where
 
   -- a call
   call_found : (base : Expression) (source : SourceToken) (rest : List SourceToken) → is_punctuator (codes "(") source ≡ true
-      → Gives (λ e after. Goes (as_postfix base (expression_form known base)) (as_postfix e (expression_form known e)) (source ∷ rest) after) (call_rule table base rest)
+      → Gives (λ e after. Goes (as_postfix base (expression_form known base)) (as_postfix e (expression_form known e)) (source ∷ rest) after)
+      (call_rule table base rest)
   call_found base source rest is =
       let so = token_is Punctuator (codes "(") source is in
       then_gives _ _ (listed_found rest) (λ its middle inside.
@@ -234,7 +238,8 @@ module _ (known : Known) (table : Shorter) (found : IsFound known table) where
 
   -- what stands behind a postfix expression
   suffix_found : (base : Expression) (tokens : List SourceToken)
-      → Gives (λ e rest. Goes (as_postfix base (expression_form known base)) (as_postfix e (expression_form known e)) tokens rest) (suffix_rule table base tokens)
+      → Gives (λ e rest. Goes (as_postfix base (expression_form known base)) (as_postfix e (expression_form known e)) tokens rest)
+      (suffix_rule table base tokens)
   suffix_found base [] = none_gives
   suffix_found base (source ∷ rest) =
       if_gives (is_punctuator (codes "[") source) _ _ (λ is. index_found base source rest is)
@@ -243,7 +248,8 @@ module _ (known : Known) (table : Shorter) (found : IsFound known table) where
 
   -- the rest of a postfix expression
   pub suffixes_found : (base : Expression) (tokens : List SourceToken)
-      → Gives (λ e rest. Goes (as_postfix base (expression_form known base)) (as_postfix e (expression_form known e)) tokens rest) (suffixes_rule table base tokens)
+      → Gives (λ e rest. Goes (as_postfix base (expression_form known base)) (as_postfix e (expression_form known e)) tokens rest)
+      (suffixes_rule table base tokens)
   suffixes_found base tokens =
       going_gives _ _ _ (suffix_found base tokens)
       (λ e rest is first. so_gives _ (suffixes_gives known table found e rest) (λ all after second. then_goes first second))
@@ -312,7 +318,8 @@ module _ (known : Known) (table : Shorter) (found : IsFound known table) where
       (λ other. so_gives _ (unary_found tokens) (λ e rest it. looser_begins 13 14 e (expression_form known e) tokens rest (omega arith) it))
 
   -- an operator and its right operand
-  operator_found : (least most : ℕ) (tokens : List SourceToken) → Gives (λ it rest. IsOperand known least most it tokens rest) (operand_rule table least most tokens)
+  operator_found : (least most : ℕ) (tokens : List SourceToken)
+      → Gives (λ it rest. IsOperand known least most it tokens rest) (operand_rule table least most tokens)
   operator_found least most [] = none_gives
   operator_found least most (source ∷ rest) = by_first (binary_of source) refl
     where
@@ -334,7 +341,8 @@ module _ (known : Known) (table : Shorter) (found : IsFound known table) where
 
   -- the rest of operators
   climb_found : (least most : ℕ) (left : Expression) (tokens : List SourceToken) → least ≤ 11
-      → Gives (λ e rest. Goes (as_operand most left (as_operand least left (expression_form known left))) (as_operand least e (expression_form known e)) tokens rest)
+      → Gives (λ e rest. Goes (as_operand most left (as_operand least left (expression_form known left)))
+      (as_operand least e (expression_form known e)) tokens rest)
       (climb_rule table least most left tokens)
   climb_found least most left tokens within =
       going_gives _ _ _ (operator_found least most tokens)

@@ -1,5 +1,5 @@
 -- What the first token of a phrase is not.
---     join, grouped                             phrases put together again
+--     grouped                                   phrases put together again
 --     begins_word, opens, opens_direct          the first piece is a word, may open a declarator, or what its pointers stand before
 --     word_no_mark, declarator_no_mark, ..      so it is no other punctuator
 --     none_begins, no_list                      and begins no specifier
@@ -8,7 +8,7 @@ use Rattle.std.proofs.Common.{◌≡◌, ℕ, Bool, true, false, List, [], ◌�
 use Rattle.std.specs.Prelude.{◌&&◌, ◌||◌, not, codes, if◌then◌else◌}
 use Rattle.std.specs.Str.{bytes_eq}
 use Rattle.std.proofs.lemmas.Slice.Eq.{bytes_eq-Decides}
-use Rattle.std.proofs.lemmas.Bool.{cases_Bool}
+use Rattle.std.proofs.lemmas.Bool.{and_parts, cases_Bool, or_parts}
 use Rattle.hs_tokens.specs.Marks.{is_same_kind}
 use Rattle.hs_tokens.specs.declared.token.SourceToken.{SourceToken}
 use Rattle.hs_tokens.specs.declared.token.TokenKind.{TokenKind}
@@ -28,15 +28,10 @@ use Rattle.hs_syntax.specs.declared.operators.Pointer.TheVariants as pointer
 use Rattle.hs_expr_parser.specs.Ahead.{place_of, word_of, name_of, is_punctuator, spelled_so, is_ahead, is_mark_ahead, mark_at, token_so, dropped_of, begins_specifier}
 use Rattle.hs_expr_parser.specs.Ahead as ahead
 use Rattle.hs_expr_parser.specs.Reading.{Known, pointer_by, pointer_of, with_pointer, pointers_at}
-use Rattle.hs_expr_parser.specs.Laws.Apart.{both, kind_same}
+use Rattle.hs_expr_parser.specs.Laws.Apart.{kind_same}
 use Rattle.hs_expr_parser.specs.Expected.{enders, is_ender, ended}
 use Rattle.hs_expr_parser.specs.Laws.Primaries.{names_apart}
 use Rattle.hs_expr_parser.specs.Laws.Stopping.{operator_is}
-
--- neither of two tests
-pub neither : (one other : Bool) → (one || other) ≡ false → (one ≡ false) × (other ≡ false)
-neither false other is = (refl, is)
-neither true other is = absurd cc
 
 -- one of two tests is enough
 pub or_true : (one other : Bool) → other ≡ true → (one || other) ≡ true
@@ -54,23 +49,6 @@ mark_missing text [] is = refl
 mark_missing text (source ∷ rest) is = rw is refl
 
 -- ---- phrases put together
-
--- tokens of pieces put together
-spells_join : (pieces others : List Piece) (one other : List SourceToken) → Spells pieces one → Spells others other → Spells (pieces ++ others) (one ++ other)
-spells_join [] others [] other spells more = more
-spells_join [] others (source ∷ one) other spells more = absurd spells
-spells_join (piece ∷ pieces) others [] other spells more = absurd spells
-spells_join (piece ∷ pieces) others (source ∷ one) other spells more = (spells.0, spells.1, spells.2, spells_join pieces others one other spells.3 more)
-
--- two tests that hold
-all_true : (one other : Bool) → one ≡ true → other ≡ true → (one && other) ≡ true
-all_true true other is also = also
-all_true false other is also = is
-
--- one phrase behind another
-pub join : (one other : Form) (front back : List SourceToken) → IsOf one front → IsOf other back → IsOf (one ⨾ other) (front ++ back)
-join one other front back is also =
-    (all_true one.fits other.fits is.0 also.0, spells_join one.pieces other.pieces front back is.1 also.1)
 
 -- of three phrases the first two, or the last two, are one
 pub grouped : (one other last : Form) → (one ⨾ other ⨾ last) ≡ ((one ⨾ other) ⨾ last)
@@ -116,7 +94,8 @@ pub specifier_no_mark : (known : Known) (typed : Bool) (text : List ℕ) (tokens
     → is_mark_ahead text tokens ≡ false
 specifier_no_mark known typed text [] is = refl
 specifier_no_mark known typed text (source ∷ rest) is =
-    let tests = both (is_same_kind source.token.kind Identifier) (is_among specifier_words source.token.text || (not typed && is_type_name known source.token.text)) is in
+    let tests = and_parts (is_same_kind source.token.kind Identifier)
+    (is_among specifier_words source.token.text || (not typed && is_type_name known source.token.text)) is in
     word_is_none source.token.kind text source.token.text tests.0
 
 -- a specifier begins with a word
@@ -138,13 +117,14 @@ specification_word known typed (tree.more_specifiers it rest) has =
     word_more (specifier_form known it).pieces (specification_form known (typed || is_type it) rest).pieces (specifier_word known it)
 
 -- and members
-pub members_word : (known : Known) (its : Members) → has_members its ≡ true → (members_form known its).fits ≡ true → begins_word (members_form known its).pieces ≡ true
+pub members_word : (known : Known) (its : Members) → has_members its ≡ true → (members_form known its).fits ≡ true
+    → begins_word (members_form known its).pieces ≡ true
 members_word known tree.no_members has fits = absurd cc
 members_word known (tree.more_members specification declared rest) has fits =
-    let one = both (has_specifiers specification && has_declarators declared) _ (both _ (members_form known rest).fits fits).0 in
+    let one = and_parts (has_specifiers specification && has_declarators declared) _ (and_parts _ (members_form known rest).fits fits).0 in
     word_more _ (members_form known rest).pieces
     (word_more (specification_form known false specification).pieces _
-    (specification_word known false specification (both (has_specifiers specification) (has_declarators declared) one.0).0))
+    (specification_word known false specification (and_parts (has_specifiers specification) (has_declarators declared) one.0).0))
 
 -- and enumeration constants
 pub constants_word : (known : Known) (its : Constants) → has_constants its ≡ true → begins_word (constants_form known its).pieces ≡ true
@@ -181,16 +161,20 @@ passes_more passes (piece ∷ pieces) others is also = is
 pub direct_opens : (known : Known) (inner : Bool) (it : Directly) → (direct_form known inner it).fits ≡ true
     → first_passes opens_direct (direct_form known inner it).pieces ≡ true
 direct_opens known inner tree.nothing fits = refl
-direct_opens known inner (tree.identifier it) fits = (both (is_name it.text) true fits).0
+direct_opens known inner (tree.identifier it) fits = (and_parts (is_name it.text) true fits).0
 direct_opens known inner (tree.parens_of it) fits = refl
 direct_opens known inner (tree.array base) fits =
-    passes_more opens_direct (direct_form known inner base).pieces _ (direct_opens known inner base (both (direct_form known inner base).fits _ fits).0) refl
+    passes_more opens_direct (direct_form known inner base).pieces _
+    (direct_opens known inner base (and_parts (direct_form known inner base).fits _ fits).0) refl
 direct_opens known inner (tree.sized_array base e) fits =
-    passes_more opens_direct (direct_form known inner base).pieces _ (direct_opens known inner base (both (direct_form known inner base).fits _ fits).0) refl
+    passes_more opens_direct (direct_form known inner base).pieces _
+    (direct_opens known inner base (and_parts (direct_form known inner base).fits _ fits).0) refl
 direct_opens known inner (tree.function base its) fits =
-    passes_more opens_direct (direct_form known inner base).pieces _ (direct_opens known inner base (both (direct_form known inner base).fits _ fits).0) refl
+    passes_more opens_direct (direct_form known inner base).pieces _
+    (direct_opens known inner base (and_parts (direct_form known inner base).fits _ fits).0) refl
 direct_opens known inner (tree.function_of_void base at) fits =
-    passes_more opens_direct (direct_form known inner base).pieces _ (direct_opens known inner base (both (direct_form known inner base).fits _ fits).0) refl
+    passes_more opens_direct (direct_form known inner base).pieces _
+    (direct_opens known inner base (and_parts (direct_form known inner base).fits _ fits).0) refl
 
 -- pointers stand in front of it
 pointers_open : (its : List Pointer) (pieces : List Piece) → first_passes opens_direct pieces ≡ true
@@ -219,7 +203,7 @@ pub declarator_opens : (known : Known) (inner : Bool) (it : Declared) → (decla
     → first_passes opens (declarator_form known inner it).pieces ≡ true
 declarator_opens known inner (tree.pointing pointers direct) fits =
     pointers_open pointers (direct_form known inner direct).pieces
-    (direct_opens known inner direct (both (pointers_form pointers).fits (direct_form known inner direct).fits fits).1)
+    (direct_opens known inner direct (and_parts (pointers_form pointers).fits (direct_form known inner direct).fits fits).1)
 
 -- a text that is one of some words is none that is not
 pub apart_from : (words : List (List ℕ)) (text other : List ℕ) → is_among words text ≡ true → is_among words other ≡ false → bytes_eq text other ≡ false
@@ -250,7 +234,8 @@ declarator_no_mark text (piece ∷ pieces) (source ∷ front) rest apart is spel
     opens_no_mark text source.token.text source.token.kind apart ((λ i. opens (spells.0 i) (spells.1 i)) ∙ is)
 
 -- what follows specifiers begins none
-pub none_begins : (known : Known) (typed : Bool) (pieces : List Piece) (front rest : List SourceToken) → begins_none known typed pieces ≡ true → Spells pieces front
+pub none_begins : (known : Known) (typed : Bool) (pieces : List Piece) (front rest : List SourceToken) → begins_none known typed pieces ≡ true
+    → Spells pieces front
     → is_ahead (begins_specifier known typed) rest ≡ false → is_ahead (begins_specifier known typed) (front ++ rest) ≡ false
 none_begins known typed [] [] rest is spells after = after
 none_begins known typed [] (source ∷ front) rest is spells after = absurd spells
@@ -264,7 +249,7 @@ pub mark_no_specifier : (known : Known) (typed : Bool) (text : List ℕ) (tokens
     → is_ahead (begins_specifier known typed) tokens ≡ false
 mark_no_specifier known typed text [] is = refl
 mark_no_specifier known typed text (source ∷ rest) is =
-    let tests = both (is_same_kind source.token.kind Punctuator) (bytes_eq source.token.text text) is in
+    let tests = and_parts (is_same_kind source.token.kind Punctuator) (bytes_eq source.token.text text) is in
     ap (λ kind. is_same_kind kind Identifier && (is_among specifier_words source.token.text || (not typed && is_type_name known source.token.text)))
     (kind_same source.token.kind Punctuator tests.0)
 
@@ -273,7 +258,7 @@ pub mark_no_mark : (text other : List ℕ) (tokens : List SourceToken) → bytes
     → is_mark_ahead other tokens ≡ false
 mark_no_mark text other [] apart is = refl
 mark_no_mark text other (source ∷ rest) apart is =
-    let tests = both (is_same_kind source.token.kind Punctuator) (bytes_eq source.token.text text) is in
+    let tests = and_parts (is_same_kind source.token.kind Punctuator) (bytes_eq source.token.text text) is in
     ap (λ it. is_same_kind source.token.kind Punctuator && bytes_eq it other) ((bytes_eq-Decides source.token.text text).0 tests.1)
     ∙ rw tests.0 apart
 
@@ -287,10 +272,11 @@ no_list known (piece ∷ pieces) (source ∷ front) rest is passes spells after 
     (λ i. is_same_kind (spells.0 i) Identifier && (is_among specifier_words (spells.1 i) || (not false && is_type_name known (spells.1 i))))
     ∙ by_kind piece.kind piece.text is passes
   where
-    by_kind : (kind : TokenKind) (text : List ℕ) → (is_same_kind kind Identifier && (is_type_name known text || is_among dropped_words text)) ≡ false → opens kind text ≡ true
+    by_kind : (kind : TokenKind) (text : List ℕ) → (is_same_kind kind Identifier && (is_type_name known text || is_among dropped_words text)) ≡ false
+        → opens kind text ≡ true
         → (is_same_kind kind Identifier && (is_among specifier_words text || is_type_name known text)) ≡ false
     by_kind Identifier text is passes =
-        let tests = neither (is_type_name known text) (is_among dropped_words text) is in
+        let tests = or_parts (is_type_name known text) (is_among dropped_words text) is in
         let named : is_name text ≡ true = ap (λ it. it || is_name text) (sym tests.1) ∙ passes in
         rw (names_apart text named) tests.0
     by_kind Punctuator text is passes = refl
@@ -301,13 +287,13 @@ no_list known (piece ∷ pieces) (source ∷ front) rest is passes spells after 
 -- ---- behind the pointers
 
 -- a dropped word is a keyword
-dropped_no_name : (it : Dropped) → is_name (dropped_text it) ≡ false
+pub dropped_keyword : (it : Dropped) → is_name (dropped_text it) ≡ false
 unfolding keywords
-dropped_no_name dropped.Auto = refl
-dropped_no_name dropped.Register = refl
-dropped_no_name dropped.Const = refl
-dropped_no_name dropped.Volatile = refl
-dropped_no_name dropped.Pascal = refl
+dropped_keyword dropped.Auto = refl
+dropped_keyword dropped.Register = refl
+dropped_keyword dropped.Const = refl
+dropped_keyword dropped.Volatile = refl
+dropped_keyword dropped.Pascal = refl
 
 -- a name is no keyword of some kind
 pub no_word : {A : Type 0} (spelling : A → List ℕ) (all : List A) (source : SourceToken) (found : Option A) → ((it : A) → is_name (spelling it) ≡ false)
@@ -317,13 +303,14 @@ no_word spelling all source None keyword is named = is
 no_word spelling all source (Some it) keyword is named =
     let same = operator_is Identifier spelling all source it is in
     let wrong : false ≡ true =
-    sym (keyword it) ∙ ap (λ (it : SourceToken). is_name it.token.text) (sym same) ∙ named (ap (λ (it : SourceToken). is_same_kind it.token.kind Identifier) same) in
+    sym (keyword it) ∙ ap (λ (it : SourceToken). is_name it.token.text) (sym same)
+    ∙ named (ap (λ (it : SourceToken). is_same_kind it.token.kind Identifier) same) in
     absurd cc
 
 -- what opens a direct declarator is no pointer
 direct_no_pointer : (source : SourceToken) → opens_direct source.token.kind source.token.text ≡ true → pointer_of source ≡ None
 direct_no_pointer source is =
-    let none = no_word dropped_text dropped_words_all source (dropped_of source) dropped_no_name refl (named source.token.kind source.token.text is) in
+    let none = no_word dropped_text dropped_words_all source (dropped_of source) dropped_keyword refl (named source.token.kind source.token.text is) in
     λ i. pointer_by (no_star source.token.kind source.token.text is i) (none i) (place_of source)
   where
     dropped_words_all : List Dropped
@@ -346,26 +333,27 @@ direct_no_pointer source is =
 -- what may follow a declarator is no other punctuator
 pub ender_no_mark : (text : List ℕ) (source : SourceToken) → is_among enders text ≡ false → is_ender source ≡ true → is_punctuator text source ≡ false
 ender_no_mark text source apart is =
-    let tests = both (is_same_kind source.token.kind Punctuator) (is_among enders source.token.text) is in
+    let tests = and_parts (is_same_kind source.token.kind Punctuator) (is_among enders source.token.text) is in
     ap (λ it. it && bytes_eq source.token.text text) tests.0 ∙ apart_from enders source.token.text text tests.1 apart
 
 -- nor a name
 pub ender_no_name : (source : SourceToken) → is_ender source ≡ true → name_of source ≡ None
 ender_no_name source is =
-    let tests = both (is_same_kind source.token.kind Punctuator) (is_among enders source.token.text) is in
-    ap (λ kind. if is_same_kind kind Identifier && is_name source.token.text then Some (word_of source) else None) (kind_same source.token.kind Punctuator tests.0)
+    let tests = and_parts (is_same_kind source.token.kind Punctuator) (is_among enders source.token.text) is in
+    ap (λ kind. if is_same_kind kind Identifier && is_name source.token.text then Some (word_of source) else None)
+    (kind_same source.token.kind Punctuator tests.0)
 
 -- such a punctuator may follow one
 pub mark_ender : (text : List ℕ) (tokens : List SourceToken) → is_among enders text ≡ true → is_mark_ahead text tokens ≡ true → ended tokens ≡ true
 mark_ender text [] among is = refl
 mark_ender text (source ∷ rest) among is =
-    let tests = both (is_same_kind source.token.kind Punctuator) (bytes_eq source.token.text text) is in
+    let tests = and_parts (is_same_kind source.token.kind Punctuator) (bytes_eq source.token.text text) is in
     rw tests.0 (ap (is_among enders) ((bytes_eq-Decides source.token.text text).0 tests.1) ∙ among)
 
 -- nor a pointer
 ender_no_pointer : (source : SourceToken) → is_ender source ≡ true → pointer_of source ≡ None
 ender_no_pointer source is =
-    let tests = both (is_same_kind source.token.kind Punctuator) (is_among enders source.token.text) is in
+    let tests = and_parts (is_same_kind source.token.kind Punctuator) (is_among enders source.token.text) is in
     let kind = kind_same source.token.kind Punctuator tests.0 in
     let star = ender_no_mark (codes "*") source refl is in
     let none : dropped_of source ≡ None =

@@ -3,7 +3,8 @@
 use Rattle.std.proofs.Common.{◌≡◌, Bool, true, false, List, Some, None, refl, ap, subst}
 use Rattle.std.specs.Prelude.{if◌then◌else◌}
 use Rattle.hs_tokens.specs.declared.token.SourceToken.{SourceToken}
-use Rattle.hs_expr_parser.specs.Recursion.{Read}
+use Rattle.hs_expr_parser.specs.Recursion.{Read, Table}
+use Rattle.hs_expr_parser.specs.Laws.Recursions.{Fact, Always}
 use Rattle.hs_expr_parser.specs.Reading.{◌>>=◌, going_on}
 
 -- whatever is read, this holds of it and of the tokens behind it
@@ -57,3 +58,8 @@ if_gives false one other first second = second refl
 pub so_gives : {A : Type 0} {Before Behind : A → List SourceToken → Type 0} (it : Read A) → Gives Before it
     → ((tree : A) (rest : List SourceToken) → Before tree rest → Behind tree rest) → Gives Behind it
 so_gives it first so = record { holds = λ tree rest is. so tree rest (first.holds tree rest is) }
+
+-- a table gives what holds of all that it reads
+pub always_gives : {Goal : Type 0} {Tree : Goal → Type 0} (Holds : Fact Goal Tree) (table : Table Goal Tree) → Always Holds table
+    → (it : Goal) (tokens : List SourceToken) → Gives (λ (tree : Tree it) rest. Holds it tree tokens rest) (table it tokens)
+always_gives Holds table always it tokens = record { holds = λ tree rest is. always it tokens tree rest is }

@@ -3,7 +3,7 @@
 --     no_constants_all, constant_all, valued_constant_all
 use Rattle.std.proofs.Common.{◌≡◌, ◌≤◌, Bool, true, false, List, [], ◌∷◌, ◌++◌, Some, None, refl, ap, sym, ◌∙◌, subst, append_assoc, inl, inr}
 use Rattle.std.specs.Prelude.{◌&&◌, ◌||◌, codes, if◌then◌else◌}
-use Rattle.std.proofs.lemmas.Bool.{cases_Bool}
+use Rattle.std.proofs.lemmas.Bool.{and_parts, cases_Bool}
 use Rattle.hs_tokens.specs.declared.token.SourceToken.{SourceToken}
 use Rattle.hs_tokens.specs.declared.token.TokenKind.TheVariants.{Identifier, Punctuator}
 use Rattle.hs_syntax.specs.Forms.{Piece, Form, ◌⨾◌, when, mark, word, IsOf}
@@ -20,11 +20,12 @@ use Rattle.hs_expr_parser.specs.Goals as goal
 use Rattle.hs_expr_parser.specs.Recursion.{Read}
 use Rattle.hs_expr_parser.specs.Reading.{Known, Shorter, ◌>>=◌, going_on, member_rule_of, members_rule, constant_rule, constants_rule}
 use Rattle.hs_expr_parser.specs.Laws.Along.{Whole}
-use Rattle.hs_expr_parser.specs.Laws.Apart.{both, with_text, token_is, split, when_parts, one_token}
+use Rattle.hs_expr_parser.specs.Laws.Apart.{with_text, token_is, split, when_parts, one_token}
 use Rattle.hs_expr_parser.specs.Laws.Commas.{after_comma}
 use Rattle.hs_expr_parser.specs.Laws.Entries.{specification_again, declarators_again}
 use Rattle.hs_expr_parser.specs.Expected.{specifiers_in, members_in, constants_in, declarators_in, ReadsSpecification, ReadsMembers, ReadsConstants, ReadsDeclarators}
-use Rattle.hs_expr_parser.specs.Laws.FirstTokens.{or_true, grouped, join, word_more, declarator_opens, declarator_no_mark, none_begins, members_word, constants_word, word_no_mark, mark_missing, mark_no_specifier, mark_no_mark}
+use Rattle.hs_expr_parser.specs.Laws.Spelled.{is_behind}
+use Rattle.hs_expr_parser.specs.Laws.FirstTokens.{or_true, grouped, word_more, declarator_opens, declarator_no_mark, none_begins, members_word, constants_word, word_no_mark, mark_missing, mark_no_specifier, mark_no_mark}
 use Rattle.hs_expr_parser.specs.Laws.Primaries.{ReadsAll, closing, closes, mark_reads, name_reads, behind, ranked}
 use Rattle.hs_expr_parser.specs.Laws.Ranks.{AllRead}
 use Rattle.hs_expr_parser.specs.Laws.TypesRead.{some_read}
@@ -45,7 +46,8 @@ declarators_no_brace known (tree.more_declarators it its) front rest fits ahead 
     let parts = behind (when (is_named it) form) (behind_comma (has_declarators its) (declarators_form known its)) front fits in
     let named = when_parts (is_named it) form parts.front parts.first in
     ap (is_mark_ahead (codes "{")) (parts.whole rest)
-    ∙ declarator_no_mark (codes "{") form.pieces parts.front (parts.back ++ rest) refl (declarator_opens known false it named.1.0) named.1.1 (more its parts.back parts.second)
+    ∙ declarator_no_mark (codes "{") form.pieces parts.front (parts.back ++ rest) refl (declarator_opens known false it named.1.0) named.1.1
+    (more its parts.back parts.second)
   where
     more : (its : Declarators) (two : List SourceToken) → IsOf (behind_comma (has_declarators its) (declarators_form known its)) two
         → is_mark_ahead (codes "{") (two ++ rest) ≡ false
@@ -56,13 +58,15 @@ declarators_no_brace known (tree.more_declarators it its) front rest fits ahead 
         ap (is_mark_ahead (codes "{")) (after.whole rest) ∙ ap (is_punctuator (codes "{")) after.is
 
 -- where none begins, none begins in front
-none_front : (known : Known) (typed : Bool) (pieces others : List Piece) → begins_none known typed (pieces ++ others) ≡ true → begins_none known typed pieces ≡ true
+none_front : (known : Known) (typed : Bool) (pieces others : List Piece) → begins_none known typed (pieces ++ others) ≡ true
+    → begins_none known typed pieces ≡ true
 none_front known typed [] others is = refl
 none_front known typed (piece ∷ pieces) others is = is
 
 -- what is read behind the specifiers of a member
 abbrev member_behind : Shorter → List Specified × List SourceToken → Read OneMember
-member_behind table its = table (goal.declarators []) its.1 >>= closing (λ declared. one_member (specification_from its.0) (declarators_from declared)) (codes ";")
+member_behind table its = table (goal.declarators []) its.1 >>= closing
+    (λ declared. one_member (specification_from its.0) (declarators_from declared)) (codes ";")
 
 -- members that are declared together
 member_reads : {known : Known} {table : Shorter} → Whole known table → (its : Specification) (declared : Declarators) (front rest : List SourceToken)
@@ -103,7 +107,7 @@ more_members_all {known = known} {table = table} whole its declared all specifie
     let entry : Form = specification_form known false its ⨾ ends_before known its (declarators_form known declared ⨾ mark (codes ";")) in
     let parts = behind (when (has_specifiers its && has_declarators declared) entry) (members_form known all) front fits in
     let some = when_parts (has_specifiers its && has_declarators declared) entry parts.front parts.first in
-    let tests = both (has_specifiers its) (has_declarators declared) some.0 in
+    let tests = and_parts (has_specifiers its) (has_declarators declared) some.0 in
     ap (members_rule known table earlier) (parts.whole rest)
     ∙ ap (λ found. found >>= members_then table earlier)
     (member_reads whole its declared parts.front (parts.back ++ rest) specified declarators tests.0 tests.1 some.1)
@@ -158,7 +162,7 @@ constants_more : {known : Known} {table : Shorter} → Whole known table → (it
 constants_more {known = known} {table = table} whole it its earlier comma two three rest reads has second third ends =
     let form : Form = constants_form known its in
     let after = after_comma form two second in
-    let all = join form (comma_form comma) after.others three after.fits third in
+    let all = is_behind form (comma_form comma) after.others three after.fits third in
     let same : after.others ++ (three ++ rest) ≡ (after.others ++ three) ++ rest = sym (append_assoc after.others three rest) in
     let tokens : List SourceToken = after.others ++ (three ++ rest) in
     let goes : is_mark_ahead (codes "}") tokens ≡ false =
@@ -191,8 +195,10 @@ constants_on : {known : Known} {table : Shorter} → Whole known table → (it :
     → ((more : List SourceToken) → ends_constant more ≡ true → constant_rule table (one ++ more) ≡ Some (it, more))
     → IsOf (behind_comma (has_constants its) (constants_form known its)) two → IsOf (comma_form comma) three → is_mark_ahead (codes "}") rest ≡ true
     → constants_rule table earlier (one ++ (two ++ (three ++ rest))) ≡ Some ((earlier ++ it ∷ constants_in its, comma), rest)
-constants_on {known = known} {table = table} whole it tree.no_constants earlier comma one (source ∷ two) three rest others reads second third ends = absurd second.1
-constants_on {known = known} {table = table} whole it tree.no_constants earlier false one [] (source ∷ three) rest others reads second third ends = absurd third.1
+constants_on {known = known} {table = table} whole it tree.no_constants earlier comma one (source ∷ two) three rest others reads second third ends =
+    absurd second.1
+constants_on {known = known} {table = table} whole it tree.no_constants earlier false one [] (source ∷ three) rest others reads second third ends =
+    absurd third.1
 constants_on {known = known} {table = table} whole it tree.no_constants earlier false one [] [] rest others reads second third ends =
     ap (λ found. found >>= constants_then table earlier) (reads rest (or_true (is_mark_ahead (codes ",") rest) (is_mark_ahead (codes "}") rest) ends))
     ∙ ap (λ found. going_on found (λ comma rest. behind_constant table (earlier ++ it ∷ []) rest) (Some ((earlier ++ it ∷ [], false), rest)))

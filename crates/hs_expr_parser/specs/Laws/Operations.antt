@@ -110,11 +110,13 @@ operand_found table least most operator source tail is low high =
     ap (λ found. operand_by table least most found (place_of source) tail) (ap binary_of is ∙ binary_found operator source) ∙ rw one (rw other refl)
 
 -- behind the left operand
-binary_behind : {known : Known} {table : Shorter} → Whole known table → (left : Expression) (operator : BinaryOperator) (right : Expression) (source : SourceToken)
+binary_behind : {known : Known} {table : Shorter} → Whole known table
+    → (left : Expression) (operator : BinaryOperator) (right : Expression) (source : SourceToken)
     (tokens tail rest : List SourceToken) → source ≡ with_text Punctuator (binary_text operator) source → 2 + level_of operator ≤ rank left
     → AllRead known table left tokens (source ∷ tail) → (least : ℕ) → 1 ≤ least → least ≤ level_of operator
     → binary_rule known table least tokens
-    ≡ going_on (table (goal.binary (suc (level_of operator))) tail >>= with_right operator (place_of source)) (climbing table least left) (Some (left, source ∷ tail))
+    ≡ going_on (table (goal.binary (suc (level_of operator))) tail >>= with_right operator (place_of source)) (climbing table least left)
+    (Some (left, source ∷ tail))
 binary_behind {known = known} {table = table} whole left operator right source tokens tail rest is tight all least some low =
     let most = level_most operator in
     let enough = tight_enough left (level_of operator) (level_least operator) most tight in
@@ -128,7 +130,8 @@ binary_behind {known = known} {table = table} whole left operator right source t
 -- the same where the right operand is read
 binary_by : {known : Known} {table : Shorter} → Whole known table → (left : Expression) (operator : BinaryOperator) (right : Expression) (source : SourceToken)
     (tokens tail rest : List SourceToken) → source ≡ with_text Punctuator (binary_text operator) source → 2 + level_of operator ≤ rank left
-    → AllRead known table left tokens (source ∷ tail) → Reads (binary_rule known table (suc (level_of operator)) tail) right rest (stops (3 + level_of operator) rest)
+    → AllRead known table left tokens (source ∷ tail)
+    → Reads (binary_rule known table (suc (level_of operator)) tail) right rest (stops (3 + level_of operator) rest)
     → AllRead known table (tree.binary left operator (place_of source) right) tokens rest
 binary_by {known = known} {table = table} whole left operator right source tokens tail rest is tight all reads =
     let most = level_most operator in
@@ -148,7 +151,8 @@ binary_by {known = known} {table = table} whole left operator right source token
     binary_behind whole left operator right source tokens tail rest is tight all least some low ∙ ap (on least) (asked.exact stopped) ∙ goes least right rest in
     let longer : (least : ℕ) → 1 ≤ least → least ≤ level_of operator → Longer (binary_rule known table least tokens) rest =
     λ least some low.
-    longer_along (binary_behind whole left operator right source tokens tail rest is tight all least some low ∙ ap (on least) asked.longer.is ∙ goes least asked.longer.it asked.longer.left)
+    longer_along (binary_behind whole left operator right source tokens tail rest is tight all least some low ∙ ap (on least) asked.longer.is
+    ∙ goes least asked.longer.it asked.longer.left)
     (longer_on asked.longer.less (climb_longer whole least (level_of operator) (tree.binary left operator at asked.longer.it) asked.longer.left)) in
     binary_all whole (tree.binary left operator at right) tokens rest (omega (arith, some_level)) (omega (arith, most)) all.begins
     (λ least some limit low stopped. climbs least some (omega (arith, low)) stopped)
@@ -175,7 +179,11 @@ binary_form_all {known = known} {table = table} whole left operator at right rea
     let same : front ++ rest ≡ tokens = parts.whole rest ∙ ap (λ it. parts.front ++ (it ++ rest)) (back.whole ∙ ap (λ it. it ++ back.back) one.alone) in
     let right_read = (others back.back rest high.1).binary (suc (level_of operator)) (omega arith) (omega (arith, most)) (omega (arith, high.0)) in
     let all = binary_by whole left operator right one.source tokens tail rest one.is low.0 (reads parts.front (one.source ∷ tail) low.1)
-    (record { longer = right_read.longer; exact = λ stopped. right_read.exact (looser (3 + level_of operator) (2 + suc (level_of operator)) rest (omega arith) stopped) }) in
+    (record {
+      longer = right_read.longer;
+      exact =
+          λ stopped. right_read.exact (looser (3 + level_of operator) (2 + suc (level_of operator)) rest (omega arith) stopped);
+    }) in
     all_along same (subst (λ (place : Place). AllRead known table (tree.binary left operator place right) tokens rest) one.at all)
 
 -- ---- conditionals
@@ -206,7 +214,8 @@ conditional_form_all {known = known} {table = table} whole test at taken otherwi
     let parts = behind (as_operand 1 test (expression_form known test))
     (mark_form at (codes "?") ⨾ expression_form known taken ⨾ mark (codes ":") ⨾ as_conditional otherwise (expression_form known otherwise)) front fits in
     let low = ranked 3 test (expression_form known test) parts.front parts.first in
-    let back = split (mark_form at (codes "?")) (expression_form known taken ⨾ mark (codes ":") ⨾ as_conditional otherwise (expression_form known otherwise)) parts.back parts.second in
+    let back = split (mark_form at (codes "?"))
+    (expression_form known taken ⨾ mark (codes ":") ⨾ as_conditional otherwise (expression_form known otherwise)) parts.back parts.second in
     let query = one_token Punctuator (codes "?") (Some at) back.front back.first in
     let middle = split (expression_form known taken) (mark (codes ":") ⨾ as_conditional otherwise (expression_form known otherwise)) back.back back.second in
     let last = split (mark (codes ":")) (as_conditional otherwise (expression_form known otherwise)) middle.back middle.second in
@@ -223,7 +232,8 @@ conditional_form_all {known = known} {table = table} whole test at taken otherwi
     let stopped : stops 3 (query.source ∷ inside) ≡ true = ap (λ it. is_below 3 (joins it)) query.is in
     let place = place_of query.source in
     let more : Expression × List SourceToken → Read Expression = λ it. going_on (branches_rule table it.1) (conditional_of it.0) (Some (it.0, it.1)) in
-    let on : Read Expression → Read Expression = λ found. going_on (found >>= last_branch place taken) (conditional_of test) (Some (test, query.source ∷ inside)) in
+    let on : Read Expression → Read Expression =
+    λ found. going_on (found >>= last_branch place taken) (conditional_of test) (Some (test, query.source ∷ inside)) in
     let behind_test : conditional_rule known table tokens ≡ on (table goal.conditional tail) =
     ap (λ it. it >>= more) ((all.binary 1 (omega arith) (omega arith) low.0).exact stopped)
     ∙ ap (λ found. going_on found (conditional_of test) (Some (test, query.source ∷ inside)))
@@ -265,7 +275,8 @@ assign_of_target target it rest = Some (tree.assign target it.operator it.at it.
 pub assign_all : {known : Known} {table : Shorter} → Whole known table → (target : Expression) (operator : AssignOperator) (at : Place) (e : Expression)
     → ReadsAll known table target → ReadsAll known table e → ReadsAll known table (tree.assign target operator at e)
 assign_all {known = known} {table = table} whole target operator at e reads others front rest fits =
-    let parts = behind (as_unary target (expression_form known target)) (mark_form at (assign_text operator) ⨾ as_assignment e (expression_form known e)) front fits in
+    let parts = behind (as_unary target (expression_form known target))
+    (mark_form at (assign_text operator) ⨾ as_assignment e (expression_form known e)) front fits in
     let low = ranked 14 target (expression_form known target) parts.front parts.first in
     let back = split (mark_form at (assign_text operator)) (as_assignment e (expression_form known e)) parts.back parts.second in
     let one = one_token Punctuator (assign_text operator) (Some at) back.front back.first in
@@ -280,7 +291,8 @@ assign_all {known = known} {table = table} whole target operator at e reads othe
     let unary : nat_le 14 (rank target) ≡ true = unary_is (rank target) low.0 in
     let more : Expression × List SourceToken → Read Expression =
     λ it. going_on (if nat_le 14 (rank it.0) then value_rule table it.1 else None) (assign_of_target it.0) (Some (it.0, it.1)) in
-    let on : Read Expression → Read Expression = λ found. going_on (found >>= with_value operator place) (assign_of_target target) (Some (target, one.source ∷ tail)) in
+    let on : Read Expression → Read Expression =
+    λ found. going_on (found >>= with_value operator place) (assign_of_target target) (Some (target, one.source ∷ tail)) in
     let behind_target : assignment_rule known table tokens ≡ on (table goal.assignment tail) =
     ap (λ it. it >>= more) ((all.conditional (omega (arith, low.0))).exact stopped)
     ∙ ap (λ test. going_on (if test then value_rule table (one.source ∷ tail) else None) (assign_of_target target) (Some (target, one.source ∷ tail))) unary
@@ -363,7 +375,8 @@ more_lefts_all {known = known} {table = table} whole e at others reads reads_oth
     let mark_then : Place × List SourceToken → Read (Place × Expression) = λ mark. table goal.assignment mark.1 >>= (λ it. Some ((mark.0, it.0), it.1)) in
     let another : another_rule table (comma.source ∷ tail) ≡ Some ((place, next.some.it), next.some.left) =
     ap (λ it. it >>= mark_then) (mark_reads (codes ",") comma.source tail comma.is) ∙ ap (λ it. it >>= pair) asked in
-    let read : (earlier : List OneLeft) → sequence known table earlier tokens ≡ sequence known table (earlier ++ lefts_in (tree.more_lefts e place others)) more =
+    let read : (earlier : List OneLeft) → sequence known table earlier tokens
+    ≡ sequence known table (earlier ++ lefts_in (tree.more_lefts e place others)) more =
     λ earlier.
     let later : List OneLeft = earlier ++ one_left e place ∷ [] in
     let behind_first : Expression × List SourceToken → Read Expression = λ it. commas_rule table earlier it.0 it.1 in

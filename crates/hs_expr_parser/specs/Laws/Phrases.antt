@@ -19,39 +19,38 @@ use Rattle.hs_expr_parser.specs.Laws.Bound.{Alike, alike_self}
 use Rattle.hs_expr_parser.specs.Laws.Complete.{all_expression, all_specification, all_declarator}
 use Rattle.hs_expr_parser.specs.Laws.Gives.{Gives}
 use Rattle.hs_expr_parser.specs.Laws.Plain as plain
-use Rattle.hs_expr_parser.specs.Laws.Plain.{reading_short, reading_is}
+use Rattle.hs_expr_parser.specs.Laws.Wholly.{whole}
 use Rattle.hs_expr_parser.specs.Laws.Primaries.{ranked}
 use Rattle.hs_expr_parser.specs.Laws.Sound.{reading_found}
 use Rattle.hs_expr_parser.specs.Laws.SpecifiersFound.{SomeSpecified, some_found}
 use Rattle.hs_expr_parser.specs.Laws.Spelled.{Begins}
 use Rattle.hs_expr_parser.specs.Laws.Tables.{Declares}
 use Rattle.hs_expr_parser.specs.Laws.TypesRead.{some_read}
-use Rattle.hs_expr_parser.specs.Laws.Wholly.{whole}
 
 -- ---- fewer tokens are left
 
 pub expression_short : (known : Known) (tokens : List SourceToken) → Alike (length tokens) (expression_at known tokens) (expression_at known tokens)
 unfolding expression_at
-expression_short known tokens = alike_self (plain.expression known (length tokens) (reading known) (reading_short known) tokens (omega arith)).short
+expression_short known tokens = alike_self (plain.expression known (length tokens) (reading known) (whole known).short tokens (omega arith)).short
 
 pub assignment_short : (known : Known) (tokens : List SourceToken) → Alike (length tokens) (assignment_at known tokens) (assignment_at known tokens)
 unfolding assignment_at
-assignment_short known tokens = alike_self (plain.assignment known (length tokens) (reading known) (reading_short known) tokens (omega arith)).short
+assignment_short known tokens = alike_self (plain.assignment known (length tokens) (reading known) (whole known).short tokens (omega arith)).short
 
 pub conditional_short : (known : Known) (tokens : List SourceToken) → Alike (length tokens) (conditional_at known tokens) (conditional_at known tokens)
 unfolding conditional_at
-conditional_short known tokens = alike_self (plain.conditional known (length tokens) (reading known) (reading_short known) tokens (omega arith)).short
+conditional_short known tokens = alike_self (plain.conditional known (length tokens) (reading known) (whole known).short tokens (omega arith)).short
 
 pub specifiers_short : (known : Known) (tokens : List SourceToken)
     → Alike (length tokens) (some_specifiers_at known tokens) (some_specifiers_at known tokens)
 unfolding some_specifiers_at
-specifiers_short known tokens = alike_self (plain.some_specifiers known (length tokens) (reading known) (reading_short known) tokens (omega arith)).short
+specifiers_short known tokens = alike_self (plain.some_specifiers known (length tokens) (reading known) (whole known).short tokens (omega arith)).short
 
 pub declarator_short : (known : Known) (inner : Bool) (tokens : List SourceToken)
     → Alike (suc (length tokens)) (declarator_at known inner tokens) (declarator_at known inner tokens)
 unfolding declarator_at
 declarator_short known inner tokens =
-    alike_self (plain.declarator known (length tokens) (reading known) (reading_short known) inner tokens (omega arith)).short
+    alike_self (plain.declarator known (length tokens) (reading known) (whole known).short inner tokens (omega arith)).short
 
 -- ---- what is read
 
@@ -60,7 +59,7 @@ pub expression_begins : (known : Known) (tokens : List SourceToken)
 unfolding expression_at
 expression_begins known tokens = record {
   holds = λ e rest is.
-      let found = reading_found known goal.expression tokens e rest (reading_is known (reading_short known) goal.expression tokens ∙ is) in
+      let found = reading_found known goal.expression tokens e rest ((whole known).plain goal.expression tokens ∙ is) in
       record { front = found.0; whole = found.1; is = found.2 };
 }
 
@@ -69,7 +68,7 @@ pub assignment_begins : (known : Known) (tokens : List SourceToken)
 unfolding assignment_at
 assignment_begins known tokens = record {
   holds = λ e rest is.
-      let found = reading_found known goal.assignment tokens e rest (reading_is known (reading_short known) goal.assignment tokens ∙ is) in
+      let found = reading_found known goal.assignment tokens e rest ((whole known).plain goal.assignment tokens ∙ is) in
       record { front = found.0; whole = found.1; is = found.2 };
 }
 
@@ -78,7 +77,7 @@ pub conditional_begins : (known : Known) (tokens : List SourceToken)
 unfolding conditional_at
 conditional_begins known tokens = record {
   holds = λ e rest is.
-      let found = reading_found known goal.conditional tokens e rest (reading_is known (reading_short known) goal.conditional tokens ∙ is) in
+      let found = reading_found known goal.conditional tokens e rest ((whole known).plain goal.conditional tokens ∙ is) in
       record { front = found.0; whole = found.1; is = found.2 };
 }
 
@@ -92,7 +91,7 @@ pub declarator_begins : (known : Known) (inner : Bool) (tokens : List SourceToke
 unfolding declarator_at
 declarator_begins known inner tokens = record {
   holds = λ it rest is.
-      let found = reading_found known (goal.declarator inner) tokens it rest (reading_is known (reading_short known) (goal.declarator inner) tokens ∙ is) in
+      let found = reading_found known (goal.declarator inner) tokens it rest ((whole known).plain (goal.declarator inner) tokens ∙ is) in
       record { begins = record { front = found.0; whole = found.1; is = found.2.0 }; named = found.2.1 };
 }
 

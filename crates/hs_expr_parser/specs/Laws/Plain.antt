@@ -1,8 +1,6 @@
 -- Each rule reads the same where it may ask the table about shorter lists alone: it asks about no others.
---     Short table        what is left is no longer than what was read
---     plain              a rule over shorter lists alone
---     reading_short      so the reading is
---     reading_is         one round of it
+--     rule_alike         a rule over shorter lists alone
+--     reads_by_rules     so the reading is a table that reads by the rules
 use Rattle.std.proofs.Common.{◌≡◌, ℕ, zero, suc, ◌<◌, ◌≤◌, Bool, true, false, List, [], ◌∷◌, length, Option, Some, None, ◌∙◌, inl, inr, arith}
 use Rattle.std.specs.Prelude.{nat_lt, if◌then◌else◌, codes, ◌||◌, ◌++◌}
 use Rattle.std.proofs.lemmas.Bool.{cases_Bool}
@@ -28,31 +26,18 @@ use Rattle.hs_syntax.specs.declared.word.Word.{Word}
 use Rattle.hs_expr_parser.specs.Ahead.{place_of, is_mark_ahead, name_of, prefix_of, access_of, postfix_of, binary_of, assign_of, storage_of, dropped_of, basic_of, begins_specifier}
 use Rattle.hs_expr_parser.specs.Goals as goal
 use Rattle.hs_expr_parser.specs.Goals.{Goal, Tree}
-use Rattle.hs_expr_parser.specs.Recursion.{Read, below, rounds}
+use Rattle.hs_expr_parser.specs.Recursion.{below}
 use Rattle.hs_expr_parser.specs.Reading.{◌>>=◌, Known, Shorter, parens_rule, primary_by, primary_rule, index_rule, call_rule, member_rule, suffix_rule, suffixes_rule, postfix_rule, operand_at, type_in_parens, sizeof_rule, unary_by, unary_rule, cast_rule, operand_by, operand_rule, climb_rule, binary_rule, branches_rule, conditional_rule, value_by, value_rule, assignment_rule, another_rule, commas_rule, expression_rule, arguments_rule, tag_at, tagged, struct_by, enum_by, specifier_by, specifier_rule, specifiers_rule, some_specifiers_rule, pointers_at, filled, inside_rule, nothing_there, base_by, base_rule, length_rule, list_rule, directs_rule, declarator_rule, declarators_rule, parameter_rule, parameters_rule, type_rule, member_rule_of, members_rule, constant_rule, constants_rule, rule, reading}
 use Rattle.hs_expr_parser.specs.Laws.Bound.{Alike, alike_none, alike_some, alike_more, alike_bind, alike_going, alike_if, alike_mark, alike_name, alike_void, literals_short, pointers_short, tag_short}
-use Rattle.hs_expr_parser.specs.Laws.Recursions.{below_is, fixed_is}
-
--- what is left is no longer than what was read
-abbrev pub Short : Shorter → Type 0
-Short table = (it : Goal) (tokens : List SourceToken) (tree : Tree it) (rest : List SourceToken) → table it tokens ≡ Some (tree, rest) → length rest ≤ length tokens
+use Rattle.hs_expr_parser.specs.Laws.Recursions.{Short, IsByRules}
+use Rattle.hs_expr_parser.specs.Laws.Rounds.{asks, fixed_by_rules}
 
 module _ (known : Known) (limit : ℕ) (table : Shorter) (shorts : Short table) where
-  -- what the table reads below the limit
-  asks : (it : Goal) (tokens : List SourceToken) → length tokens < limit → Alike (suc (length tokens)) (below limit table it tokens) (table it tokens)
-  asks it tokens low =
-      record {
-        same = below_is limit table it tokens low;
-        short = λ all is.
-            let short : length all.1 ≤ length tokens = shorts it tokens all.0 all.1 is in
-            omega arith;
-      }
-
   -- an expression in parentheses
   parens : (at : Place) (rest : List SourceToken) → length rest < limit
       → Alike (suc (length rest)) (parens_rule (below limit table) at rest) (parens_rule table at rest)
   parens at rest low =
-      alike_bind (asks goal.expression rest low) λ inner short.
+      alike_bind (asks limit table shorts goal.expression rest low) λ inner short.
       alike_bind (alike_mark _ inner.1) λ close shorter.
       alike_some (omega arith)
 
@@ -77,7 +62,7 @@ module _ (known : Known) (limit : ℕ) (table : Shorter) (shorts : Short table) 
   index : (base : Expression) (at : Place) (rest : List SourceToken) → length rest < limit
       → Alike (suc (length rest)) (index_rule (below limit table) base at rest) (index_rule table base at rest)
   index base at rest low =
-      alike_bind (asks goal.expression rest low) λ offset short.
+      alike_bind (asks limit table shorts goal.expression rest low) λ offset short.
       alike_bind (alike_mark _ offset.1) λ close shorter.
       alike_some (omega arith)
 
@@ -85,7 +70,7 @@ module _ (known : Known) (limit : ℕ) (table : Shorter) (shorts : Short table) 
   call_arguments : (rest : List SourceToken) → length rest < limit
       → Alike (suc (length rest)) (if is_mark_ahead (codes ")") rest then Some ([], rest) else below limit table (goal.arguments []) rest)
       (if is_mark_ahead (codes ")") rest then Some ([], rest) else table (goal.arguments []) rest)
-  call_arguments rest low = alike_if _ (alike_some (omega arith)) (asks (goal.arguments []) rest low)
+  call_arguments rest low = alike_if _ (alike_some (omega arith)) (asks limit table shorts (goal.arguments []) rest low)
 
   -- a call
   call : (base : Expression) (rest : List SourceToken) → length rest < limit
@@ -115,7 +100,7 @@ module _ (known : Known) (limit : ℕ) (table : Shorter) (shorts : Short table) 
   suffixes : (base : Expression) (tokens : List SourceToken) → length tokens ≤ limit
       → Alike (suc (length tokens)) (suffixes_rule (below limit table) base tokens) (suffixes_rule table base tokens)
   suffixes base tokens low =
-      alike_going (suffix base tokens low) (λ it rest short. alike_more (omega arith) (asks (goal.suffixes it) rest (omega arith)))
+      alike_going (suffix base tokens low) (λ it rest short. alike_more (omega arith) (asks limit table shorts (goal.suffixes it) rest (omega arith)))
       (alike_some (omega arith))
 
   -- a postfix expression
@@ -130,21 +115,21 @@ module _ (known : Known) (limit : ℕ) (table : Shorter) (shorts : Short table) 
   -- the operand of an operator in front
   operand_behind : (operator : PrefixOperator) (rest : List SourceToken) → length rest < limit
       → Alike (suc (length rest)) (operand_at (below limit table) operator rest) (operand_at table operator rest)
-  operand_behind Increment rest low = asks goal.unary rest low
-  operand_behind Decrement rest low = asks goal.unary rest low
-  operand_behind Address rest low = asks goal.cast rest low
-  operand_behind Dereference rest low = asks goal.cast rest low
-  operand_behind Plus rest low = asks goal.cast rest low
-  operand_behind Minus rest low = asks goal.cast rest low
-  operand_behind Complement rest low = asks goal.cast rest low
-  operand_behind Not rest low = asks goal.cast rest low
+  operand_behind Increment rest low = asks limit table shorts goal.unary rest low
+  operand_behind Decrement rest low = asks limit table shorts goal.unary rest low
+  operand_behind Address rest low = asks limit table shorts goal.cast rest low
+  operand_behind Dereference rest low = asks limit table shorts goal.cast rest low
+  operand_behind Plus rest low = asks limit table shorts goal.cast rest low
+  operand_behind Minus rest low = asks limit table shorts goal.cast rest low
+  operand_behind Complement rest low = asks limit table shorts goal.cast rest low
+  operand_behind Not rest low = asks limit table shorts goal.cast rest low
 
   -- a type name in parentheses
   type_inside : (tokens : List SourceToken) → length tokens ≤ limit
       → Alike (length tokens) (type_in_parens (below limit table) tokens) (type_in_parens table tokens)
   type_inside tokens low =
       alike_bind (alike_mark _ tokens) λ opening short.
-      alike_bind (asks goal.type_name opening.1 (omega arith)) λ type shorter.
+      alike_bind (asks limit table shorts goal.type_name opening.1 (omega arith)) λ type shorter.
       alike_bind (alike_mark _ type.1) λ close shortest.
       alike_some (omega arith)
 
@@ -153,7 +138,7 @@ module _ (known : Known) (limit : ℕ) (table : Shorter) (shorts : Short table) 
       → Alike (suc (length rest)) (sizeof_rule known (below limit table) at rest) (sizeof_rule known table at rest)
   sizeof at rest low =
       alike_if _ (alike_bind (type_inside rest (omega arith)) λ type short. alike_some (omega arith))
-      (alike_bind (asks goal.unary rest low) λ operand short. alike_some (omega arith))
+      (alike_bind (asks limit table shorts goal.unary rest low) λ operand short. alike_some (omega arith))
 
   -- a unary expression, by cases
   unary_with : (operator : Option PrefixOperator) (is_sizeof : Bool) (source : SourceToken) (rest : List SourceToken) → length rest < limit
@@ -174,7 +159,7 @@ module _ (known : Known) (limit : ℕ) (table : Shorter) (shorts : Short table) 
   cast tokens low =
       alike_if _
       (alike_bind (type_inside tokens low) λ type short.
-      alike_bind (asks goal.cast type.1 (omega arith)) λ operand shorter.
+      alike_bind (asks limit table shorts goal.cast type.1 (omega arith)) λ operand shorter.
       alike_some (omega arith))
       (unary tokens low)
 
@@ -185,7 +170,7 @@ module _ (known : Known) (limit : ℕ) (table : Shorter) (shorts : Short table) 
       → Alike (suc (length rest)) (operand_by (below limit table) least most operator at rest) (operand_by table least most operator at rest)
   operand_with least most None at rest low = alike_none
   operand_with least most (Some operator) at rest low =
-      alike_if _ (alike_bind (asks (goal.binary (suc (level_of operator))) rest low) λ right short. alike_some (omega arith)) alike_none
+      alike_if _ (alike_bind (asks limit table shorts (goal.binary (suc (level_of operator))) rest low) λ right short. alike_some (omega arith)) alike_none
 
   -- an operator with its right operand
   pub operand : (least most : ℕ) (tokens : List SourceToken) → length tokens ≤ limit
@@ -200,7 +185,7 @@ module _ (known : Known) (limit : ℕ) (table : Shorter) (shorts : Short table) 
       alike_going (operand least most tokens low)
       (λ it rest short.
       let goes_on : Goal = goal.climb least (level_of it.operator) (tree.binary left it.operator it.at it.right) in
-      alike_more (omega arith) (asks goes_on rest (omega arith)))
+      alike_more (omega arith) (asks limit table shorts goes_on rest (omega arith)))
       (alike_some (omega arith))
 
   -- an expression of binary operators
@@ -217,9 +202,9 @@ module _ (known : Known) (limit : ℕ) (table : Shorter) (shorts : Short table) 
       → Alike (length tokens) (branches_rule (below limit table) tokens) (branches_rule table tokens)
   branches tokens low =
       alike_bind (alike_mark _ tokens) λ query short.
-      alike_bind (asks goal.expression query.1 (omega arith)) λ taken shorter.
+      alike_bind (asks limit table shorts goal.expression query.1 (omega arith)) λ taken shorter.
       alike_bind (alike_mark _ taken.1) λ colon shortest.
-      alike_bind (asks goal.conditional colon.1 (omega arith)) λ otherwise least.
+      alike_bind (asks limit table shorts goal.conditional colon.1 (omega arith)) λ otherwise least.
       alike_some (omega arith)
 
   -- a conditional
@@ -233,7 +218,7 @@ module _ (known : Known) (limit : ℕ) (table : Shorter) (shorts : Short table) 
   value_with : (operator : Option AssignOperator) (at : Place) (rest : List SourceToken) → length rest < limit
       → Alike (suc (length rest)) (value_by (below limit table) operator at rest) (value_by table operator at rest)
   value_with None at rest low = alike_none
-  value_with (Some operator) at rest low = alike_bind (asks goal.assignment rest low) λ value short. alike_some (omega arith)
+  value_with (Some operator) at rest low = alike_bind (asks limit table shorts goal.assignment rest low) λ value short. alike_some (omega arith)
 
   -- what is assigned
   pub value : (tokens : List SourceToken) → length tokens ≤ limit
@@ -253,7 +238,7 @@ module _ (known : Known) (limit : ℕ) (table : Shorter) (shorts : Short table) 
       → Alike (length tokens) (another_rule (below limit table) tokens) (another_rule table tokens)
   another tokens low =
       alike_bind (alike_mark _ tokens) λ comma short.
-      alike_bind (asks goal.assignment comma.1 (omega arith)) λ right shorter.
+      alike_bind (asks limit table shorts goal.assignment comma.1 (omega arith)) λ right shorter.
       alike_some (omega arith)
 
   -- all of them behind the first operands
@@ -261,7 +246,7 @@ module _ (known : Known) (limit : ℕ) (table : Shorter) (shorts : Short table) 
       → Alike (suc (length tokens)) (commas_rule (below limit table) lefts right tokens) (commas_rule table lefts right tokens)
   commas lefts right tokens low =
       alike_going (another tokens low)
-      (λ it rest short. alike_more (omega arith) (asks (goal.commas (lefts ++ one_left right it.0 ∷ []) it.1) rest (omega arith)))
+      (λ it rest short. alike_more (omega arith) (asks limit table shorts (goal.commas (lefts ++ one_left right it.0 ∷ []) it.1) rest (omega arith)))
       (alike_some (omega arith))
 
   -- an expression
@@ -277,7 +262,7 @@ module _ (known : Known) (limit : ℕ) (table : Shorter) (shorts : Short table) 
   arguments earlier tokens low =
       alike_bind (assignment tokens low) λ it short.
       alike_going (alike_mark _ it.1)
-      (λ comma rest shorter. alike_more (omega arith) (asks (goal.arguments (earlier ++ it.0 ∷ [])) rest (omega arith)))
+      (λ comma rest shorter. alike_more (omega arith) (asks limit table shorts (goal.arguments (earlier ++ it.0 ∷ [])) rest (omega arith)))
       (alike_some (omega arith))
 
   -- ---- specifiers
@@ -293,7 +278,7 @@ module _ (known : Known) (limit : ℕ) (table : Shorter) (shorts : Short table) 
   structure at tag rest low =
       alike_if _
       (alike_bind (alike_mark _ rest) λ brace short.
-      alike_bind (asks (goal.members []) brace.1 (omega arith)) λ its shorter.
+      alike_bind (asks limit table shorts (goal.members []) brace.1 (omega arith)) λ its shorter.
       alike_bind (alike_mark _ its.1) λ close shortest.
       alike_some (omega arith))
       (tag_alone _ tag rest)
@@ -304,7 +289,7 @@ module _ (known : Known) (limit : ℕ) (table : Shorter) (shorts : Short table) 
   enumeration at tag rest low =
       alike_if _
       (alike_bind (alike_mark _ rest) λ brace short.
-      alike_bind (asks (goal.constants []) brace.1 (omega arith)) λ its shorter.
+      alike_bind (asks limit table shorts (goal.constants []) brace.1 (omega arith)) λ its shorter.
       alike_bind (alike_mark _ its.1) λ close shortest.
       alike_some (omega arith))
       (tag_alone _ tag rest)
@@ -338,7 +323,7 @@ module _ (known : Known) (limit : ℕ) (table : Shorter) (shorts : Short table) 
         table (goal.specifiers (typed || is_type it.0) (earlier ++ it.0 ∷ [])) it.1)
   specifiers_behind typed earlier source rest low =
       alike_bind (specifier source rest low) λ it short.
-      alike_more (omega arith) (asks (goal.specifiers (typed || is_type it.0) (earlier ++ it.0 ∷ [])) it.1 (omega arith))
+      alike_more (omega arith) (asks limit table shorts (goal.specifiers (typed || is_type it.0) (earlier ++ it.0 ∷ [])) it.1 (omega arith))
 
   -- all of them
   specifiers : (typed : Bool) (earlier : List Specified) (tokens : List SourceToken) → length tokens ≤ limit
@@ -367,7 +352,7 @@ module _ (known : Known) (limit : ℕ) (table : Shorter) (shorts : Short table) 
   inside : (inner : Bool) (rest : List SourceToken) → length rest < limit
       → Alike (suc (length rest)) (inside_rule (below limit table) inner rest) (inside_rule table inner rest)
   inside inner rest low =
-      alike_bind (asks (goal.declarator inner) rest low) λ it short.
+      alike_bind (asks limit table shorts (goal.declarator inner) rest low) λ it short.
       alike_bind (alike_mark _ it.1) λ close shorter.
       alike_more (omega arith) (full it.0 close.1)
 
@@ -393,7 +378,7 @@ module _ (known : Known) (limit : ℕ) (table : Shorter) (shorts : Short table) 
       → Alike (suc (length rest)) (length_rule (below limit table) base rest) (length_rule table base rest)
   array base rest low =
       alike_going (alike_mark _ rest) (λ close others short. alike_some (omega arith))
-      (alike_bind (asks goal.conditional rest low) λ size short.
+      (alike_bind (asks limit table shorts goal.conditional rest low) λ size short.
       alike_bind (alike_mark _ size.1) λ close shorter.
       alike_some (omega arith))
 
@@ -403,7 +388,7 @@ module _ (known : Known) (limit : ℕ) (table : Shorter) (shorts : Short table) 
   listed base rest low =
       alike_going (alike_mark _ rest) (λ close others short. alike_some (omega arith))
       (alike_going (alike_void rest) (λ void others short. alike_some (omega arith))
-      (alike_bind (asks (goal.parameters []) rest low) λ its short.
+      (alike_bind (asks limit table shorts (goal.parameters []) rest low) λ its short.
       alike_bind (alike_mark _ its.1) λ close shorter.
       alike_some (omega arith)))
 
@@ -413,9 +398,9 @@ module _ (known : Known) (limit : ℕ) (table : Shorter) (shorts : Short table) 
   directs base [] low = alike_some (omega arith)
   directs base (source ∷ rest) low =
       alike_if _
-      (alike_bind (array base rest (omega arith)) λ it short. alike_more (omega arith) (asks (goal.directs it.0) it.1 (omega arith)))
+      (alike_bind (array base rest (omega arith)) λ it short. alike_more (omega arith) (asks limit table shorts (goal.directs it.0) it.1 (omega arith)))
       (alike_if _
-      (alike_bind (listed base rest (omega arith)) λ it short. alike_more (omega arith) (asks (goal.directs it.0) it.1 (omega arith)))
+      (alike_bind (listed base rest (omega arith)) λ it short. alike_more (omega arith) (asks limit table shorts (goal.directs it.0) it.1 (omega arith)))
       (alike_some (omega arith)))
 
   -- a declarator
@@ -433,7 +418,7 @@ module _ (known : Known) (limit : ℕ) (table : Shorter) (shorts : Short table) 
   declarators earlier tokens low =
       alike_bind (declarator false tokens low) λ it short.
       alike_going (alike_mark _ it.1)
-      (λ comma rest shorter. alike_more (omega arith) (asks (goal.declarators (earlier ++ it.0 ∷ [])) rest (omega arith)))
+      (λ comma rest shorter. alike_more (omega arith) (asks limit table shorts (goal.declarators (earlier ++ it.0 ∷ [])) rest (omega arith)))
       (alike_some (omega arith))
 
   -- a parameter
@@ -450,7 +435,7 @@ module _ (known : Known) (limit : ℕ) (table : Shorter) (shorts : Short table) 
   parameters earlier tokens low =
       alike_bind (parameter tokens low) λ it short.
       alike_going (alike_mark _ it.1)
-      (λ comma rest shorter. alike_more (omega arith) (asks (goal.parameters (earlier ++ it.0 ∷ [])) rest (omega arith)))
+      (λ comma rest shorter. alike_more (omega arith) (asks limit table shorts (goal.parameters (earlier ++ it.0 ∷ [])) rest (omega arith)))
       (alike_some (omega arith))
 
   -- a type name
@@ -468,7 +453,7 @@ module _ (known : Known) (limit : ℕ) (table : Shorter) (shorts : Short table) 
       → Alike (length tokens) (member_rule_of known (below limit table) tokens) (member_rule_of known table tokens)
   member_of tokens low =
       alike_bind (some_specifiers tokens low) λ its short.
-      alike_bind (asks (goal.declarators []) its.1 (omega arith)) λ declared shorter.
+      alike_bind (asks limit table shorts (goal.declarators []) its.1 (omega arith)) λ declared shorter.
       alike_bind (alike_mark _ declared.1) λ semicolon shortest.
       alike_some (omega arith)
 
@@ -477,7 +462,7 @@ module _ (known : Known) (limit : ℕ) (table : Shorter) (shorts : Short table) 
       → Alike (length tokens) (members_rule known (below limit table) earlier tokens) (members_rule known table earlier tokens)
   members earlier tokens low =
       alike_bind (member_of tokens low) λ it short.
-      alike_if _ (alike_some (omega arith)) (alike_more (omega arith) (asks (goal.members (earlier ++ it.0 ∷ [])) it.1 (omega arith)))
+      alike_if _ (alike_some (omega arith)) (alike_more (omega arith) (asks limit table shorts (goal.members (earlier ++ it.0 ∷ [])) it.1 (omega arith)))
 
   -- an enumeration constant
   constant : (tokens : List SourceToken) → length tokens ≤ limit
@@ -486,7 +471,7 @@ module _ (known : Known) (limit : ℕ) (table : Shorter) (shorts : Short table) 
       alike_bind (alike_name tokens) λ name short.
       alike_going (alike_mark _ name.1)
       (λ equals rest shorter.
-      alike_bind (asks goal.conditional rest (omega arith)) λ value shortest.
+      alike_bind (asks limit table shorts goal.conditional rest (omega arith)) λ value shortest.
       alike_some (omega arith))
       (alike_some (omega arith))
 
@@ -497,7 +482,7 @@ module _ (known : Known) (limit : ℕ) (table : Shorter) (shorts : Short table) 
       alike_bind (constant tokens low) λ it short.
       alike_going (alike_mark _ it.1)
       (λ comma rest shorter.
-      alike_if _ (alike_some (omega arith)) (alike_more (omega arith) (asks (goal.constants (earlier ++ it.0 ∷ [])) rest (omega arith))))
+      alike_if _ (alike_some (omega arith)) (alike_more (omega arith) (asks limit table shorts (goal.constants (earlier ++ it.0 ∷ [])) rest (omega arith))))
       (alike_some (omega arith))
 
   -- ---- all of them
@@ -524,41 +509,7 @@ module _ (known : Known) (limit : ℕ) (table : Shorter) (shorts : Short table) 
   rule_alike (goal.directs base) tokens low = directs base tokens low
   rule_alike (goal.parameters earlier) tokens low = alike_more (omega arith) (parameters earlier tokens low)
 
--- each rule reads the same over shorter lists alone
-pub plain : (known : Known) (table : Shorter) → Short table → (it : Goal) (tokens : List SourceToken)
-    → rule known (below (length tokens) table) it tokens ≡ rule known table it tokens
-plain known table shorts it tokens = (rule_alike known (length tokens) table shorts it tokens (omega arith)).same
-
--- what a rule leaves is no longer than what it reads
-rule_short : (known : Known) (table : Shorter) → Short table → Short (rule known table)
-rule_short known table shorts it tokens tree rest is =
-    let short : length rest < suc (length tokens) = (rule_alike known (length tokens) table shorts it tokens (omega arith)).short (tree, rest) is in
-    omega arith
-
--- what is read below a limit is read without it
-below_by : (test : Bool) {A : Type 0} (it : Read A) (all : A × List SourceToken) → (if test then it else None) ≡ Some all → it ≡ Some all
-below_by true it all is = is
-below_by false it all is = absurd cc
-
--- what is left below a limit is no longer either
-below_short : (limit : ℕ) (table : Shorter) → Short table → Short (below limit table)
-below_short limit table shorts it tokens tree rest is =
-    shorts it tokens tree rest (below_by (nat_lt (length tokens) limit) (table it tokens) (tree, rest) is)
-
--- nor is what the rules leave, one inside another
-rounds_short : (known : Known) (n : ℕ) → Short (rounds (rule known) n)
-rounds_short known zero it tokens tree rest is = absurd cc
-rounds_short known (suc n) it tokens tree rest is =
-    rule_short known (below (length tokens) (rounds (rule known) n)) (below_short (length tokens) (rounds (rule known) n) (rounds_short known n))
-    it tokens tree rest is
-
--- what is left behind what is read is no longer than all of it
-pub reading_short : (known : Known) → Short (reading known)
+-- the reading is a table that reads by the rules
+pub reads_by_rules : (known : Known) → IsByRules (rule known) (reading known)
 unfolding reading
-reading_short known it tokens tree rest is = rounds_short known (suc (length tokens)) it tokens tree rest is
-
--- what is read is what its rule reads
-pub reading_is : (known : Known) → Short (reading known) → (it : Goal) (tokens : List SourceToken)
-    → reading known it tokens ≡ rule known (reading known) it tokens
-unfolding reading
-reading_is known shorts it tokens = fixed_is (rule known) it tokens ∙ plain known (reading known) shorts it tokens
+reads_by_rules known = fixed_by_rules (rule known) (λ limit table shorts it tokens low. rule_alike known limit table shorts it tokens low)

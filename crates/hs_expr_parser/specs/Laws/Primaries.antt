@@ -7,7 +7,7 @@ use Rattle.std.specs.List.{list_all}
 use Rattle.std.specs.Str.{bytes_eq}
 use Rattle.std.proofs.lemmas.List.{append-nil}
 use Rattle.std.proofs.lemmas.Slice.Eq.{bytes_eq-Decides}
-use Rattle.std.proofs.lemmas.Bool.{cases_Bool}
+use Rattle.std.proofs.lemmas.Bool.{and_parts, cases_Bool}
 use Rattle.std.proofs.lemmas.Bool.Decides.{nat_tests}
 use Rattle.hs_constants.specs.Numbers.{number_value}
 use Rattle.hs_tokens.specs.Marks.{is_same_kind}
@@ -33,7 +33,8 @@ use Rattle.hs_expr_parser.specs.Goals as goal
 use Rattle.hs_expr_parser.specs.Recursion.{Read}
 use Rattle.hs_expr_parser.specs.Reading.{Known, Shorter, ◌>>=◌, going_on, primary_rule, suffix_rule, suffixes_rule, postfix_rule, expression_rule}
 use Rattle.hs_expr_parser.specs.Laws.Along.{Whole, Longer, longer_along, longer_on, suffixes_longer}
-use Rattle.hs_expr_parser.specs.Laws.Apart.{with_text, token_is, split, when_parts, one_token, both}
+use Rattle.hs_expr_parser.specs.Laws.Apart.{with_text, token_is, split, when_parts, one_token}
+use Rattle.hs_expr_parser.specs.Laws.Bound.{literals_short}
 use Rattle.hs_expr_parser.specs.Laws.Ranks.{AllRead, is_unary_start, closed_all, postfix_all, all_along, tightest}
 
 -- it is read wherever its tokens stand in front
@@ -76,7 +77,8 @@ abbrev is_bare : Known → SourceToken → Type 0
 is_bare known source = (begins_specifier known false source ≡ false) × (is_punctuator (codes "(") source ≡ false) × (is_unary_start source ≡ false)
 
 -- a primary expression of one token
-one_all : {known : Known} {table : Shorter} → Whole known table → (e : Expression) (source : SourceToken) (rest : List SourceToken) → 15 ≤ rank e → tightest e ≡ 10
+one_all : {known : Known} {table : Shorter} → Whole known table → (e : Expression) (source : SourceToken) (rest : List SourceToken) → 15 ≤ rank e
+    → tightest e ≡ 10
     → is_bare known source → primary_rule known table (source ∷ rest) ≡ Some (e, rest) → AllRead known table e (source ∷ rest) rest
 one_all {known = known} {table = table} whole e source rest low ten bare reads =
     closed_all whole e (source ∷ rest) rest low ten bare.0 (ap (λ it. it && is_ahead (begins_specifier known false) rest) bare.1) bare.2
@@ -86,7 +88,7 @@ one_all {known = known} {table = table} whole e source rest low ten bare reads =
 apart : (words : List (List ℕ)) (text : List ℕ) → list_all (λ word. is_among keywords word) words ≡ true → is_name text ≡ true → is_among words text ≡ false
 apart [] text all is = refl
 apart (first ∷ rest) text all is =
-    let parts = both (is_among keywords first) (list_all (λ word. is_among keywords word) rest) all in
+    let parts = and_parts (is_among keywords first) (list_all (λ word. is_among keywords word) rest) all in
     elim (cases_Bool (bytes_eq first text)) [
       | inl same ↦
           let wrong : false ≡ true =
@@ -185,15 +187,6 @@ literals_reads (it ∷ its) front rest fits =
       ap (λ its. (literals_at its).1) same ∙ ap (λ pair. pair.1) first ∙ others.1,
     )
 
--- they leave no more than there was
-literals_less : (tokens : List SourceToken) → length (literals_at tokens).1 ≤ length tokens
-literals_less [] = omega arith
-literals_less (source ∷ rest) =
-    elim (cases_Bool (is_same_kind source.token.kind Literal)) [
-      | inl is ↦ rw is (omega (arith, literals_less rest))
-      | inr is ↦ rw is (omega arith)
-    ]
-
 -- no literal follows
 literals_stop : (tokens : List SourceToken) → stops 16 tokens ≡ true → ((literals_at tokens).0 ≡ []) × ((literals_at tokens).1 ≡ tokens)
 literals_stop [] is = (refl, refl)
@@ -211,7 +204,7 @@ strings_by : {known : Known} {table : Shorter} → Whole known table → (first 
     → AllRead known table (tree.strings first others) (source ∷ (front ++ rest)) rest
 strings_by {known = known} {table = table} whole first others source front rest same at fits =
     let found = literals_reads others front rest fits in
-    let less = literals_less rest in
+    let less = literals_short rest in
     let all : List Word = others ++ (literals_at rest).0 in
     let left : List SourceToken = (literals_at rest).1 in
     let reads : primary_rule known table (source ∷ (front ++ rest)) ≡ Some (tree.strings first all, left) =
@@ -256,7 +249,8 @@ parens_by {known = known} {table = table} whole inner opening close tokens rest 
 -- ---- postfix expressions
 
 -- a suffix behind its base
-pub suffix_all : {known : Known} {table : Shorter} → Whole known table → (base e : Expression) (tokens more rest : List SourceToken) → 15 ≤ rank base → 15 ≤ rank e
+pub suffix_all : {known : Known} {table : Shorter} → Whole known table → (base e : Expression) (tokens more rest : List SourceToken) → 15 ≤ rank base
+    → 15 ≤ rank e
     → tightest e ≡ 10 → AllRead known table base tokens more → stops 16 more ≡ true → suffix_rule table base more ≡ Some (e, rest)
     → AllRead known table e tokens rest
 suffix_all {known = known} {table = table} whole base e tokens more rest low tight ten all stopped reads =
@@ -316,7 +310,8 @@ not_closed {known = known} {table = table} {tokens = tokens} all = no_close toke
         ]
 
 -- an element of an array
-index_by : {known : Known} {table : Shorter} → Whole known table → (base offset : Expression) (opening close : SourceToken) (tokens inside rest : List SourceToken)
+index_by : {known : Known} {table : Shorter} → Whole known table
+    → (base offset : Expression) (opening close : SourceToken) (tokens inside rest : List SourceToken)
     → opening ≡ with_text Punctuator (codes "[") opening → close ≡ with_text Punctuator (codes "]") close → 15 ≤ rank base
     → AllRead known table base tokens (opening ∷ inside) → AllRead known table offset inside (close ∷ rest)
     → AllRead known table (tree.index base (place_of opening) offset) tokens rest
@@ -365,10 +360,12 @@ index_all {known = known} {table = table} whole base at offset reads others fron
     let all = index_by whole base offset its.opening its.close (parts.front ++ (its.opening ∷ (its.inside ++ (its.close ∷ rest))))
     (its.inside ++ (its.close ∷ rest)) rest its.opens its.closed low.0
     (reads parts.front (its.opening ∷ (its.inside ++ (its.close ∷ rest))) low.1) (others its.inside (its.close ∷ rest) its.fits) in
-    all_along same (subst (λ (place : Place). AllRead known table (tree.index base place offset) (parts.front ++ (its.opening ∷ (its.inside ++ (its.close ∷ rest)))) rest) its.at all)
+    all_along same (subst (λ (place : Place). AllRead known table (tree.index base place offset)
+    (parts.front ++ (its.opening ∷ (its.inside ++ (its.close ∷ rest)))) rest) its.at all)
 
 -- a member
-member_by : {known : Known} {table : Shorter} → Whole known table → (base : Expression) (it : Access) (name : Word) (source next : SourceToken) (tokens rest : List SourceToken)
+member_by : {known : Known} {table : Shorter} → Whole known table
+    → (base : Expression) (it : Access) (name : Word) (source next : SourceToken) (tokens rest : List SourceToken)
     → source ≡ with_text Punctuator (access_text it) source → next ≡ with_text Identifier name.text next → place_of next ≡ name.place → is_name name.text ≡ true
     → 15 ≤ rank base → AllRead known table base tokens (source ∷ next ∷ rest) → AllRead known table (tree.member base it (place_of source) name) tokens rest
 member_by {known = known} {table = table} whole base it name source next tokens rest is is_next at named low all =
@@ -390,7 +387,8 @@ member_by {known = known} {table = table} whole base it name source next tokens 
     name_found = name_reads name next rest is_next at named
 
 -- `++` or `--` behind
-postfix_by : {known : Known} {table : Shorter} → Whole known table → (base : Expression) (it : PostfixOperator) (source : SourceToken) (tokens rest : List SourceToken)
+postfix_by : {known : Known} {table : Shorter} → Whole known table
+    → (base : Expression) (it : PostfixOperator) (source : SourceToken) (tokens rest : List SourceToken)
     → source ≡ with_text Punctuator (postfix_text it) source → 15 ≤ rank base → AllRead known table base tokens (source ∷ rest)
     → AllRead known table (tree.postfix base it (place_of source)) tokens rest
 postfix_by {known = known} {table = table} whole base it source tokens rest is low all =
@@ -418,9 +416,11 @@ member_all {known = known} {table = table} whole base it at name reads front res
     let next = one_token Identifier name.text (Some name.place) others.back named.1 in
     let same : front ++ rest ≡ parts.front ++ (source.source ∷ next.source ∷ rest) =
     parts.whole rest ∙ ap (λ its. parts.front ++ (its ++ rest)) (others.whole ∙ (λ i. source.alone i ++ next.alone i)) in
-    let all = member_by whole base it name source.source next.source (parts.front ++ (source.source ∷ next.source ∷ rest)) rest source.is next.is next.at named.0 low.0
+    let all = member_by whole base it name source.source next.source
+    (parts.front ++ (source.source ∷ next.source ∷ rest)) rest source.is next.is next.at named.0 low.0
     (reads parts.front (source.source ∷ next.source ∷ rest) low.1) in
-    all_along same (subst (λ (place : Place). AllRead known table (tree.member base it place name) (parts.front ++ (source.source ∷ next.source ∷ rest)) rest) source.at all)
+    all_along same (subst (λ (place : Place). AllRead known table (tree.member base it place name)
+    (parts.front ++ (source.source ∷ next.source ∷ rest)) rest) source.at all)
 
 pub postfix_form_all : {known : Known} {table : Shorter} → Whole known table → (base : Expression) (it : PostfixOperator) (at : Place)
     → ReadsAll known table base → ReadsAll known table (tree.postfix base it at)
@@ -430,13 +430,15 @@ postfix_form_all {known = known} {table = table} whole base it at reads front re
     let source = one_token Punctuator (postfix_text it) (Some at) parts.back parts.second in
     let same : front ++ rest ≡ parts.front ++ (source.source ∷ rest) =
     parts.whole rest ∙ ap (λ its. parts.front ++ (its ++ rest)) source.alone in
-    let all = postfix_by whole base it source.source (parts.front ++ (source.source ∷ rest)) rest source.is low.0 (reads parts.front (source.source ∷ rest) low.1) in
+    let all = postfix_by whole base it source.source (parts.front ++ (source.source ∷ rest)) rest source.is low.0
+    (reads parts.front (source.source ∷ rest) low.1) in
     all_along same (subst (λ (place : Place). AllRead known table (tree.postfix base it place) (parts.front ++ (source.source ∷ rest)) rest) source.at all)
 
 pub parens_all : {known : Known} {table : Shorter} → Whole known table → (at : Place) (inner : Expression) → ReadsAll known table inner
     → ReadsAll known table (tree.parens at inner)
 parens_all {known = known} {table = table} whole at inner reads front rest fits =
     let its = bracketed (codes "(") (codes ")") (Some at) (expression_form known inner) front fits in
-    let all = parens_by whole inner its.opening its.close (its.inside ++ (its.close ∷ rest)) rest its.opens its.closed (reads its.inside (its.close ∷ rest) its.fits) in
+    let all = parens_by whole inner its.opening its.close (its.inside ++ (its.close ∷ rest)) rest its.opens its.closed
+    (reads its.inside (its.close ∷ rest) its.fits) in
     all_along (its.whole rest)
     (subst (λ (place : Place). AllRead known table (tree.parens place inner) (its.opening ∷ (its.inside ++ (its.close ∷ rest))) rest) its.at all)

@@ -1,14 +1,11 @@
 -- What the reading gives is in the grammar.
 --     rule_found       the rules give what is found, over a table that does
 --     reading_found    so does the reading
-use Rattle.std.proofs.Common.{◌≡◌, ℕ, zero, suc, Bool, true, false, length, Some, None}
-use Rattle.std.specs.Prelude.{nat_lt, if◌then◌else◌}
 use Rattle.hs_expr_parser.specs.Goals as goal
-use Rattle.hs_expr_parser.specs.Goals.{Goal, Tree}
 use Rattle.hs_expr_parser.specs.Reading.{Known, Shorter, rule, reading}
-use Rattle.hs_expr_parser.specs.Recursion.{below, rounds}
 use Rattle.hs_expr_parser.specs.Found.{Takes, IsFound}
 use Rattle.hs_expr_parser.specs.Laws.ExpressionsFound.{expression_found, assignment_found, conditional_found, binary_within, cast_found, unary_found, commas_found, climb_within, suffixes_found, arguments_found}
+use Rattle.hs_expr_parser.specs.Laws.Recursions.{fixed_always}
 use Rattle.hs_expr_parser.specs.Laws.SpecifiersFound.{specifiers_found}
 use Rattle.hs_expr_parser.specs.Laws.DeclaratorsFound.{declarator_found, declarators_found, directs_found, parameters_found, type_name_found, members_found, constants_found}
 
@@ -69,22 +66,7 @@ rule_found known table found (goal.parameters earlier) tokens all rest is =
     let it = (parameters_found known table found earlier tokens).holds all rest is in
     (it.begins.front, it.begins.whole, (it.first, it.others, it.whole, it.begins.is))
 
--- a table below a limit reads what the table reads
-below_found : (known : Known) (limit : ℕ) (table : Shorter) → IsFound known table → IsFound known (below limit table)
-below_found known limit table found it tokens tree rest = by_test (nat_lt (length tokens) limit)
-  where
-    by_test : (shorter : Bool) → (if shorter then table it tokens else None) ≡ Some (tree, rest) → Takes known it tree tokens rest
-    by_test true is = found it tokens tree rest is
-    by_test false is = absurd cc
-
--- the rules applied any number of times
-rounds_found : (known : Known) (n : ℕ) → IsFound known (rounds (rule known) n)
-rounds_found known zero it tokens tree rest is = absurd cc
-rounds_found known (suc n) it tokens tree rest is =
-    rule_found known (below (length tokens) (rounds (rule known) n)) (below_found known (length tokens) (rounds (rule known) n) (rounds_found known n))
-    it tokens tree rest is
-
 -- what the reading gives is in the grammar
 pub reading_found : (known : Known) → IsFound known (reading known)
 unfolding reading
-reading_found known it tokens tree rest is = rounds_found known (suc (length tokens)) it tokens tree rest is
+reading_found known = fixed_always (Takes known) (rule known) (rule_found known)

@@ -6,6 +6,7 @@ use Rattle.std.proofs.Common.{◌≡◌, Bool, true, false, List, [], ◌∷◌,
 use Rattle.std.specs.Prelude.{codes, not, ◌&&◌, ◌||◌}
 use Rattle.std.proofs.lemmas.Bool.{and_parts, both_ways}
 use Rattle.std.proofs.lemmas.List.{append-nil}
+use Rattle.std.proofs.Math.Bool.{or_assoc}
 use Rattle.hs_tokens.specs.Marks.{is_same_kind}
 use Rattle.hs_tokens.specs.declared.token.SourceToken.{SourceToken}
 use Rattle.hs_tokens.specs.declared.token.TokenKind.TheVariants.{Identifier}
@@ -30,7 +31,8 @@ use Rattle.hs_expr_parser.specs.Reading.{Known, Shorter, tag_at, tagged, struct_
 use Rattle.hs_expr_parser.specs.Found.{IsFound}
 use Rattle.hs_expr_parser.specs.Laws.Gives.{Gives, none_gives, some_gives, then_gives, if_gives, so_gives}
 use Rattle.hs_expr_parser.specs.Laws.Spelled.{Begins, form_again, nothing_begins, nothing_ends, then_begins, when_begins, place_begins}
-use Rattle.hs_expr_parser.specs.Laws.Firsts.{kind_is, token_is, token_of, mark_gives, tag_begins}
+use Rattle.hs_expr_parser.specs.Laws.Apart.{kind_same}
+use Rattle.hs_expr_parser.specs.Laws.Firsts.{token_is, token_of, mark_gives, tag_begins}
 use Rattle.hs_expr_parser.specs.Laws.Ends.{ends_there, named_free}
 use Rattle.hs_expr_parser.specs.Laws.Tables.{Specifies, members_gives, constants_gives, specifiers_gives}
 
@@ -69,11 +71,6 @@ members_some (one_member specification its) others = refl
 pub constants_some : (first : OneConstant) (others : List OneConstant) → has_constants (constants_from (first ∷ others)) ≡ true
 constants_some (plain_one name) others = refl
 constants_some (valued_one name e) others = refl
-
--- three tests
-or_again : (one two three : Bool) → ((one || two) || three) ≡ (one || (two || three))
-or_again true two three = refl
-or_again false two three = refl
 
 -- a test and none
 or_nothing : (one : Bool) → (one || false) ≡ one
@@ -120,7 +117,8 @@ module _ (known : Known) (table : Shorter) (found : IsFound known table) where
       let all : Form = when (has_constants (constants_from its.0)) (constants_form known (constants_from its.0)) in
       let body : Begins (all ⨾ comma_form its.1) middle behind = subst (λ (all : List OneConstant).
       Begins (when (has_constants (constants_from all)) (constants_form known (constants_from all)) ⨾ comma_form its.1) middle behind)
-      (sym inside.whole) (subst (λ (has : Bool). Begins (when has (constants_form known (constants_from (inside.first ∷ inside.others))) ⨾ comma_form its.1) middle behind)
+      (sym inside.whole) (subst (λ (has : Bool). Begins
+      (when has (constants_form known (constants_from (inside.first ∷ inside.others))) ⨾ comma_form its.1) middle behind)
       (sym (constants_some inside.first inside.others)) inside.begins) in
       let ended : Begins (all ⨾ (comma_form its.1 ⨾ mark (codes "}"))) middle after =
       subst (λ (it : Form). Begins it middle after) (form_again all (comma_form its.1) (mark (codes "}"))) (then_begins body closing.plain) in
@@ -147,8 +145,9 @@ module _ (known : Known) (table : Shorter) (found : IsFound known table) where
           → is_keyword (codes "enum") source ≡ false → is_type_name known source.token.text ≡ true
           → Begins (in_list known typed (tree.named (word_of source))) (source ∷ rest) rest
       named a b c d e is =
-          let kind = kind_is source.token.kind Identifier
-          (and_parts (is_same_kind source.token.kind Identifier) (is_among specifier_words source.token.text || (not typed && is_type_name known source.token.text)) begins).0 in
+          let kind = kind_same source.token.kind Identifier
+          (and_parts (is_same_kind source.token.kind Identifier)
+          (is_among specifier_words source.token.text || (not typed && is_type_name known source.token.text)) begins).0 in
           let tests = and_parts (is_name source.token.text) (is_among known source.token.text) is in
           when_begins (by_typed typed begins) (when_begins tests.1 (when_begins tests.0 (place_begins source rest kind refl)))
         where
@@ -194,7 +193,7 @@ module _ (known : Known) (table : Shorter) (found : IsFound known table) where
         whole = others.whole ∙ append_assoc earlier (it ∷ []) others.its;
         begins = then_begins first others.begins;
         ends = subst (λ (typed : Bool). is_ahead (begins_specifier known typed) after ≡ false)
-            (or_again typed (is_type it) (is_typed (specification_from others.its))) others.ends;
+            (or_assoc typed (is_type it) (is_typed (specification_from others.its))) others.ends;
       })))
       (λ is. some_gives earlier (source ∷ rest) (record {
         its = [];

@@ -31,11 +31,11 @@ use Rattle.hs_expr_parser.specs.Goals as goal
 use Rattle.hs_expr_parser.specs.Recursion.{Read}
 use Rattle.hs_expr_parser.specs.Reading.{Known, Shorter, ◌>>=◌, going_on, tag_at, struct_by, enum_by, specifier_by, specifier_rule, specifiers_rule, members_rule, constants_rule}
 use Rattle.hs_expr_parser.specs.Laws.Along.{Whole}
-use Rattle.hs_expr_parser.specs.Laws.Apart.{with_text, token_is, when_parts, one_token}
+use Rattle.hs_expr_parser.specs.Laws.Apart.{with_text, token_is, when_parts, one_token, first_when}
 use Rattle.hs_expr_parser.specs.Laws.Enclosed.{headed, enclosed}
 use Rattle.hs_expr_parser.specs.Laws.Entries.{members_again, constants_again}
 use Rattle.hs_expr_parser.specs.Expected.{specifiers_in, members_in, constants_in, ReadsSpecifier, ReadsSpecification, ReadsMembers, ReadsConstants}
-use Rattle.hs_expr_parser.specs.Laws.FirstTokens.{or_true, not_true, grouped, no_word, specifier_no_mark}
+use Rattle.hs_expr_parser.specs.Laws.FirstTokens.{or_true, not_true, grouped, dropped_keyword, no_word, specifier_no_mark}
 use Rattle.hs_expr_parser.specs.Laws.Primaries.{closes, name_reads, word_is, behind}
 
 -- ---- specifiers of one token
@@ -140,15 +140,6 @@ storage_keyword storage.Typedef = refl
 storage_keyword storage.Extern = refl
 storage_keyword storage.Static = refl
 
--- so are the dropped ones
-dropped_keyword : (it : Dropped) → is_name (dropped_text it) ≡ false
-unfolding keywords
-dropped_keyword dropped.Auto = refl
-dropped_keyword dropped.Register = refl
-dropped_keyword dropped.Const = refl
-dropped_keyword dropped.Volatile = refl
-dropped_keyword dropped.Pascal = refl
-
 -- and those of basic types
 basic_keyword : (it : Basic) → is_name (basic_text it) ≡ false
 unfolding keywords
@@ -218,7 +209,8 @@ tag_found tag front rest fits =
     (name_reads tag one.source rest one.is one.at named.0)
 
 -- a tag, or none, in front of a `{`
-tag_reads : (tag : Option Word) (front rest : List SourceToken) → IsOf (tag_form tag) front → is_mark_ahead (codes "{") rest ≡ true → tag_at (front ++ rest) ≡ (tag, rest)
+tag_reads : (tag : Option Word) (front rest : List SourceToken) → IsOf (tag_form tag) front → is_mark_ahead (codes "{") rest ≡ true
+    → tag_at (front ++ rest) ≡ (tag, rest)
 tag_reads (Some tag) front rest fits brace = tag_found tag front rest fits
 tag_reads None [] [] fits brace = refl
 tag_reads None [] (source ∷ rest) fits brace =
@@ -237,12 +229,14 @@ enum_by_is : (known : Known) (table : Shorter) (source : SourceToken) (rest : Li
 enum_by_is known table source rest is = ap (λ (it : SourceToken). specifier_rule known table it rest) is
 
 -- they begin a specifier
-struct_begins : (known : Known) (typed : Bool) (source : SourceToken) → source ≡ with_text Identifier (codes "struct") source → begins_specifier known typed source ≡ true
+struct_begins : (known : Known) (typed : Bool) (source : SourceToken) → source ≡ with_text Identifier (codes "struct") source
+    → begins_specifier known typed source ≡ true
 unfolding specifier_words
 struct_begins known typed source is = ap (begins_specifier known typed) is
 
 -- so does an enumeration
-enum_begins : (known : Known) (typed : Bool) (source : SourceToken) → source ≡ with_text Identifier (codes "enum") source → begins_specifier known typed source ≡ true
+enum_begins : (known : Known) (typed : Bool) (source : SourceToken) → source ≡ with_text Identifier (codes "enum") source
+    → begins_specifier known typed source ≡ true
 unfolding specifier_words
 enum_begins known typed source is = ap (begins_specifier known typed) is
 
@@ -273,7 +267,8 @@ enum_tag_all {known = known} {table = table} whole at tag front rest fits ahead 
     )
 
 -- the members between braces
-struct_inside : {known : Known} {table : Shorter} → Whole known table → (at : Place) (tag : Option Word) (its : Members) (opening close : SourceToken) (inside rest : List SourceToken)
+struct_inside : {known : Known} {table : Shorter} → Whole known table
+    → (at : Place) (tag : Option Word) (its : Members) (opening close : SourceToken) (inside rest : List SourceToken)
     → opening ≡ with_text Punctuator (codes "{") opening → close ≡ with_text Punctuator (codes "}") close
     → members_rule known table [] (inside ++ (close ∷ rest)) ≡ Some (members_in its, close ∷ rest)
     → struct_by table at tag (opening ∷ (inside ++ (close ∷ rest))) ≡ Some (tree.struct_body at tag (place_of opening) its, rest)
@@ -284,13 +279,15 @@ struct_inside {known = known} {table = table} whole at tag its opening close ins
     ∙ ap (λ found. Some (tree.struct_body at tag (place_of opening) found, rest)) (members_again its)
 
 -- the tokens of a struct
-struct_by_all : {known : Known} {table : Shorter} → Whole known table → (at brace : Place) (tag : Option Word) (its : Members) (source opening close : SourceToken)
+struct_by_all : {known : Known} {table : Shorter} → Whole known table
+    → (at brace : Place) (tag : Option Word) (its : Members) (source opening close : SourceToken)
     (tokens tagged' inside rest : List SourceToken) → source ≡ with_text Identifier (codes "struct") source → place_of source ≡ at
     → opening ≡ with_text Punctuator (codes "{") opening → place_of opening ≡ brace → close ≡ with_text Punctuator (codes "}") close
     → tokens ≡ tagged' ++ (opening ∷ (inside ++ (close ∷ rest))) → IsOf (tag_form tag) tagged'
     → members_rule known table [] (inside ++ (close ∷ rest)) ≡ Some (members_in its, close ∷ rest)
     → specifier_rule known table source tokens ≡ Some (tree.struct_body at tag brace its, rest)
-struct_by_all {known = known} {table = table} whole at brace tag its source opening close tokens tagged' inside rest is place opens open_place closed same fits reads =
+struct_by_all {known = known} {table =
+    table} whole at brace tag its source opening close tokens tagged' inside rest is place opens open_place closed same fits reads =
     struct_by_is known table source tokens is
     ∙ ap (λ tokens. struct_by table (place_of source) (tag_at tokens).0 (tag_at tokens).1) same
     ∙ ap (λ found. struct_by table (place_of source) found.0 found.1)
@@ -316,7 +313,8 @@ struct_body_all {known = known} {table = table} whole at tag brace its reads fro
     )
 
 -- the constants between braces
-enum_inside : {known : Known} {table : Shorter} → Whole known table → (at : Place) (tag : Option Word) (its : Constants) (comma : Bool) (opening close : SourceToken)
+enum_inside : {known : Known} {table : Shorter} → Whole known table
+    → (at : Place) (tag : Option Word) (its : Constants) (comma : Bool) (opening close : SourceToken)
     (inside rest : List SourceToken) → opening ≡ with_text Punctuator (codes "{") opening → close ≡ with_text Punctuator (codes "}") close
     → constants_rule table [] (inside ++ (close ∷ rest)) ≡ Some ((constants_in its, comma), close ∷ rest)
     → enum_by table at tag (opening ∷ (inside ++ (close ∷ rest))) ≡ Some (tree.enum_body at tag (place_of opening) its comma, rest)
@@ -327,22 +325,16 @@ enum_inside {known = known} {table = table} whole at tag its comma opening close
     (whole.plain (goal.constants []) (inside ++ (close ∷ rest)) ∙ reads) closed
     ∙ ap (λ found. Some (tree.enum_body at tag (place_of opening) found comma, rest)) (constants_again its)
 
--- a condition on the first of two phrases
-first_when : (condition : Bool) (one other : Form) (sources : List SourceToken) → IsOf (when condition one ⨾ other) sources → (condition ≡ true) × IsOf (one ⨾ other) sources
-first_when true one other sources fits = (refl, fits)
-first_when false one other sources fits = absurd (nothing fits.0)
-  where
-    nothing : false ≡ true → ⊥
-    nothing is = cc
-
 -- the tokens of an enumeration
 enum_by_all : {known : Known} {table : Shorter} → Whole known table → (at brace : Place) (tag : Option Word) (its : Constants) (comma : Bool)
-    (source opening close : SourceToken) (tokens tagged' inside rest : List SourceToken) → source ≡ with_text Identifier (codes "enum") source → place_of source ≡ at
+    (source opening close : SourceToken) (tokens tagged' inside rest : List SourceToken) → source ≡ with_text Identifier (codes "enum") source
+    → place_of source ≡ at
     → opening ≡ with_text Punctuator (codes "{") opening → place_of opening ≡ brace → close ≡ with_text Punctuator (codes "}") close
     → tokens ≡ tagged' ++ (opening ∷ (inside ++ (close ∷ rest))) → IsOf (tag_form tag) tagged'
     → constants_rule table [] (inside ++ (close ∷ rest)) ≡ Some ((constants_in its, comma), close ∷ rest)
     → specifier_rule known table source tokens ≡ Some (tree.enum_body at tag brace its comma, rest)
-enum_by_all {known = known} {table = table} whole at brace tag its comma source opening close tokens tagged' inside rest is place opens open_place closed same fits reads =
+enum_by_all {known = known} {table =
+    table} whole at brace tag its comma source opening close tokens tagged' inside rest is place opens open_place closed same fits reads =
     enum_by_is known table source tokens is
     ∙ ap (λ tokens. enum_by table (place_of source) (tag_at tokens).0 (tag_at tokens).1) same
     ∙ ap (λ found. enum_by table (place_of source) found.0 found.1)
@@ -388,7 +380,8 @@ no_specifiers_all {known = known} {table = table} whole typed earlier [] rest fi
     stop (source ∷ others) is = rw is (ap (λ its. Some (its, source ∷ others)) (sym (append-nil earlier)))
 
 -- one behind another
-one_more : {known : Known} {table : Shorter} → Whole known table → (typed : Bool) (it : Specified) (earlier its : List Specified) (source : SourceToken) (others more rest : List SourceToken)
+one_more : {known : Known} {table : Shorter} → Whole known table
+    → (typed : Bool) (it : Specified) (earlier its : List Specified) (source : SourceToken) (others more rest : List SourceToken)
     → begins_specifier known typed source ≡ true → specifier_rule known table source others ≡ Some (it, more)
     → specifiers_rule known table (typed || is_type it) (earlier ++ it ∷ []) more ≡ Some ((earlier ++ it ∷ []) ++ its, rest)
     → specifiers_rule known table typed earlier (source ∷ others) ≡ Some (earlier ++ it ∷ its, rest)
@@ -410,7 +403,8 @@ more_by : {known : Known} {table : Shorter} → Whole known table → (it : Spec
     (tokens front back rest : List SourceToken) → ReadsSpecifier known table it → tokens ≡ front ++ (back ++ rest) → IsOf (specifier_form known it) front
     → (typed && is_named_type it) ≡ false → is_mark_ahead (codes "{") (back ++ rest) ≡ false
     → specifiers_rule known table (typed || is_type it) (earlier ++ it ∷ []) (back ++ rest) ≡ Some ((earlier ++ it ∷ []) ++ specifiers_in its, rest)
-    → (specifiers_rule known table typed earlier tokens ≡ Some (earlier ++ it ∷ specifiers_in its, rest)) × (is_ahead (begins_specifier known typed) tokens ≡ true)
+    → (specifiers_rule known table typed earlier tokens ≡ Some (earlier ++ it ∷ specifiers_in its, rest))
+    × (is_ahead (begins_specifier known typed) tokens ≡ true)
 more_by {known = known} {table = table} whole it its typed earlier tokens front back rest reads same fits allowed ahead on =
     let one = reads front (back ++ rest) fits ahead in
     let begins = one.4 typed allowed in (

@@ -50,6 +50,15 @@ form_again one two three = λ i. record {
   pieces = append_assoc one.pieces two.pieces three.pieces i;
 }
 
+-- a test and one that holds
+and_nothing : (one : Bool) → (one && true) ≡ one
+and_nothing true = refl
+and_nothing false = refl
+
+-- a form and nothing after it
+pub form_nothing : (one : Form) → (one ⨾ nothing_at_all) ≡ one
+form_nothing one = λ i. record { fits = and_nothing one.fits i; pieces = append-nil one.pieces i }
+
 -- nothing
 pub nothing_begins : (tokens : List SourceToken) → Begins nothing_at_all tokens tokens
 nothing_begins tokens = record { front = []; whole = refl; is = (refl, tt) }

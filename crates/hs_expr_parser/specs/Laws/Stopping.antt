@@ -9,8 +9,6 @@ use Rattle.hs_tokens.specs.declared.token.SourceToken.{SourceToken}
 use Rattle.hs_tokens.specs.declared.token.TokenKind.{TokenKind}
 use Rattle.hs_tokens.specs.declared.token.TokenKind.TheVariants.{Punctuator}
 use Rattle.hs_tokens.specs.Marks.{is_same_kind}
-use Rattle.std.specs.Str.{bytes_eq}
-use Rattle.std.proofs.lemmas.Slice.Eq.{bytes_eq-Decides}
 use Rattle.hs_syntax.specs.Operators.{level_of, binary_text, assign_text, access_text, postfix_text}
 use Rattle.hs_syntax.specs.Trees.{Expression}
 use Rattle.hs_syntax.specs.declared.operators.Access.{Access}
@@ -23,20 +21,7 @@ use Rattle.hs_syntax.specs.declared.operators.PostfixOperator.{PostfixOperator}
 use Rattle.hs_syntax.specs.declared.operators.PostfixOperator.TheVariants as postfix
 use Rattle.hs_expr_parser.specs.Ahead.{place_of, is_punctuator, spelled_so, token_so, binary_operators, assign_operators, accesses, postfix_operators, binary_of, assign_of, access_of, postfix_of, mark_at, joins, is_below, stops}
 use Rattle.hs_expr_parser.specs.Reading.{Shorter, suffix_rule, member_rule, operand_by, operand_rule, branches_rule, value_rule, value_by, another_rule}
-use Rattle.hs_expr_parser.specs.Laws.Apart.{with_text, source_is, kind_same, token_is}
-
--- the text is the spelling of what it spells
-spelled_is : {A : Type 0} (spelling : A → List ℕ) (all : List A) (text : List ℕ) (it : A) → spelled_so spelling all text ≡ Some it → text ≡ spelling it
-spelled_is spelling [] text it is = absurd cc
-spelled_is spelling (first ∷ rest) text it is =
-    elim (cases_Bool (bytes_eq text (spelling first))) [
-      | inl same ↦
-          let found : Some first ≡ Some it = sym (rw same refl) ∙ is in
-          (bytes_eq-Decides text (spelling first)).0 same ∙ ap spelling cc
-      | inr other ↦
-          let found : spelled_so spelling rest text ≡ Some it = sym (rw other refl) ∙ is in
-          spelled_is spelling rest text it found
-    ]
+use Rattle.hs_expr_parser.specs.Laws.Apart.{with_text, source_is, kind_same, token_is, spelled_is}
 
 -- the token that an operator or a word is
 pub operator_is : {A : Type 0} (kind : TokenKind) (spelling : A → List ℕ) (all : List A) (source : SourceToken) (it : A)
@@ -73,12 +58,14 @@ access_goes rank access.Dot source most = grind (arith, nat_tests)
 access_goes rank access.Arrow source most = grind (arith, nat_tests)
 
 -- `++` and `--`
-postfix_goes : (rank : ℕ) (it : PostfixOperator) (source : SourceToken) → rank ≤ 15 → is_below rank (joins (with_text Punctuator (postfix_text it) source)) ≡ false
+postfix_goes : (rank : ℕ) (it : PostfixOperator) (source : SourceToken) → rank ≤ 15
+    → is_below rank (joins (with_text Punctuator (postfix_text it) source)) ≡ false
 postfix_goes rank postfix.Increment source most = grind (arith, nat_tests)
 postfix_goes rank postfix.Decrement source most = grind (arith, nat_tests)
 
 -- a mark with which a postfix expression goes on is not there
-no_mark : (text : List ℕ) (source : SourceToken) (rank : ℕ) → is_below rank (joins (with_text Punctuator text source)) ≡ false → is_below rank (joins source) ≡ true
+no_mark : (text : List ℕ) (source : SourceToken) (rank : ℕ) → is_below rank (joins (with_text Punctuator text source)) ≡ false
+    → is_below rank (joins source) ≡ true
     → is_punctuator text source ≡ false
 no_mark text source rank goes stops =
     elim (cases_Bool (is_punctuator text source)) [
@@ -141,7 +128,8 @@ operand_by_none table least most (Some it) source rest is stops =
     let loose : nat_le least (level_of it) ≡ false = grind (arith, nat_tests) in
     rw loose refl
 
-pub operand_none : (table : Shorter) (least most : ℕ) (tokens : List SourceToken) → stops (2 + least) tokens ≡ true → operand_rule table least most tokens ≡ None
+pub operand_none : (table : Shorter) (least most : ℕ) (tokens : List SourceToken) → stops (2 + least) tokens ≡ true
+    → operand_rule table least most tokens ≡ None
 operand_none table least most [] is = refl
 operand_none table least most (source ∷ rest) is = operand_by_none table least most (binary_of source) source rest refl is
 

@@ -14,7 +14,7 @@ use Rattle.hs_expr_parser.specs.Goals as goal
 use Rattle.hs_expr_parser.specs.Goals.{Goal, Tree}
 use Rattle.hs_expr_parser.specs.Reading.{Known, Shorter}
 use Rattle.hs_expr_parser.specs.Found.{Takes, IsFound}
-use Rattle.hs_expr_parser.specs.Laws.Gives.{Gives, so_gives}
+use Rattle.hs_expr_parser.specs.Laws.Gives.{Gives, so_gives, always_gives}
 use Rattle.hs_expr_parser.specs.Laws.Spelled.{Begins, Goes}
 
 -- more entries behind the earlier ones, at least one, and the tokens have a front that is of their form
@@ -61,61 +61,61 @@ pub record Directs (known : Known) (base direct : Directly) (tokens rest : List 
   pub is : (inner : Bool) (before : List SourceToken) → IsOf (direct_form known inner base) before → IsOf (direct_form known inner direct) (before ++ front)
 
 module _ (known : Known) (table : Shorter) (found : IsFound known table) where
-  -- what is found
-  at_goal : (it : Goal) (tokens : List SourceToken) → Gives (λ (tree : Tree it) rest. Takes known it tree tokens rest) (table it tokens)
-  at_goal it tokens = record { holds = λ tree rest is. found it tokens tree rest is }
-
-  pub expression_gives : (tokens : List SourceToken) → Gives (λ (e : Expression) rest. Begins (expression_form known e) tokens rest) (table goal.expression tokens)
-  expression_gives tokens = so_gives (table goal.expression tokens) (at_goal goal.expression tokens)
+  pub expression_gives : (tokens : List SourceToken)
+      → Gives (λ (e : Expression) rest. Begins (expression_form known e) tokens rest) (table goal.expression tokens)
+  expression_gives tokens = so_gives (table goal.expression tokens) (always_gives (Takes known) table found goal.expression tokens)
       (λ e rest it. record { front = it.0; whole = it.1; is = it.2 })
 
   pub assignment_gives : (tokens : List SourceToken)
       → Gives (λ (e : Expression) rest. Begins (as_assignment e (expression_form known e)) tokens rest) (table goal.assignment tokens)
-  assignment_gives tokens = so_gives (table goal.assignment tokens) (at_goal goal.assignment tokens)
+  assignment_gives tokens = so_gives (table goal.assignment tokens) (always_gives (Takes known) table found goal.assignment tokens)
       (λ e rest it. record { front = it.0; whole = it.1; is = it.2 })
 
   pub conditional_gives : (tokens : List SourceToken)
       → Gives (λ (e : Expression) rest. Begins (as_conditional e (expression_form known e)) tokens rest) (table goal.conditional tokens)
-  conditional_gives tokens = so_gives (table goal.conditional tokens) (at_goal goal.conditional tokens)
+  conditional_gives tokens = so_gives (table goal.conditional tokens) (always_gives (Takes known) table found goal.conditional tokens)
       (λ e rest it. record { front = it.0; whole = it.1; is = it.2 })
 
   pub binary_gives : (least : ℕ) (tokens : List SourceToken) → least ≤ 11
       → Gives (λ (e : Expression) rest. Begins (as_operand least e (expression_form known e)) tokens rest) (table (goal.binary least) tokens)
-  binary_gives least tokens most = so_gives (table (goal.binary least) tokens) (at_goal (goal.binary least) tokens)
+  binary_gives least tokens most = so_gives (table (goal.binary least) tokens) (always_gives (Takes known) table found (goal.binary least) tokens)
       (λ e rest it. record { front = it.0; whole = it.1; is = it.2 most })
 
   pub cast_gives : (tokens : List SourceToken)
       → Gives (λ (e : Expression) rest. Begins (as_cast e (expression_form known e)) tokens rest) (table goal.cast tokens)
-  cast_gives tokens = so_gives (table goal.cast tokens) (at_goal goal.cast tokens)
+  cast_gives tokens = so_gives (table goal.cast tokens) (always_gives (Takes known) table found goal.cast tokens)
       (λ e rest it. record { front = it.0; whole = it.1; is = it.2 })
 
   pub unary_gives : (tokens : List SourceToken)
       → Gives (λ (e : Expression) rest. Begins (as_unary e (expression_form known e)) tokens rest) (table goal.unary tokens)
-  unary_gives tokens = so_gives (table goal.unary tokens) (at_goal goal.unary tokens)
+  unary_gives tokens = so_gives (table goal.unary tokens) (always_gives (Takes known) table found goal.unary tokens)
       (λ e rest it. record { front = it.0; whole = it.1; is = it.2 })
 
   pub commas_gives : (lefts : List OneLeft) (right : Expression) (tokens : List SourceToken)
-      → Gives (λ (e : Expression) rest. Goes (lefts_form known (lefts_from lefts) ⨾ as_assignment right (expression_form known right)) (expression_form known e) tokens rest)
+      → Gives (λ (e : Expression) rest. Goes (lefts_form known (lefts_from lefts) ⨾ as_assignment right (expression_form known right))
+      (expression_form known e) tokens rest)
       (table (goal.commas lefts right) tokens)
-  commas_gives lefts right tokens = so_gives (table (goal.commas lefts right) tokens) (at_goal (goal.commas lefts right) tokens)
+  commas_gives lefts right tokens = so_gives (table (goal.commas lefts right) tokens) (always_gives (Takes known) table found (goal.commas lefts right) tokens)
       (λ e rest it. record { front = it.0; whole = it.1; is = it.2 })
 
   pub climb_gives : (least most : ℕ) (left : Expression) (tokens : List SourceToken) → least ≤ 11
-      → Gives (λ (e : Expression) rest. Goes (as_operand most left (as_operand least left (expression_form known left))) (as_operand least e (expression_form known e)) tokens rest)
+      → Gives (λ (e : Expression) rest. Goes (as_operand most left (as_operand least left (expression_form known left)))
+      (as_operand least e (expression_form known e)) tokens rest)
       (table (goal.climb least most left) tokens)
-  climb_gives least most left tokens within = so_gives (table (goal.climb least most left) tokens) (at_goal (goal.climb least most left) tokens)
+  climb_gives least most left tokens within =
+      so_gives (table (goal.climb least most left) tokens) (always_gives (Takes known) table found (goal.climb least most left) tokens)
       (λ e rest it. record { front = it.0; whole = it.1; is = λ before is. it.2 before within is })
 
   pub suffixes_gives : (base : Expression) (tokens : List SourceToken)
       → Gives (λ (e : Expression) rest. Goes (as_postfix base (expression_form known base)) (as_postfix e (expression_form known e)) tokens rest)
       (table (goal.suffixes base) tokens)
-  suffixes_gives base tokens = so_gives (table (goal.suffixes base) tokens) (at_goal (goal.suffixes base) tokens)
+  suffixes_gives base tokens = so_gives (table (goal.suffixes base) tokens) (always_gives (Takes known) table found (goal.suffixes base) tokens)
       (λ e rest it. record { front = it.0; whole = it.1; is = it.2 })
 
   pub arguments_gives : (earlier : List Expression) (tokens : List SourceToken)
       → Gives (λ (all : List Expression) rest. Grows earlier all (λ its. arguments_form known (expressions_from its)) tokens rest)
       (table (goal.arguments earlier) tokens)
-  arguments_gives earlier tokens = so_gives (table (goal.arguments earlier) tokens) (at_goal (goal.arguments earlier) tokens)
+  arguments_gives earlier tokens = so_gives (table (goal.arguments earlier) tokens) (always_gives (Takes known) table found (goal.arguments earlier) tokens)
       (λ all rest it. record {
         first = it.2.0;
         others = it.2.1;
@@ -124,12 +124,13 @@ module _ (known : Known) (table : Shorter) (found : IsFound known table) where
       })
 
   pub type_gives : (tokens : List SourceToken) → Gives (λ (type : NamedType) rest. Begins (type_form known type) tokens rest) (table goal.type_name tokens)
-  type_gives tokens = so_gives (table goal.type_name tokens) (at_goal goal.type_name tokens)
+  type_gives tokens = so_gives (table goal.type_name tokens) (always_gives (Takes known) table found goal.type_name tokens)
       (λ type rest it. record { front = it.0; whole = it.1; is = it.2 })
 
   pub specifiers_gives : (typed : Bool) (earlier : List Specified) (tokens : List SourceToken)
       → Gives (λ (all : List Specified) rest. Specifies known typed earlier all tokens rest) (table (goal.specifiers typed earlier) tokens)
-  specifiers_gives typed earlier tokens = so_gives (table (goal.specifiers typed earlier) tokens) (at_goal (goal.specifiers typed earlier) tokens)
+  specifiers_gives typed earlier tokens = so_gives (table (goal.specifiers typed earlier) tokens)
+      (always_gives (Takes known) table found (goal.specifiers typed earlier) tokens)
       (λ all rest it. record {
         its = it.2.0;
         whole = it.2.1;
@@ -140,7 +141,7 @@ module _ (known : Known) (table : Shorter) (found : IsFound known table) where
   pub members_gives : (earlier : List OneMember) (tokens : List SourceToken)
       → Gives (λ (all : List OneMember) rest. Grows earlier all (λ its. members_form known (members_from its)) tokens rest)
       (table (goal.members earlier) tokens)
-  members_gives earlier tokens = so_gives (table (goal.members earlier) tokens) (at_goal (goal.members earlier) tokens)
+  members_gives earlier tokens = so_gives (table (goal.members earlier) tokens) (always_gives (Takes known) table found (goal.members earlier) tokens)
       (λ all rest it. record {
         first = it.2.0;
         others = it.2.1;
@@ -151,7 +152,7 @@ module _ (known : Known) (table : Shorter) (found : IsFound known table) where
   pub constants_gives : (earlier : List OneConstant) (tokens : List SourceToken)
       → Gives (λ (all : List OneConstant × Bool) rest. Grows earlier all.0 (λ its. constants_form known (constants_from its) ⨾ comma_form all.1) tokens rest)
       (table (goal.constants earlier) tokens)
-  constants_gives earlier tokens = so_gives (table (goal.constants earlier) tokens) (at_goal (goal.constants earlier) tokens)
+  constants_gives earlier tokens = so_gives (table (goal.constants earlier) tokens) (always_gives (Takes known) table found (goal.constants earlier) tokens)
       (λ all rest it. record {
         first = it.2.0;
         others = it.2.1;
@@ -161,13 +162,14 @@ module _ (known : Known) (table : Shorter) (found : IsFound known table) where
 
   pub declarator_gives : (inner : Bool) (tokens : List SourceToken)
       → Gives (λ (it : Declared) rest. Declares known inner it tokens rest) (table (goal.declarator inner) tokens)
-  declarator_gives inner tokens = so_gives (table (goal.declarator inner) tokens) (at_goal (goal.declarator inner) tokens)
+  declarator_gives inner tokens = so_gives (table (goal.declarator inner) tokens) (always_gives (Takes known) table found (goal.declarator inner) tokens)
       (λ declared rest it. record { begins = record { front = it.0; whole = it.1; is = it.2.0 }; named = it.2.1 })
 
   pub declarators_gives : (earlier : List Declared) (tokens : List SourceToken)
       → Gives (λ (all : List Declared) rest. Grows earlier all (λ its. declarators_form known (declarators_from its)) tokens rest)
       (table (goal.declarators earlier) tokens)
-  declarators_gives earlier tokens = so_gives (table (goal.declarators earlier) tokens) (at_goal (goal.declarators earlier) tokens)
+  declarators_gives earlier tokens = so_gives (table (goal.declarators earlier) tokens)
+      (always_gives (Takes known) table found (goal.declarators earlier) tokens)
       (λ all rest it. record {
         first = it.2.0;
         others = it.2.1;
@@ -177,13 +179,13 @@ module _ (known : Known) (table : Shorter) (found : IsFound known table) where
 
   pub directs_gives : (base : Directly) (tokens : List SourceToken)
       → Gives (λ (direct : Directly) rest. Directs known base direct tokens rest) (table (goal.directs base) tokens)
-  directs_gives base tokens = so_gives (table (goal.directs base) tokens) (at_goal (goal.directs base) tokens)
+  directs_gives base tokens = so_gives (table (goal.directs base) tokens) (always_gives (Takes known) table found (goal.directs base) tokens)
       (λ direct rest it. record { same = it.2.0; front = it.0; whole = it.1; is = it.2.1 })
 
   pub parameters_gives : (earlier : List OneParameter) (tokens : List SourceToken)
       → Gives (λ (all : List OneParameter) rest. Grows earlier all (λ its. parameters_form known (parameters_from its)) tokens rest)
       (table (goal.parameters earlier) tokens)
-  parameters_gives earlier tokens = so_gives (table (goal.parameters earlier) tokens) (at_goal (goal.parameters earlier) tokens)
+  parameters_gives earlier tokens = so_gives (table (goal.parameters earlier) tokens) (always_gives (Takes known) table found (goal.parameters earlier) tokens)
       (λ all rest it. record {
         first = it.2.0;
         others = it.2.1;

@@ -5,6 +5,7 @@
 use Rattle.std.proofs.Common.{◌≡◌, ℕ, true, false, List, [], ◌∷◌, ◌++◌, Some, None, refl, ap, ◌∙◌}
 use Rattle.std.specs.Prelude.{◌&&◌, not, codes, if◌then◌else◌}
 use Rattle.std.specs.Str.{bytes_eq}
+use Rattle.std.proofs.lemmas.Bool.{and_parts}
 use Rattle.hs_tokens.specs.declared.token.SourceToken.{SourceToken}
 use Rattle.hs_syntax.specs.Forms.{Form, ◌⨾◌, when, IsOf}
 use Rattle.hs_syntax.specs.Grammar.{specification_form, declarator_form, parameters_form}
@@ -19,7 +20,7 @@ use Rattle.hs_expr_parser.specs.Goals as goal
 use Rattle.hs_expr_parser.specs.Recursion.{Read}
 use Rattle.hs_expr_parser.specs.Reading.{Known, Shorter, ◌>>=◌, some_specifiers_rule, declarator_rule, parameter_rule, parameters_rule}
 use Rattle.hs_expr_parser.specs.Laws.Along.{Whole}
-use Rattle.hs_expr_parser.specs.Laws.Apart.{both, when_parts}
+use Rattle.hs_expr_parser.specs.Laws.Apart.{when_parts}
 use Rattle.hs_expr_parser.specs.Laws.Commas.{after_comma, entries_end, entries_more}
 use Rattle.hs_expr_parser.specs.Laws.Entries.{specification_again}
 use Rattle.hs_expr_parser.specs.Expected.{enders, specifiers_in, parameters_in, ReadsType, ReadsSpecification, ReadsDeclarator, ReadsParameters}
@@ -27,7 +28,8 @@ use Rattle.hs_expr_parser.specs.Laws.FirstTokens.{not_true, declarator_opens, de
 use Rattle.hs_expr_parser.specs.Laws.Primaries.{behind}
 
 -- specifiers, at least one, up to a token that begins none
-pub some_read : (known : Known) (table : Shorter) (its : Specification) (front rest : List SourceToken) → ReadsSpecification known table its → has_specifiers its ≡ true
+pub some_read : (known : Known) (table : Shorter) (its : Specification) (front rest : List SourceToken) → ReadsSpecification known table its
+    → has_specifiers its ≡ true
     → IsOf (specification_form known false its) front → is_ahead (begins_specifier known (is_typed its)) rest ≡ false → is_mark_ahead (codes "{") rest ≡ false
     → (some_specifiers_rule known table (front ++ rest) ≡ Some (specifiers_in its, rest)) × (is_ahead (begins_specifier known false) (front ++ rest) ≡ true)
 some_read known table its front rest reads has fits ends ahead =
@@ -79,8 +81,9 @@ typed_behind known table its = do
 pub typed_all : {known : Known} {table : Shorter} → Whole known table → (its : Specification) (declared : Declared) → ReadsSpecification known table its
     → ReadsDeclarator known table declared → ReadsType known table (tree.typed_as its declared)
 typed_all {known = known} {table = table} whole its declared reads others front rest fits ahead =
-    let parts = when_parts (has_specifiers its && not (is_named declared)) (specification_form known false its ⨾ ends_before known its (declarator_form known true declared)) front fits in
-    let tests = both (has_specifiers its) (not (is_named declared)) parts.0 in
+    let parts = when_parts (has_specifiers its && not (is_named declared))
+    (specification_form known false its ⨾ ends_before known its (declarator_form known true declared)) front fits in
+    let tests = and_parts (has_specifiers its) (not (is_named declared)) parts.0 in
     let read = specifies known table its declared (codes ")") front rest reads others tests.0 parts.1 refl refl ahead in (
       ap (λ found. found >>= typed_behind known table) read.specifiers
           ∙ ap (λ found. found >>= named_type (specifiers_in its)) read.declarator

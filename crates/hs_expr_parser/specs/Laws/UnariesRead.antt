@@ -52,7 +52,8 @@ sooner {rest = rest} one other less reads = record { longer = reads.longer; exac
 
 -- ---- prefix operators
 
-prefix_by : {known : Known} {table : Shorter} → Whole known table → (operator : PrefixOperator) (e : Expression) (source : SourceToken) (tokens rest : List SourceToken)
+prefix_by : {known : Known} {table : Shorter} → Whole known table
+    → (operator : PrefixOperator) (e : Expression) (source : SourceToken) (tokens rest : List SourceToken)
     → source ≡ with_text Punctuator (prefix_text operator) source
     → Reads (operand_at table operator tokens) e rest (stops 14 rest) → AllRead known table (tree.prefix operator (place_of source) e) (source ∷ tokens) rest
 prefix_by {known = known} {table = table} whole operator e source tokens rest is reads =
@@ -127,7 +128,8 @@ apart_at source is =
       | inr other ↦
           elim (cases_Bool (is_same_kind source.token.kind Punctuator)) [
             | inl mark ↦
-                let joined : joins source ≡ joins_by (is_among postfix_marks source.token.text) (binary_of source) (assign_of source) source = rw other (rw mark refl) in
+                let joined : joins source ≡ joins_by (is_among postfix_marks source.token.text) (binary_of source) (assign_of source) source =
+                rw other (rw mark refl) in
                 ap (is_below 13) joined
                 ∙ joins_apart (is_among postfix_marks source.token.text) (binary_of source) (assign_of source) source (sym (ap (is_below 14) joined) ∙ is)
             | inr none ↦ rw other (rw none refl)
@@ -143,7 +145,8 @@ before_unary {rest = rest} reads = record { longer = reads.longer; exact = λ is
 
 -- the operand of each
 operand_reads : {known : Known} {table : Shorter} → Whole known table → (operator : PrefixOperator) (e : Expression) (front rest : List SourceToken)
-    → ReadsAll known table e → IsOf (as_prefixed operator e (expression_form known e)) front → Reads (operand_at table operator (front ++ rest)) e rest (stops 14 rest)
+    → ReadsAll known table e → IsOf (as_prefixed operator e (expression_form known e)) front
+    → Reads (operand_at table operator (front ++ rest)) e rest (stops 14 rest)
 operand_reads whole Increment e front rest reads fits = unary_operand whole e front rest reads fits
 operand_reads whole Decrement e front rest reads fits = unary_operand whole e front rest reads fits
 operand_reads whole Address e front rest reads fits = before_unary (cast_operand whole e front rest reads fits)
@@ -245,7 +248,8 @@ cast_all {known = known} {table = table} whole at type e reads others front rest
     let tail : List SourceToken = last.back ++ rest in
     let tokens : List SourceToken = opening.source ∷ (more.front ++ (close.source ∷ tail)) in
     let same : front ++ rest ≡ tokens =
-    ap (λ it. it ++ rest) (parts.whole ∙ (λ i. opening.alone i ++ (more.whole ∙ ap (λ it. more.front ++ it) (last.whole ∙ ap (λ it. it ++ last.back) close.alone)) i))
+    ap (λ it. it ++ rest) (parts.whole ∙ (λ i. opening.alone i
+    ++ (more.whole ∙ ap (λ it. more.front ++ it) (last.whole ∙ ap (λ it. it ++ last.back) close.alone)) i))
     ∙ ap (λ it. opening.source ∷ it) (append_assoc more.front (close.source ∷ last.back) rest) in
     let found = types_read whole type opening.source close.source more.front tail opening.is close.is more.first reads in
     let operand = cast_operand whole e last.back rest others last.second in

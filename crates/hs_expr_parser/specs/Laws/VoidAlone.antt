@@ -4,6 +4,7 @@
 use Rattle.std.proofs.Common.{◌≡◌, ℕ, Bool, true, false, List, [], ◌∷◌, ◌++◌, Option, Some, None, refl, ap, sym, ◌∙◌}
 use Rattle.std.specs.Prelude.{◌&&◌, not, codes}
 use Rattle.std.specs.Str.{bytes_eq}
+use Rattle.std.proofs.lemmas.Bool.{and_parts}
 use Rattle.hs_tokens.specs.Marks.{is_same_kind}
 use Rattle.hs_tokens.specs.declared.token.SourceToken.{SourceToken}
 use Rattle.hs_tokens.specs.declared.token.TokenKind.TheVariants.{Identifier, Punctuator}
@@ -22,7 +23,7 @@ use Rattle.hs_syntax.specs.declared.word.Place.{Place}
 use Rattle.hs_expr_parser.specs.Ahead.{is_keyword, is_mark_ahead, mark_at, place_if}
 use Rattle.hs_expr_parser.specs.Recursion.{Read}
 use Rattle.hs_expr_parser.specs.Reading.{Known, ◌>>=◌, void_alone}
-use Rattle.hs_expr_parser.specs.Laws.Apart.{both, when_parts, one_token}
+use Rattle.hs_expr_parser.specs.Laws.Apart.{when_parts, one_token}
 use Rattle.hs_expr_parser.specs.Laws.FirstTokens.{mark_missing, declarator_opens, declarator_no_mark, nothing_is, specification_word, word_no_mark}
 use Rattle.hs_expr_parser.specs.Laws.Primaries.{behind}
 use Rattle.hs_expr_parser.specs.Laws.SpecifiersRead.{no_keyword, void_keyword}
@@ -97,7 +98,7 @@ another_word known (tree.basic basic.Long at) fits other = refl
 another_word known (tree.basic basic.Signed at) fits other = refl
 another_word known (tree.basic basic.Unsigned at) fits other = refl
 another_word known (tree.named it) fits other =
-    no_keyword (codes "void") it.text void_keyword (both (is_name it.text) true (both (is_among known it.text) (is_name it.text && true) fits).1).0
+    no_keyword (codes "void") it.text void_keyword (and_parts (is_name it.text) true (and_parts (is_among known it.text) (is_name it.text && true) fits).1).0
 another_word known (tree.struct_tag at tag) fits other = refl
 another_word known (tree.struct_body at tag brace its) fits other = refl
 another_word known (tree.enum_tag at tag) fits other = refl
@@ -114,7 +115,8 @@ void_specifier known it front more fits behind = not_void (specifier_form known 
 -- ---- what follows it
 
 -- where more stands behind `void`, it is no `)`
-more_behind : (known : Known) (typed : Bool) (it : Specified) (specifiers : Specification) (declared : Declared) (others : Parameters) (one two three rest : List SourceToken)
+more_behind : (known : Known) (typed : Bool) (it : Specified) (specifiers : Specification) (declared : Declared) (others : Parameters)
+    (one two three rest : List SourceToken)
     → IsOf (specification_form known typed specifiers) one → IsOf (declarator_form known true declared) two
     → IsOf (behind_comma (has_parameters others) (parameters_form known others)) three
     → is_void_alone (tree.more_parameters (tree.more_specifiers it specifiers) declared others) ≡ false → is_void it ≡ true
@@ -124,12 +126,15 @@ more_behind known typed it (tree.more_specifiers next specifiers) declared other
     (specification_word known typed (tree.more_specifiers next specifiers) refl) first.1
 more_behind known typed it tree.no_specifiers declared others (source ∷ one) two three rest first second third alone void = absurd first.1
 more_behind known typed it tree.no_specifiers declared others [] (source ∷ two) three rest first second third alone void =
-    declarator_no_mark (codes ")") (declarator_form known true declared).pieces (source ∷ two) [] refl (declarator_opens known true declared second.0) second.1 refl
+    declarator_no_mark (codes ")") (declarator_form known true declared).pieces (source ∷ two) [] refl
+    (declarator_opens known true declared second.0) second.1 refl
 more_behind known typed it tree.no_specifiers declared tree.no_parameters [] [] three rest first second third alone void =
     let wrong : false ≡ true = sym alone ∙ (λ i. void i && empty_is known true declared second.1 i) in
     absurd cc
-more_behind known typed it tree.no_specifiers declared (tree.more_parameters specification next others) [] [] [] rest first second third alone void = absurd third.1
-more_behind known typed it tree.no_specifiers declared (tree.more_parameters specification next others) [] [] (source ∷ three) rest first second third alone void =
+more_behind known typed it tree.no_specifiers declared (tree.more_parameters specification next others) [] [] [] rest first second third alone void =
+    absurd third.1
+more_behind known typed it tree.no_specifiers declared (tree.more_parameters specification next others) [] []
+    (source ∷ three) rest first second third alone void =
     λ i. is_same_kind (third.1.0 i) Punctuator && bytes_eq (third.1.1 i) (codes ")")
 
 -- the tokens of a first specifier, of the others, of a declarator and of other parameters
@@ -162,8 +167,10 @@ void_missing known (tree.more_parameters (tree.more_specifiers it specifiers) de
     ⨾ ends_before known (tree.more_specifiers it specifiers) (declarator_form known true declared) in
     let parts = behind (when true entry) (behind_comma (has_parameters others) (parameters_form known others)) front fits in
     let inside = behind (specification_form known false (tree.more_specifiers it specifiers))
-    (ends_before known (tree.more_specifiers it specifiers) (declarator_form known true declared)) parts.front (when_parts true entry parts.front parts.first).1 in
-    let specified = behind (when (not (false && is_named_type it)) (specifier_form known it)) (specification_form known (is_type it) specifiers) inside.front inside.first in
+    (ends_before known (tree.more_specifiers it specifiers) (declarator_form known true declared)) parts.front
+    (when_parts true entry parts.front parts.first).1 in
+    let specified = behind (when (not (false && is_named_type it)) (specifier_form known it))
+    (specification_form known (is_type it) specifiers) inside.front inside.first in
     let declarator = when_parts (begins_none known (is_typed (tree.more_specifiers it specifiers)) (declarator_form known true declared).pieces)
     (declarator_form known true declared) inside.back inside.second in
     void_by known it specifiers declared others (front ++ rest) specified.front specified.back inside.back parts.back rest

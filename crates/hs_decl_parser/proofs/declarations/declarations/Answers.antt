@@ -13,7 +13,8 @@ pub returns-in_err-it-clause-read : goal.returns-in_err-it-clause-read
 returns-in_err-it-clause-read c =
     let exit = err_from_is_err_and c.from_residual.result c.from_residual.ensures.1 in
     let begins : is_ahead (begins_specifier c.args.known.now false) c.declarations.rest.now ≡ true = search rules in
-    rw (exit.1, exit.2) (fails_along c.in_err-it.field-0.0 (declarations_at c.args.known.now [] c.args.tokens.now) (declaration_at c.args.known.now c.declarations.rest.now)
+    rw (exit.1, exit.2) (fails_along c.in_err-it.field-0.0 (declarations_at c.args.known.now [] c.args.tokens.now)
+    (declaration_at c.args.known.now c.declarations.rest.now)
     (λ none. sym c.declarations.invariant.0
     ∙ declarations_fails c.args.known.now (map view_declaration c.declarations.its.items) c.declarations.rest.now begins none)
     c.in_err-it.ensures.read)
@@ -25,7 +26,8 @@ declarations-preserved c =
     let items : map view_declaration c.push.new.self.items ≡ map view_declaration c.declarations.its.items ++ view_declaration c.in_ok-it.it ∷ [] =
     ap (map view_declaration) c.in_ok-push.ensures.items ∙ map-append view_declaration c.declarations.its.items (c.in_ok-it.it ∷ []) in (
       ap (λ its. declarations_at c.args.known.now its c.in_ok-it.left.now) items
-          ∙ sym (declarations_goes c.args.known.now (map view_declaration c.declarations.its.items) c.declarations.rest.now (view_declaration c.in_ok-it.it) c.in_ok-it.left.now
+          ∙ sym (declarations_goes c.args.known.now (map view_declaration c.declarations.its.items) c.declarations.rest.now
+          (view_declaration c.in_ok-it.it) c.in_ok-it.left.now
           begins c.in_ok-it.ensures.read)
           ∙ c.declarations.invariant.0,
       omega (arith, c.in_ok-it.ensures.shorter, c.declarations.invariant.1),

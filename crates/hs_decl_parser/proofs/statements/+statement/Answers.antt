@@ -14,7 +14,8 @@ pub statements-returns-in_err-it-clause-read : goal.statements-returns-in_err-it
 statements-returns-in_err-it-clause-read t c =
     let exit = err_from_is_err_and c.from_residual.result c.from_residual.ensures.1 in
     let ahead : is_mark_ahead (codes "}") c.statements.rest.now ≡ false = search rules in
-    rw (exit.1, exit.2) (fails_along c.in_err-it.field-0.0 (statements_at c.args.known.now [] c.args.tokens.now) (labelled_at c.args.known.now c.statements.rest.now)
+    rw (exit.1, exit.2) (fails_along c.in_err-it.field-0.0 (statements_at c.args.known.now [] c.args.tokens.now)
+    (labelled_at c.args.known.now c.statements.rest.now)
     (λ none. sym c.statements.invariant.0
     ∙ statements_fails c.args.known.now (map view_labelled c.statements.its.items) c.statements.rest.now ahead none)
     c.in_err-it.ensures.read)
@@ -26,7 +27,8 @@ statements-statements-preserved t c =
     let items : map view_labelled c.push.new.self.items ≡ map view_labelled c.statements.its.items ++ view_labelled c.in_ok-it.it ∷ [] =
     ap (map view_labelled) c.in_ok-push.ensures.items ∙ map-append view_labelled c.statements.its.items (c.in_ok-it.it ∷ []) in (
       ap (λ its. statements_at c.args.known.now its c.in_ok-it.left.now) items
-          ∙ sym (statements_goes c.args.known.now (map view_labelled c.statements.its.items) c.statements.rest.now (view_labelled c.in_ok-it.it) c.in_ok-it.left.now
+          ∙ sym (statements_goes c.args.known.now (map view_labelled c.statements.its.items) c.statements.rest.now
+          (view_labelled c.in_ok-it.it) c.in_ok-it.left.now
           ahead c.in_ok-it.ensures.read)
           ∙ c.statements.invariant.0,
       omega (arith, c.in_ok-it.ensures.shorter, c.statements.invariant.1),

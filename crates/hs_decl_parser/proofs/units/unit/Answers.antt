@@ -18,4 +18,5 @@ returns-in_err-externals-clause-syntax c = λ pos is.
 
 -- no other tree has these tokens
 pub returns-clause-only : goal.returns-clause-only
-returns-clause-only c = λ other fits. unit_only [] other (map view_external c.in_ok-externals.externals.items) c.args.tokens.now fits c.in_ok-externals.ensures.found
+returns-clause-only c = λ other fits. unit_only [] other
+    (map view_external c.in_ok-externals.externals.items) c.args.tokens.now fits c.in_ok-externals.ensures.found

@@ -126,7 +126,8 @@ expression-returns-in_ok-expressions-in-Call t c known =
     (after _ _ c.expression-in-Call.new.tokens.items _ (expression_form known (view c.deref-in-Call.result.now)).pieces _
     (c.in_ok-expression-in-Call.ensures known)
     (after _ _ c.mark-in-Call.new.tokens.items _ (mark (codes "(")).pieces _ c.in_ok-mark-in-Call.ensures
-    (after _ _ c.expressions.new.tokens.items _ (arguments_form known (expressions_from (map view c.deref-in-Call-2.result.now))).pieces (mark (codes ")")).pieces
+    (after _ _ c.expressions.new.tokens.items _ (arguments_form known (expressions_from (map view c.deref-in-Call-2.result.now))).pieces
+    (mark (codes ")")).pieces
     (c.in_ok-expressions-in-Call.ensures known) c.mark-in-Call-2.ensures)))
 
 -- the specifiers of a type's name are the list
@@ -178,5 +179,6 @@ direct-returns-in_ok-parameters-in-Function t c known inner =
     (after _ _ c.direct-in-Function.new.tokens.items _ (direct_form known inner (view_direct c.deref-in-Function.result.now)).pieces _
     (c.in_ok-direct-in-Function.ensures known inner)
     (after _ _ c.mark-in-Function.new.tokens.items _ (mark (codes "(")).pieces _ c.in_ok-mark-in-Function.ensures
-    (after _ _ c.parameters.new.tokens.items _ (parameters_form known (parameters_from (map view_parameter c.deref-in-Function-2.result.now))).pieces (mark (codes ")")).pieces
+    (after _ _ c.parameters.new.tokens.items _ (parameters_form known (parameters_from (map view_parameter c.deref-in-Function-2.result.now))).pieces
+    (mark (codes ")")).pieces
     (c.in_ok-parameters-in-Function.ensures known) c.mark-in-Function-2.ensures)))

@@ -16,10 +16,13 @@ block-returns t c known =
     rw (view_block-out c.args.it.now, ← c.deref-2.ensures.value, ← c.deref.ensures.value)
     (after _ _ c.mark_at.new.tokens.items _ (mark_at it.opening (codes "{")).pieces
     ((declarations_form known (map view_declaration c.deref.result.now)).pieces
-    ++ ((statements_form known (statements_from (map view_labelled c.deref-2.result.now))).pieces ++ (mark_at it.closing (codes "}")).pieces)) c.in_ok-mark_at.ensures
+    ++ ((statements_form known (statements_from (map view_labelled c.deref-2.result.now))).pieces
+    ++ (mark_at it.closing (codes "}")).pieces)) c.in_ok-mark_at.ensures
     (after _ _ c.declarations.new.tokens.items _ (declarations_form known (map view_declaration c.deref.result.now)).pieces
-    ((statements_form known (statements_from (map view_labelled c.deref-2.result.now))).pieces ++ (mark_at it.closing (codes "}")).pieces) (c.in_ok-declarations.ensures known)
-    (after _ _ c.statements.new.tokens.items _ (statements_form known (statements_from (map view_labelled c.deref-2.result.now))).pieces (mark_at it.closing (codes "}")).pieces
+    ((statements_form known (statements_from (map view_labelled c.deref-2.result.now))).pieces ++ (mark_at it.closing (codes "}")).pieces)
+    (c.in_ok-declarations.ensures known)
+    (after _ _ c.statements.new.tokens.items _ (statements_form known (statements_from (map view_labelled c.deref-2.result.now))).pieces
+    (mark_at it.closing (codes "}")).pieces
     (c.in_ok-statements.ensures known) c.mark_at-2.ensures)))
 
 pub statement-returns-in_ok-keyword_at-in-Continue : goal.statement-returns-in_ok-keyword_at-in-Continue
