@@ -10,8 +10,6 @@ mod mem_files;
 mod mem_sink;
 mod pos;
 mod sink;
-#[cfg(test)]
-mod tests;
 mod text;
 
 pub use errors::{Failed, FileEnd, NoMemory};

@@ -8,8 +8,6 @@ mod constant;
 mod digits;
 mod number;
 mod operator;
-#[cfg(test)]
-mod tests;
 mod value;
 mod waiting;
 

@@ -22,8 +22,6 @@ mod sections;
 mod source;
 mod sources;
 mod state;
-#[cfg(test)]
-mod tests;
 mod text;
 mod unit;
 mod walk;

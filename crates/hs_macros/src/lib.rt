@@ -14,8 +14,6 @@ mod lists;
 mod macros;
 mod pending;
 mod placing;
-#[cfg(test)]
-mod tests;
 mod tokens;
 
 pub use budget::Budget;

@@ -9,8 +9,6 @@ mod literals;
 mod marks;
 mod scan_error;
 mod scanner;
-#[cfg(test)]
-mod tests;
 mod token;
 
 pub use marks::{is_identifier, is_mark, is_same_kind};

@@ -1,7 +1,8 @@
-use crate::{MacroKind, ReadError, ScanKind, Source, preprocess};
 use hs_base::{Bytes, MemFiles, Pos};
+use hs_directives::{MacroKind, ReadError, ScanKind, Source, preprocess};
 use hs_tokens::{Origin, SourceToken};
 use std::alloc::{AllocError, Global};
+use std::process::Abort;
 use std::test::Fail;
 
 /// Names, and the text of each.
@@ -108,114 +109,178 @@ fn alone(alloc: Global, text: &str) -> Result<String, AllocError> {
     said(alloc, &[("m.c", text)], &["m.c"])
 }
 
-// X3.159-1989 3.8.1: at most one group of a section is kept, and the conditions behind it are not reached. In a group that is
-// skipped the directives count for their nesting alone. Own: so a second `#else` there is let be, and so are tokens behind `#else`
-// and `#endif`. 2.1.1.2: tokens come before directives, so the scanner looks at what is skipped.
-#[test]
-fn one_group_of_a_section_is_kept(rt: HostRuntime) -> Result<(), Fail> {
-    let alloc = rt.alloc();
-    let rows = [
-        ("", ""),
-        ("#if 1\na\n#endif\nb", "a b"),
-        ("#if 0\na\n#elif 0\nb\n#else\nc\n#endif", "c"),
-        ("#if 0\na\n#elif 1\nb\n#elif 1\nc\n#else\nd\n#endif e", "b"),
-        ("#if 1\na\n#elif 1/0\nb\n#elif\nc\n#else\nd\n#endif", "a"),
-        ("#if 1\na\n#else b\nc\n#endif d", "a"),
-        ("#ifdef X\na\n#elif 1\nb\n#endif", "b"),
-        ("#define X\n#ifdef X\na\n#endif\n#ifndef X\nb\n#endif", "a"),
-        ("#if 1\n#if 0\na\n#elif 1\nb\n#endif\nc\n#endif", "b c"),
-        (
-            "#if 0\n#if 1\na\n#else\nb\n#endif\nc\n#else\nd\n#endif",
-            "d",
-        ),
-        ("#if 1\n#define X 1\n#else\n#define X 2\n#endif\nX", "1"),
-        ("#if 0\n#foo\n#error\n#1\n#include\n#endif\na", "a"),
-        ("#if 0\n#define X 1\n#undef\n#endif\nX", "X"),
-        ("#if 0\n#if\n#elif\n#else\n#else\n#endif\n#endif\na", "a"),
-        ("#if 1\na\n#else\n#foo\n#if 1/0\n#endif\n#endif", "a"),
-        ("#if 0\n#if 1\n#elif 1\na\n#endif\n#elif 1\nb\n#endif", "b"),
-        ("#if 0\n#else\n#foo\n#endif", "!BadDirective 0:3:1"),
-        ("#if 0\n'\n#endif", "!OpenString 0:2:1"),
-        ("#if 0\n /*\n#endif", "!OpenComment 0:2:2"),
-    ];
+/// Each text, as the one file, says the words next to it.
+fn say(rt: &impl Abort, alloc: Global, rows: &[(&str, &str)]) -> Result<(), Fail> {
     for (text, words) in rows {
-        assert_eq!(rt; alone(alloc, text)?.as_str(), words, "{text}");
+        assert_eq!(rt; alone(alloc, text)?.as_str(), *words, "{text}");
     }
     Ok(())
 }
 
-// X3.159-1989 3.8.1: a section has an `#if`, its `#elif`s, at most one `#else`, and its `#endif`. Own: one that is open at the
-// end is refused at the outermost, and only where nothing before is.
+// X3.159-1989 3.8.1: at most one group of a section is kept, and the conditions behind it are not reached. Own: tokens behind
+// `#else` and `#endif` are ignored.
+#[test]
+fn one_group_of_a_section_is_kept(rt: HostRuntime) -> Result<(), Fail> {
+    say(
+        &rt,
+        rt.alloc(),
+        &[
+            ("", ""),
+            ("#if 1\na\n#endif\nb", "a b"),
+            ("#if 0\na\n#elif 0\nb\n#else\nc\n#endif", "c"),
+            ("#if 0\na\n#elif 1\nb\n#elif 1\nc\n#else\nd\n#endif e", "b"),
+            ("#if 1\na\n#elif 1/0\nb\n#elif\nc\n#else\nd\n#endif", "a"),
+            ("#if 1\na\n#else b\nc\n#endif d", "a"),
+            ("#ifdef X\na\n#elif 1\nb\n#endif", "b"),
+            ("#define X\n#ifdef X\na\n#endif\n#ifndef X\nb\n#endif", "a"),
+        ],
+    )
+}
+
+// X3.159-1989 3.8.1: sections nest. In a group that is skipped no directive acts.
+#[test]
+fn sections_nest(rt: HostRuntime) -> Result<(), Fail> {
+    say(
+        &rt,
+        rt.alloc(),
+        &[
+            ("#if 1\n#if 0\na\n#elif 1\nb\n#endif\nc\n#endif", "b c"),
+            (
+                "#if 0\n#if 1\na\n#else\nb\n#endif\nc\n#else\nd\n#endif",
+                "d",
+            ),
+            ("#if 1\n#define X 1\n#else\n#define X 2\n#endif\nX", "1"),
+            ("#if 0\n#foo\n#error\n#1\n#include\n#endif\na", "a"),
+            ("#if 0\n#define X 1\n#undef\n#endif\nX", "X"),
+        ],
+    )
+}
+
+// X3.159-1989 3.8.1: in a group that is skipped the directives count for their nesting alone. Own: so a second `#else` there is
+// ignored. 2.1.1.2: tokens come before directives, so the scanner looks at what is skipped.
+#[test]
+fn skipped_directives_count_for_their_nesting(rt: HostRuntime) -> Result<(), Fail> {
+    say(
+        &rt,
+        rt.alloc(),
+        &[
+            ("#if 0\n#if\n#elif\n#else\n#else\n#endif\n#endif\na", "a"),
+            ("#if 1\na\n#else\n#foo\n#if 1/0\n#endif\n#endif", "a"),
+            ("#if 0\n#if 1\n#elif 1\na\n#endif\n#elif 1\nb\n#endif", "b"),
+            ("#if 0\n#else\n#foo\n#endif", "!BadDirective 0:3:1"),
+            ("#if 0\n'\n#endif", "!OpenString 0:2:1"),
+            ("#if 0\n /*\n#endif", "!OpenComment 0:2:2"),
+        ],
+    )
+}
+
+// X3.159-1989 3.8.1: a section has an `#if`, its `#elif`s, at most one `#else`, and its `#endif`.
 #[test]
 fn a_section_has_its_form(rt: HostRuntime) -> Result<(), Fail> {
-    let alloc = rt.alloc();
-    let rows = [
-        ("#else", "!BadDirective 0:1:1"),
-        ("a\n  #elif 1", "!BadDirective 0:2:3"),
-        ("#if 1\n#endif\n #endif", "!BadDirective 0:3:2"),
-        ("#if 1\n#else\n#else\n#endif", "!BadDirective 0:3:1"),
-        ("#if 0\n#else\n#elif 1\n#endif", "!BadDirective 0:3:1"),
-        ("#if 1\n#else\n#if 1\n#endif\n#elif", "!BadDirective 0:5:1"),
-        (" #if 1", "!OpenIf 0:1:2"),
-        ("#if 1\n#endif\n #if 0\n#if 1\n", "!OpenIf 0:3:2"),
-        ("a\n#ifdef X\n#if 1\n#endif", "!OpenIf 0:2:1"),
-        ("#ifdef", "!BadDirective 0:1:1"),
-        ("#ifndef X Y\n#endif", "!BadDirective 0:1:1"),
-        ("#ifndef (X)\n#endif", "!BadDirective 0:1:1"),
-    ];
-    for (text, words) in rows {
-        assert_eq!(rt; alone(alloc, text)?.as_str(), words, "{text}");
-    }
-    Ok(())
+    say(
+        &rt,
+        rt.alloc(),
+        &[
+            ("#else", "!BadDirective 0:1:1"),
+            ("a\n  #elif 1", "!BadDirective 0:2:3"),
+            ("#if 1\n#endif\n #endif", "!BadDirective 0:3:2"),
+            ("#if 1\n#else\n#else\n#endif", "!BadDirective 0:3:1"),
+            ("#if 0\n#else\n#elif 1\n#endif", "!BadDirective 0:3:1"),
+            ("#if 1\n#else\n#if 1\n#endif\n#elif", "!BadDirective 0:5:1"),
+        ],
+    )
+}
+
+// Own: a section that is open at the end is refused at the outermost, and only where nothing before is. X3.159-1989 3.8.1:
+// `#ifdef` and `#ifndef` have one name.
+#[test]
+fn an_open_section_is_refused(rt: HostRuntime) -> Result<(), Fail> {
+    say(
+        &rt,
+        rt.alloc(),
+        &[
+            (" #if 1", "!OpenIf 0:1:2"),
+            ("#if 1\n#endif\n #if 0\n#if 1\n", "!OpenIf 0:3:2"),
+            ("a\n#ifdef X\n#if 1\n#endif", "!OpenIf 0:2:1"),
+            ("#ifdef", "!BadDirective 0:1:1"),
+            ("#ifndef X Y\n#endif", "!BadDirective 0:1:1"),
+            ("#ifndef (X)\n#endif", "!BadDirective 0:1:1"),
+        ],
+    )
 }
 
 // X3.159-1989 3.8: a `#` that is the first token on its line begins a directive, and its line ends it; comments are white space
-// (2.1.1.2). 3.8.3.5: a definition lasts until its `#undef`. 3.8.4 and 3.8.6 are dropped, and 3.8.7 does nothing. Own: `#error`
-// (3.8.5) is refused like a word that is no directive's; the tokens between two directives are a run, which is replaced by itself,
-// so an invocation that a directive cuts is open.
+// (2.1.1.2). 3.8.4 and 3.8.6 are dropped, and 3.8.7 does nothing.
 #[test]
 fn a_line_is_a_directive_or_is_text(rt: HostRuntime) -> Result<(), Fail> {
-    let alloc = rt.alloc();
-    let rows = [
-        ("#\n # \n#/* c */\na", "a"),
-        ("#pragma once\n#line 7 \"x.c\"\n#line\n#pragma\na", "a"),
-        ("a # b\n#/**/ define X 1\nX", "a # b 1"),
-        ("/*\n*/ # define X 1\nX", "1"),
-        ("a /*\n*/ # define X 1\nX", "a # define X 1 X"),
-        ("#define X 1 /*\n*/ 2\nX", "1 2"),
-        ("#def\\\nine X 1 \\\n 2\nX", "1 2"),
-        ("#define E\nE # define X 1\nX", "# define X 1 X"),
-        ("## define X 1\nX", "## define X 1 X"),
-        ("a\n #error", "!BadDirective 0:2:2"),
-        ("#foo", "!BadDirective 0:1:1"),
-        ("#1", "!BadDirective 0:1:1"),
-        ("X\n#define X 1\nX\n#undef X\nX\n#define X 2\nX", "X 1 X 2"),
-        ("#define X 1\n#define X /**/ 1\nX", "1"),
-        ("#define f(x) [x]\nf\n(1)", "[ 1 ]"),
-        ("#define f(x) [x]\nf\n#pragma\n(1)", "f ( 1 )"),
-        ("#define f(x) [x]\na f(1\n#undef f\n2)", "!ArgCount 0:2:3"),
-        ("#define f(x) x\n#if f(1\n#endif", "!ArgCount 0:2:5"),
-        ("#define f(x) x\n#include f(", "!ArgCount 0:2:10"),
-        (" #define", "!BadMacro 0:1:2"),
-        ("#define f(x,x)", "!BadMacro 0:1:1"),
-        ("#define X 1\n #define X 2", "!BadMacro 0:2:2"),
-        ("#undef X Y", "!BadDirective 0:1:1"),
-    ];
-    for (text, words) in rows {
-        assert_eq!(rt; alone(alloc, text)?.as_str(), words, "{text}");
-    }
-    Ok(())
+    say(
+        &rt,
+        rt.alloc(),
+        &[
+            ("#\n # \n#/* c */\na", "a"),
+            ("#pragma once\n#line 7 \"x.c\"\n#line\n#pragma\na", "a"),
+            ("a # b\n#/**/ define X 1\nX", "a # b 1"),
+            ("/*\n*/ # define X 1\nX", "1"),
+            ("a /*\n*/ # define X 1\nX", "a # define X 1 X"),
+            ("#define X 1 /*\n*/ 2\nX", "1 2"),
+            ("#def\\\nine X 1 \\\n 2\nX", "1 2"),
+            ("#define E\nE # define X 1\nX", "# define X 1 X"),
+            ("## define X 1\nX", "## define X 1 X"),
+        ],
+    )
 }
 
-// X3.159-1989 3.8.1: identifiers that are left are 0, keywords too. 3.2.1.5: a comparison of long and unsigned long is unsigned.
-// 3.3.13 to 3.3.15: an operand that is not evaluated divides nothing. Own: a `defined` that replacement puts there is 0.
+// X3.159-1989 3.8.3.5: a definition lasts until its `#undef`. Own: `#error` (3.8.5) is refused like a word that is no
+// directive's.
 #[test]
-fn these_conditions_hold(rt: HostRuntime) -> Result<(), Fail> {
-    let alloc = rt.alloc();
-    let conditions = [
-        "-1>0u", "!(-1>0)", "Y==0", "int==0", "X==2", "f(X)==4", "Z==0", "!D", "'a'==97",
-        "1?2:1/0", "0?1%0:1", "1||1/0", "1-(0&&1)",
-    ];
+fn words_of_no_directive_are_refused(rt: HostRuntime) -> Result<(), Fail> {
+    say(
+        &rt,
+        rt.alloc(),
+        &[
+            ("a\n #error", "!BadDirective 0:2:2"),
+            ("#foo", "!BadDirective 0:1:1"),
+            ("#1", "!BadDirective 0:1:1"),
+            ("X\n#define X 1\nX\n#undef X\nX\n#define X 2\nX", "X 1 X 2"),
+            ("#define X 1\n#define X /**/ 1\nX", "1"),
+        ],
+    )
+}
+
+// Own: the tokens between two directives are a run, which is replaced by itself, so an invocation that a directive cuts is
+// open.
+#[test]
+fn a_run_ends_at_a_directive(rt: HostRuntime) -> Result<(), Fail> {
+    say(
+        &rt,
+        rt.alloc(),
+        &[
+            ("#define f(x) [x]\nf\n(1)", "[ 1 ]"),
+            ("#define f(x) [x]\nf\n#pragma\n(1)", "f ( 1 )"),
+            ("#define f(x) [x]\na f(1\n#undef f\n2)", "!ArgCount 0:2:3"),
+            ("#define f(x) x\n#if f(1\n#endif", "!ArgCount 0:2:5"),
+            ("#define f(x) x\n#include f(", "!ArgCount 0:2:10"),
+        ],
+    )
+}
+
+// X3.159-1989 3.8.3: the lines of `#define` and `#undef` have their forms.
+#[test]
+fn definitions_have_their_forms(rt: HostRuntime) -> Result<(), Fail> {
+    say(
+        &rt,
+        rt.alloc(),
+        &[
+            (" #define", "!BadMacro 0:1:2"),
+            ("#define f(x,x)", "!BadMacro 0:1:1"),
+            ("#define X 1\n #define X 2", "!BadMacro 0:2:2"),
+            ("#undef X Y", "!BadDirective 0:1:1"),
+        ],
+    )
+}
+
+/// Each condition holds under four macros.
+fn hold(rt: &impl Abort, alloc: Global, conditions: &[&str]) -> Result<(), Fail> {
     for condition in conditions {
         let text = format!(in alloc;
             "#define X 2\n#define f(x) x+x\n#define Z W\n#define D defined\n#if {condition}\na\n#else\nb\n#endif"
@@ -225,36 +290,51 @@ fn these_conditions_hold(rt: HostRuntime) -> Result<(), Fail> {
     Ok(())
 }
 
+// X3.159-1989 3.8.1: identifiers that are left are 0, keywords too. 3.2.1.5: a comparison of long and unsigned long is unsigned.
+// Own: a `defined` that replacement puts there is 0.
+#[test]
+fn these_conditions_hold(rt: HostRuntime) -> Result<(), Fail> {
+    hold(
+        &rt,
+        rt.alloc(),
+        &[
+            "-1>0u", "!(-1>0)", "Y==0", "int==0", "X==2", "f(X)==4", "Z==0", "!D", "'a'==97",
+        ],
+    )
+}
+
+// X3.159-1989 3.3.13 to 3.3.15: an operand that is not evaluated divides nothing.
+#[test]
+fn what_is_not_evaluated_divides_nothing(rt: HostRuntime) -> Result<(), Fail> {
+    hold(
+        &rt,
+        rt.alloc(),
+        &["1?2:1/0", "0?1%0:1", "1||1/0", "1-(0&&1)"],
+    )
+}
+
 // X3.159-1989 3.8.1: `defined` and a name, in parentheses or not. 3.3.13: an operand that is not evaluated divides nothing.
 #[test]
 fn defined_asks_for_a_name(rt: HostRuntime) -> Result<(), Fail> {
-    let alloc = rt.alloc();
-    let rows = [
-        ("#define X Y\n#if defined X && !defined Y\na\n#endif", "a"),
-        ("#if !defined(X) && !defined int\na\n#endif", "a"),
-        ("#if 0 && 1/0\na\n#else\nb\n#endif", "b"),
-        ("#if 1 ? 2 : 1/0\na\n#endif", "a"),
-        ("#if -1 > 0u\na\n#endif", "a"),
-        ("#if defined()\n#endif", "!BadCondition 0:1:1"),
-        ("#if defined(X\n#endif", "!BadCondition 0:1:1"),
-        (" #if defined((X))\n#endif", "!BadCondition 0:1:2"),
-        ("#if 1 || defined\n#endif", "!BadCondition 0:1:1"),
-    ];
-    for (text, words) in rows {
-        assert_eq!(rt; alone(alloc, text)?.as_str(), words, "{text}");
-    }
-    Ok(())
+    say(
+        &rt,
+        rt.alloc(),
+        &[
+            ("#define X Y\n#if defined X && !defined Y\na\n#endif", "a"),
+            ("#if !defined(X) && !defined int\na\n#endif", "a"),
+            ("#if 0 && 1/0\na\n#else\nb\n#endif", "b"),
+            ("#if 1 ? 2 : 1/0\na\n#endif", "a"),
+            ("#if -1 > 0u\na\n#endif", "a"),
+            ("#if defined()\n#endif", "!BadCondition 0:1:1"),
+            ("#if defined(X\n#endif", "!BadCondition 0:1:1"),
+            (" #if defined((X))\n#endif", "!BadCondition 0:1:2"),
+            ("#if 1 || defined\n#endif", "!BadCondition 0:1:1"),
+        ],
+    )
 }
 
-// X3.159-1989 3.8.1, constraints: an integral constant expression; 3.4: its value is in the range of its type, so a division by 0
-// has none. Each row is the condition of an `#if`, and of an `#elif` behind a group that is skipped.
-#[test]
-fn these_lines_are_no_conditions(rt: HostRuntime) -> Result<(), Fail> {
-    let alloc = rt.alloc();
-    let lines = [
-        "", "defined", "D X", "D(X)", "E", "1 1", "f(1)", "1.0", "\"a\"", "x = 1", "(1", "1/0",
-        "1%X", "1&&1/0", "0?1:1/0", "1/0||1",
-    ];
+/// Each line is refused as the condition of an `#if`, and of an `#elif` behind a group that is skipped.
+fn are_no_conditions(rt: &impl Abort, alloc: Global, lines: &[&str]) -> Result<(), Fail> {
     for line in lines {
         let text = format!(in alloc; "#define D defined\n#define E\n #if {line}\n#endif")?;
         let found = alone(alloc, text.as_str())?;
@@ -266,69 +346,137 @@ fn these_lines_are_no_conditions(rt: HostRuntime) -> Result<(), Fail> {
     Ok(())
 }
 
-// X3.159-1989 3.8.2: the two forms, and a line of neither is replaced first. Own: both forms name the same files; the texts between
-// `<` and `>` are joined without white space; a literal's bytes have no escapes.
+// X3.159-1989 3.8.1, constraints: an integral constant expression.
 #[test]
-fn an_include_names_a_file(rt: HostRuntime) -> Result<(), Fail> {
-    let alloc = rt.alloc();
-    let rows = [
-        ("#include \"a.h\"", "1"),
-        ("#include <a.h>\nb", "1 b"),
-        ("#include < a . /**/ h >", "1"),
-        ("#include \"b c.h\"", "3"),
-        ("#include <b c.h>", "!Missing bc.h"),
-        ("#define a d\n#include <a.h>", "1"),
-        ("#define H \"a.h\"\n#include H", "1"),
-        ("#define H <a\n#include H.h>", "1"),
-        ("#define L <\n#define G >\n#include L a.h G", "1"),
-        ("#define f(x) <x.h>\n#include f(a)\n#include f(d/b)", "1 2"),
-        ("#include \"no.h\"", "!Missing no.h"),
-        ("#include \"a\\tb\"", "!Missing a\\tb"),
-        (" #include", "!BadDirective 0:1:2"),
-        ("#include \"\"", "!BadDirective 0:1:1"),
-        ("#include <>", "!BadDirective 0:1:1"),
-        ("#include <a.h", "!BadDirective 0:1:1"),
-        ("#include <a.h> b", "!BadDirective 0:1:1"),
-        ("#include \"a.h\" b", "!BadDirective 0:1:1"),
-        ("#define H \"\"\n#include H", "!BadDirective 0:2:1"),
-        ("#define H\n#include H", "!BadDirective 0:2:1"),
-    ];
+fn these_lines_are_no_conditions(rt: HostRuntime) -> Result<(), Fail> {
+    are_no_conditions(
+        &rt,
+        rt.alloc(),
+        &[
+            "", "defined", "D X", "D(X)", "E", "1 1", "f(1)", "1.0", "\"a\"",
+        ],
+    )
+}
+
+// X3.159-1989 3.4: the value of a condition is in the range of its type, so a division by 0 has none.
+#[test]
+fn a_division_by_0_is_no_condition(rt: HostRuntime) -> Result<(), Fail> {
+    are_no_conditions(
+        &rt,
+        rt.alloc(),
+        &["x = 1", "(1", "1/0", "1%X", "1&&1/0", "0?1:1/0", "1/0||1"],
+    )
+}
+
+/// Each text, next to three headers, says the words next to it.
+fn say_with_headers(rt: &impl Abort, alloc: Global, rows: &[(&str, &str)]) -> Result<(), Fail> {
     for (text, words) in rows {
-        let texts = [("m.c", text), ("a.h", "1"), ("d/b.h", "2"), ("b c.h", "3")];
-        assert_eq!(rt; said(alloc, &texts, &["m.c"])?.as_str(), words, "{text}");
+        let texts = [("m.c", *text), ("a.h", "1"), ("d/b.h", "2"), ("b c.h", "3")];
+        assert_eq!(rt; said(alloc, &texts, &["m.c"])?.as_str(), *words, "{text}");
     }
     Ok(())
 }
 
-// X3.159-1989 3.8.2: the line is replaced by the whole of the file, so macros go in and out. Own: a section and an invocation end
-// in the file in which they begin. Each row is a header's text, and what the
-// unit says that includes it between `X` and `(2) X`.
+// X3.159-1989 3.8.2: the two forms. Own: both forms name the same files; the texts between `<` and `>` are joined without white
+// space.
 #[test]
-fn a_header_is_read_in_its_place(rt: HostRuntime) -> Result<(), Fail> {
-    let alloc = rt.alloc();
-    let rows = [
-        ("X", "1 1 ( 2 ) 1"),
-        ("#undef X\n#define X 3\nX\n", "1 3 ( 2 ) 3"),
-        ("f", "1 f ( 2 ) 1"),
-        ("\n #define X 3", "!BadMacro 1:2:2"),
-        ("f(", "!ArgCount 1:1:1"),
-        (" #endif", "!BadDirective 1:1:2"),
-        ("\n#if 1\n#if 0", "!OpenIf 1:2:1"),
-        ("#if 1/0\n#endif", "!BadCondition 1:1:1"),
-        ("a /* b", "!OpenComment 1:1:3"),
-        ("a\n\"b\n", "!OpenString 1:2:1"),
-    ];
+fn an_include_names_a_file(rt: HostRuntime) -> Result<(), Fail> {
+    say_with_headers(
+        &rt,
+        rt.alloc(),
+        &[
+            ("#include \"a.h\"", "1"),
+            ("#include <a.h>\nb", "1 b"),
+            ("#include < a . /**/ h >", "1"),
+            ("#include \"b c.h\"", "3"),
+            ("#include <b c.h>", "!Missing bc.h"),
+            ("#define a d\n#include <a.h>", "1"),
+        ],
+    )
+}
+
+// X3.159-1989 3.8.2: a line of neither form is replaced first. Own: a literal's bytes have no escapes.
+#[test]
+fn the_line_of_an_include_is_replaced(rt: HostRuntime) -> Result<(), Fail> {
+    say_with_headers(
+        &rt,
+        rt.alloc(),
+        &[
+            ("#define H \"a.h\"\n#include H", "1"),
+            ("#define H <a\n#include H.h>", "1"),
+            ("#define L <\n#define G >\n#include L a.h G", "1"),
+            ("#define f(x) <x.h>\n#include f(a)\n#include f(d/b)", "1 2"),
+            ("#include \"no.h\"", "!Missing no.h"),
+            ("#include \"a\\tb\"", "!Missing a\\tb"),
+        ],
+    )
+}
+
+// X3.159-1989 3.8.2: a line that is of neither form once it is replaced is refused. Own: a name is not empty.
+#[test]
+fn other_includes_are_refused(rt: HostRuntime) -> Result<(), Fail> {
+    say_with_headers(
+        &rt,
+        rt.alloc(),
+        &[
+            (" #include", "!BadDirective 0:1:2"),
+            ("#include \"\"", "!BadDirective 0:1:1"),
+            ("#include <>", "!BadDirective 0:1:1"),
+            ("#include <a.h", "!BadDirective 0:1:1"),
+            ("#include <a.h> b", "!BadDirective 0:1:1"),
+            ("#include \"a.h\" b", "!BadDirective 0:1:1"),
+            ("#define H \"\"\n#include H", "!BadDirective 0:2:1"),
+            ("#define H\n#include H", "!BadDirective 0:2:1"),
+        ],
+    )
+}
+
+/// Each text is a header's, and the unit that includes it between `X` and `(2) X` says the words next to it.
+fn say_as_headers(rt: &impl Abort, alloc: Global, rows: &[(&str, &str)]) -> Result<(), Fail> {
     for (text, words) in rows {
         let texts = [
             (
                 "m.c",
                 "#define X 1\n#define f(x) [x] X\n#if 1\nX\n#include \"h.h\"\n(2) X\n#endif",
             ),
-            ("h.h", text),
+            ("h.h", *text),
         ];
-        assert_eq!(rt; said(alloc, &texts, &["m.c"])?.as_str(), words, "{text}");
+        assert_eq!(rt; said(alloc, &texts, &["m.c"])?.as_str(), *words, "{text}");
     }
     Ok(())
+}
+
+// X3.159-1989 3.8.2: the line is replaced by the whole of the file, so macros go in and out. Own: an invocation ends in the file in
+// which it begins.
+#[test]
+fn a_header_is_read_in_its_place(rt: HostRuntime) -> Result<(), Fail> {
+    say_as_headers(
+        &rt,
+        rt.alloc(),
+        &[
+            ("X", "1 1 ( 2 ) 1"),
+            ("#undef X\n#define X 3\nX\n", "1 3 ( 2 ) 3"),
+            ("f", "1 f ( 2 ) 1"),
+            ("\n #define X 3", "!BadMacro 1:2:2"),
+            ("f(", "!ArgCount 1:1:1"),
+        ],
+    )
+}
+
+// Own: a section ends in the file in which it begins. Each refusal is at its place in the header.
+#[test]
+fn a_refusal_is_in_its_header(rt: HostRuntime) -> Result<(), Fail> {
+    say_as_headers(
+        &rt,
+        rt.alloc(),
+        &[
+            (" #endif", "!BadDirective 1:1:2"),
+            ("\n#if 1\n#if 0", "!OpenIf 1:2:1"),
+            ("#if 1/0\n#endif", "!BadCondition 1:1:1"),
+            ("a /* b", "!OpenComment 1:1:3"),
+            ("a\n\"b\n", "!OpenString 1:2:1"),
+        ],
+    )
 }
 
 // Own: 32 levels of inclusion may be open. The name has its form before the depth is looked at, and the depth before the file.

@@ -1,4 +1,4 @@
-use crate::{FileEnd, Files, MemFiles, MemSink, Sink};
+use hs_base::{FileEnd, Files, MemFiles, MemSink, Sink};
 use std::test::Fail;
 
 // A read that is numbered as failing fails, and the next ones answer by the listing.
