@@ -1,14 +1,16 @@
 -- Each expression is read: from any stack that takes its level, its tokens lead to what its value leads to.
 --     complete       the tokens of an expression are read as its value
 --     value_is       so the tokens of a condition have its value
-use Rattle.std.proofs.Common.{◌≡◌, ℕ, ◌≤◌, Bool, true, false, List, [], ◌∷◌, ◌++◌, Option, Some, None, refl, ap, ◌∙◌, arith}
-use Rattle.std.specs.Prelude.{nat_le, codes, ◌&&◌, ◌==◌}
+use Rattle.std.proofs.Common.{◌≡◌, ℕ, ◌≤◌, true, false, List, [], ◌∷◌, ◌++◌, Option, Some, None, refl, ap, ◌∙◌, arith}
+use Rattle.std.specs.Prelude.{nat_le, codes, ◌==◌}
 use Rattle.std.specs.Str.{bytes_eq}
+use Rattle.std.proofs.lemmas.Bool.{and_parts}
 use Rattle.std.proofs.lemmas.Bool.Decides.{nat_tests}
 use Rattle.std.proofs.lemmas.Slice.Eq.{bytes_eq-Decides}
 use Rattle.hs_tokens.specs.declared.token.Token.{Token}
 use Rattle.hs_tokens.specs.declared.token.TokenKind.{TokenKind}
 use Rattle.hs_tokens.specs.declared.token.TokenKind.TheVariants.{Identifier, Number, Character, Literal, Punctuator}
+use Rattle.hs_tokens.specs.KindLaws.{kind_is}
 use Rattle.hs_tokens.specs.Marks.{is_same_kind, is_mark}
 use Rattle.hs_constants.specs.Arithmetic.{binary_value, chosen}
 use Rattle.hs_constants.specs.Conditions.{constant_by, constant_of, unary_of, binary_of, level_of, Means}
@@ -21,24 +23,11 @@ use Rattle.hs_constants.specs.declared.waiting.Waiting.{Waiting}
 use Rattle.hs_constants.specs.declared.waiting.Waiting.TheVariants.{Group, Prefix, Infix, Test, Branch}
 use Rattle.hs_constants.proofs.Levels.{demand, level_within}
 
--- a kind that is the punctuators' one
-kind_is : (kind : TokenKind) → is_same_kind kind Punctuator ≡ true → kind ≡ Punctuator
-kind_is Identifier same = absurd cc
-kind_is Number same = absurd cc
-kind_is Character same = absurd cc
-kind_is Literal same = absurd cc
-kind_is Punctuator same = refl
-
--- both of two tests
-both : (one other : Bool) → (one && other) ≡ true → (one ≡ true) × (other ≡ true)
-both true other is = (refl, is)
-both false other is = absurd cc
-
 -- a token that is a mark is this token
 marked : (mark : List ℕ) (token : Token) → is_mark mark token ≡ true → token ≡ record token { kind = Punctuator; text = mark }
 marked mark token is =
-    let tests = both (is_same_kind token.kind Punctuator) (bytes_eq token.text mark) is in
-    let kind : token.kind ≡ Punctuator = kind_is token.kind tests.0 in
+    let tests = and_parts (is_same_kind token.kind Punctuator) (bytes_eq token.text mark) is in
+    let kind : token.kind ≡ Punctuator = kind_is token.kind Punctuator tests.0 in
     let text : token.text ≡ mark = (bytes_eq-Decides token.text mark).0 tests.1 in
     λ i. record token { kind = kind i; text = text i }
 

@@ -1,23 +1,15 @@
 -- A name is UTF-8, since its bytes are printable.
-use Rattle.std.proofs.Common.{◌≡◌, ℕ, zero, suc, ◌<◌, Bool, true, false, ◌&&◌, List, [], ◌∷◌, get_or, arith, refl, IsUtf8}
+use Rattle.std.proofs.Common.{◌≡◌, ℕ, zero, suc, ◌<◌, true, List, [], ◌∷◌, get_or, arith, IsUtf8}
 use Rattle.std.specs.List.{list_all}
+use Rattle.std.proofs.lemmas.Bool.{and_parts}
 use Rattle.std.proofs.lemmas.Str.{IsUtf8-from_ascii}
 use Rattle.hs_directives.specs.Includes.{is_printable, is_name}
-
--- both hold
-left_holds : (a b : Bool) → (a && b) ≡ true → a ≡ true
-left_holds true b both = refl
-left_holds false b both = both
-
-right_holds : (a b : Bool) → (a && b) ≡ true → b ≡ true
-right_holds true b both = both
-right_holds false b both = absurd cc
 
 -- printable bytes are below 128
 below : (bytes : List ℕ) → list_all is_printable bytes ≡ true → (i : ℕ) → get_or bytes i 0 < 128
 below [] all i = grind arith
-below (byte ∷ bytes) all zero = grind (arith, left_holds (is_printable byte) (list_all is_printable bytes) all)
-below (byte ∷ bytes) all (suc i) = below bytes (right_holds (is_printable byte) (list_all is_printable bytes) all) i
+below (byte ∷ bytes) all zero = grind (arith, and_parts (is_printable byte) (list_all is_printable bytes) all)
+below (byte ∷ bytes) all (suc i) = below bytes (and_parts (is_printable byte) (list_all is_printable bytes) all).1 i
 
 -- so a name is
 pub utf8_from_name : (name : List ℕ) → is_name name ≡ true → IsUtf8 name

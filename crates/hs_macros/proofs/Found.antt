@@ -6,10 +6,11 @@ use Rattle.std.specs.Ordering.{eq_by_cmp}
 use Rattle.std.specs.declared.cmp.Ordering.TheVariants.{Less, Equal, Greater}
 use Rattle.std.specs.Cmp.Lexicographic.{nat_list_cmp_total}
 use Rattle.std.specs.FinSet as set
+use Rattle.std.proofs.Math.Bool.{or_assoc}
 use Rattle.std.proofs.lemmas.List.{map-append, append-nil}
 use Rattle.hs_macros.specs.HideSets.{HideSet}
 use Rattle.hs_macros.proofs.Names.{Name, order, bytes_of, set_of, IsRising, alike, same_set, contains_tied, turned}
-use Rattle.hs_macros.proofs.Rows.{first, rest, Compares, holds, rest-cons, contains_before, contains-cons, contains-cons_even, or_assoc, contains-append, contains-push, IsRising-skip, IsRising-between, IsRising-back, IsRising-push, IsRising-push_even}
+use Rattle.hs_macros.proofs.Rows.{first, rest, Compares, holds, rest-cons, contains_before, contains-cons, contains-cons_even, contains-append, contains-push, IsRising-skip, IsRising-between, IsRising-back, IsRising-push, IsRising-push_even}
 
 -- ---- what both hold
 

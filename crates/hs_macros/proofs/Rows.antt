@@ -3,13 +3,14 @@
 --     Compares own others answer      both rows have a first name, and the two compare so
 --     holds row q                     the row has the name
 --     IsBelow name row                each name of the row is greater than this one
-use Rattle.std.proofs.Common.{◌≡◌, ℕ, ◌-◌, ◌≤◌, Ordering, Bool, true, false, ◌||◌, List, [], ◌∷◌, ◌++◌, length, take, drop, get_or, refl, sym, ap, subst, ◌∙◌, append_assoc, arith}
+use Rattle.std.proofs.Common.{◌≡◌, ℕ, ◌-◌, ◌≤◌, Ordering, Bool, false, ◌||◌, List, [], ◌∷◌, ◌++◌, length, take, drop, get_or, sym, ap, subst, ◌∙◌, append_assoc, arith}
 use Rattle.std.specs.List.{AllByRecursion}
 use Rattle.std.specs.List.Sorted.{IsStrictlySortedBy}
 use Rattle.std.specs.Ordering.{is_eq, eq_by_cmp}
 use Rattle.std.specs.declared.cmp.Ordering.TheVariants.{Less}
 use Rattle.std.specs.Cmp.Lexicographic.{nat_list_cmp_total}
 use Rattle.std.specs.FinSet as set
+use Rattle.std.proofs.Math.Bool.{or_assoc}
 use Rattle.std.proofs.lemmas.List.{take_all, map-append}
 use Rattle.std.proofs.lemmas.Map.Keys.{sorted_head, sorted_tail}
 use Rattle.hs_macros.proofs.Names.{Name, no_name, order, bytes_of, set_of, IsRising, alike}
@@ -44,11 +45,6 @@ contains-cons name row q = set.contains-insert nat_list_cmp_total (set_of row) n
 pub contains-cons_even : (name other : Name) (row : List Name) (q : List ℕ) → other.now ≡ name.now
     → holds (other ∷ row) q ≡ (eq_by_cmp order q name.now || holds row q)
 contains-cons_even name other row q even = contains-cons other row q ∙ ap (λ name'. eq_by_cmp order q name' || holds row q) even
-
--- one of three tests passes, however they are grouped
-pub or_assoc : (a b c : Bool) → ((a || b) || c) ≡ (a || (b || c))
-or_assoc true b c = refl
-or_assoc false b c = refl
 
 -- what two rows hold together
 pub contains-append : (front back : List Name) (q : List ℕ)

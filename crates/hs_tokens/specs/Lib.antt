@@ -2,6 +2,7 @@ pub mod Ahead
 pub mod Characters
 pub mod Cursor
 pub mod Forms
+pub mod KindLaws
 pub mod Lines
 pub mod Literals
 pub mod Marks
