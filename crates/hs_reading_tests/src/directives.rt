@@ -42,7 +42,7 @@ fn named(alloc: Global, kind: &str, name: &Bytes) -> Result<String, AllocError> 
     format!(in alloc; "!{kind} {name}")
 }
 
-/// A refusal in words, behind a mark: its kind, and the place, the name or the number.
+/// A refusal in words, after a mark: its kind, and the place, the name or the number.
 fn refusal(alloc: Global, error: &ReadError) -> Result<String, AllocError> {
     let (kind, pos) = match error {
         ReadError::Scan(ScanKind::BadByte, pos) => ("BadByte", *pos),
@@ -66,7 +66,7 @@ fn refusal(alloc: Global, error: &ReadError) -> Result<String, AllocError> {
     format!(in alloc; "!{kind} {pos}")
 }
 
-/// A word more, behind a space where one stands before.
+/// Appends a word, after a space if there is a word already.
 fn add(words: &mut String, word: &str) -> Result<(), AllocError> {
     if !words.is_empty() {
         words.push(' ')?;
@@ -74,7 +74,7 @@ fn add(words: &mut String, word: &str) -> Result<(), AllocError> {
     words.push_str(word)
 }
 
-/// The units' tokens, a space between two, and a bar behind each unit but the last.
+/// The units' tokens, a space between two, and a bar after each unit but the last.
 fn spelled(alloc: Global, source: &Source) -> Result<String, AllocError> {
     let mut words = String::new(alloc);
     let mut later = false;
@@ -117,7 +117,7 @@ fn say(rt: &impl Abort, alloc: Global, rows: &[(&str, &str)]) -> Result<(), Fail
     Ok(())
 }
 
-// X3.159-1989 3.8.1: at most one group of a section is kept, and the conditions behind it are not reached. Own: tokens behind
+// X3.159-1989 3.8.1: at most one group of a section is kept, and the conditions after it are not reached. Own: tokens after
 // `#else` and `#endif` are ignored.
 #[test]
 fn one_group_of_a_section_is_kept(rt: HostRuntime) -> Result<(), Fail> {
@@ -333,7 +333,7 @@ fn defined_asks_for_a_name(rt: HostRuntime) -> Result<(), Fail> {
     )
 }
 
-/// Each line is refused as the condition of an `#if`, and of an `#elif` behind a group that is skipped.
+/// Each line is refused as the condition of an `#if`, and of an `#elif` after a group that is skipped.
 fn are_no_conditions(rt: &impl Abort, alloc: Global, lines: &[&str]) -> Result<(), Fail> {
     for line in lines {
         let text = format!(in alloc; "#define D defined\n#define E\n #if {line}\n#endif")?;
@@ -563,7 +563,7 @@ fn units_share_files_and_no_macros(rt: HostRuntime) -> Result<(), Fail> {
     Ok(())
 }
 
-/// The changes of macros in a unit in words, a bar behind each unit but the last.
+/// The changes of macros in a unit in words, a bar after each unit but the last.
 fn changes_of(alloc: Global, source: &Source) -> Result<String, AllocError> {
     let mut words = String::new(alloc);
     let mut later = false;

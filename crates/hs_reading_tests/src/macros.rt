@@ -6,7 +6,7 @@ use std::alloc::{AllocError, Global};
 use std::process::Abort;
 use std::test::Fail;
 
-/// Defines what stands behind a `#define`.
+/// Defines what follows a `#define`.
 fn define(alloc: Global, macros: &mut Macros, line: &[u8]) -> Result<Result<(), MacroError>, Fail> {
     let tokens = tokens_of(alloc, line)?;
     Ok(macros.define(tokens.as_slice()))
@@ -276,7 +276,7 @@ fn an_invocation_has_its_parenthesis_next(rt: HostRuntime) -> Result<(), Fail> {
     )
 }
 
-// X3.159-1989 3.8.3.4: what replaces a name is looked at with the tokens behind it, and the tokens before it are over.
+// X3.159-1989 3.8.3.4: what replaces a name is looked at with the tokens after it, and the tokens before it are done.
 #[test]
 fn what_replaces_a_name_may_begin_an_invocation(rt: HostRuntime) -> Result<(), Fail> {
     are_replaced(
@@ -307,10 +307,10 @@ const WITH_ARGUMENTS: [&[u8]; 8] = [
     b"rp )",
 ];
 
-// X3.159-1989 3.8.3: commas between inner parentheses separate nothing. 3.8.3.1: the arguments are told apart before they
+// X3.159-1989 3.8.3: commas between inner parentheses separate nothing. 3.8.3.1: the arguments are separated before they
 // are replaced. Own: an argument may have no tokens.
 #[test]
-fn arguments_are_told_apart_before_they_are_replaced(rt: HostRuntime) -> Result<(), Fail> {
+fn arguments_are_separated_before_they_are_replaced(rt: HostRuntime) -> Result<(), Fail> {
     are_replaced(
         &rt,
         rt.alloc(),
@@ -783,10 +783,10 @@ fn are_definitions(
     Ok(())
 }
 
-// X3.159-1989 3.8.3: a parenthesis directly behind the name opens parameters; a splice is no white space, and a comment is
+// X3.159-1989 3.8.3: a parenthesis directly after the name opens parameters; a splice is no white space, and a comment is
 // (2.1.1.2).
 #[test]
-fn a_parenthesis_behind_the_name_opens_parameters(rt: HostRuntime) -> Result<(), Fail> {
+fn a_parenthesis_after_the_name_opens_parameters(rt: HostRuntime) -> Result<(), Fail> {
     are_definitions(
         &rt,
         rt.alloc(),
@@ -970,7 +970,7 @@ fn a_macro_keeps_its_form_and_parameters(rt: HostRuntime) -> Result<(), Fail> {
     )
 }
 
-// X3.159-1989 3.8.3.5: a definition lasts until `#undef`, which is ignored where there is none. Then the name may be
+// X3.159-1989 3.8.3.5: a definition lasts until `#undef`, which is ignored if there is no definition. Then the name may be
 // defined as another macro. Each row takes the name's definition away and gives it another one.
 #[test]
 fn a_definition_lasts_until_it_is_taken_away(rt: HostRuntime) -> Result<(), Fail> {

@@ -332,7 +332,7 @@ fn a_counted_string_has_255_bytes_at_most(rt: HostRuntime) -> Result<(), Fail> {
     Ok(())
 }
 
-// Own: a token without room comes before what is refused behind it, and after what is refused in front of it.
+// Own: a token without room is reported before what is refused after it, and after what is refused before it.
 #[test]
 fn a_text_has_no_more_tokens_than_room(rt: HostRuntime) -> Result<(), Fail> {
     let alloc = rt.alloc();
