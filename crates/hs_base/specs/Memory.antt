@@ -34,7 +34,10 @@ AnswersFile max (Some bytes) result = MatchBool (nat_lt max (length bytes)) (res
 
 -- the read fails where its number says so, and else answers by the file
 abbrev pub AnswersRead : MemoryFiles → List ℕ → ℕ → Result Unit FileEnd → Type 0
-AnswersRead files name max result = MatchBool (is_among files.failing (raised files.reads)) (result ≡ Err end.Failed) (AnswersFile max (file_of files.listing name) result)
+AnswersRead files name max result =
+    MatchBool (is_among files.failing (raised files.reads))
+    (result ≡ Err end.Failed)
+    (AnswersFile max (file_of files.listing name) result)
 
 -- what a contract sees of a sink in memory
 pub record MemorySink : Type 0 where

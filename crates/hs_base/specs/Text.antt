@@ -29,4 +29,7 @@ ends_line byte rest = (byte == 10) || ((byte == 13) && not (begins_with 10 rest)
 
 -- the place of what follows the byte, with the rest behind it
 abbrev pub next_place : Pos → ℕ → List ℕ → Pos
-next_place at byte rest = if ends_line byte rest then record { file = at.file; line = at.line + 1; col = 1 } else record { file = at.file; line = at.line; col = at.col + 1 }
+next_place at byte rest =
+    if ends_line byte rest
+    then record { file = at.file; line = at.line + 1; col = 1 }
+    else record { file = at.file; line = at.line; col = at.col + 1 }

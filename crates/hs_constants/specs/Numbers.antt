@@ -38,7 +38,10 @@ digits_value len decimal value text = if nat_le value 4294967295 then with_suffi
 
 -- digits behind 0x, at least one
 abbrev pub hex_number : List ℕ → Option Number
-hex_number text = if prefix_len is_hex text == 0 then None else digits_value (prefix_len is_hex text) false (hex_value 0 (take (prefix_len is_hex text) text)) text
+hex_number text =
+    if prefix_len is_hex text == 0
+    then None
+    else digits_value (prefix_len is_hex text) false (hex_value 0 (take (prefix_len is_hex text) text)) text
 
 -- a 0 begins an octal number
 abbrev pub octal_number : List ℕ → Option Number

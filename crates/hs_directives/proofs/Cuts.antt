@@ -53,7 +53,8 @@ line_dropped (token ∷ rest) =
     elim token.first as (λ answer. token.first ≡ answer → pieces_from true (token ∷ rest) ≡ pieces (drop (prefix_len goes_on (token ∷ rest)) (token ∷ rest))) [
       | true ↦ λ is. starts_line token rest is ∙ sym (ap (λ n. pieces (drop n (token ∷ rest))) (line_len_by token rest true is))
       | false ↦ λ is. on_line token rest is ∙ line_dropped rest
-          ∙ sym (ap pieces (dropped_more (prefix_len goes_on rest) token rest)) ∙ sym (ap (λ n. pieces (drop n (token ∷ rest))) (line_len_by token rest false is))
+          ∙ sym (ap pieces (dropped_more (prefix_len goes_on rest) token rest))
+          ∙ sym (ap (λ n. pieces (drop n (token ∷ rest))) (line_len_by token rest false is))
     ] refl
 
 -- a directive ends at the end of its line

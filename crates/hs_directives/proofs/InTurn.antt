@@ -18,7 +18,7 @@ use Rattle.hs_directives.specs.Directives.{with_left, place_of}
 use Rattle.hs_directives.specs.Includes.{Named, include_name}
 use Rattle.hs_directives.specs.Outcomes.{Gives}
 use Rattle.hs_directives.specs.Pieces.{pieces}
-use Rattle.hs_directives.specs.Preprocessing.{entered, walked, most_levels, fresh, unit_read, unit_of, UnitRead, Units, units_of, start, source_of, source_by, preprocessed}
+use Rattle.hs_directives.specs.Preprocessing.{entered, walked, most_levels, fresh, unit_read, unit_of, Units, units_of, start, source_of, source_by, preprocessed}
 use Rattle.hs_directives.specs.Readings.{Agrees, AreListed, listing_of, IsReading, found_of, Entry, entry_of, entry_by, entry, entered_by}
 use Rattle.hs_directives.specs.Reads.{IsNext, IsTold, AreReads, AreBegun, Leads, ReadsInTurn, IsReadThrough}
 use Rattle.hs_directives.specs.States.{and_then, known_from, Found, found_file, listed_file, scanned_file}
@@ -33,7 +33,7 @@ use Rattle.hs_directives.specs.declared.state.State.{State}
 use Rattle.hs_directives.specs.declared.state.UnitSoFar.{UnitSoFar}
 use Rattle.hs_directives.specs.declared.unit.TranslationUnit.{TranslationUnit}
 use Rattle.hs_directives.proofs.Reading.{scan-file, unknown_unlisted, found-new}
-use Rattle.hs_directives.proofs.Units.{units_after, units_next}
+use Rattle.hs_directives.proofs.Units.{unit_behind, units_after, units_behind, units_next}
 use Rattle.hs_directives.proofs.Walking.{Reached, reached_inclusion, reading_told, walk_of, walk_entry}
 
 -- one read after another, and then others
@@ -121,11 +121,13 @@ pub record HasRead {F B : Type 0} (leads : F → List ℕ → ℕ → F → Type
   pub in_turn : AreReads told outcome (listing_of old) names (listing_of new)
 
 -- none so far
-pub read_none : {F B : Type 0} (leads : F → List ℕ → ℕ → F → Type 0) (told : Option Listing) (first : F) (files : List File) (outcome : Listing → Result B ReadError)
+pub read_none : {F B : Type 0} (leads : F → List ℕ → ℕ → F → Type 0) (told : Option Listing) (first : F) (files : List File)
+    (outcome : Listing → Result B ReadError)
     → HasRead leads told first first files files outcome
 read_none leads told first files outcome = record { names = []; leads_on = refl; in_turn = AreReads.none (listing_of files) }
 
-module _ {F B : Type 0} {leads : F → List ℕ → ℕ → F → Type 0} {told : Option Listing} {first mid : F} {old new : List File} {outcome : Listing → Result B ReadError}
+module _ {F B : Type 0} {leads : F → List ℕ → ℕ → F → Type 0} {told : Option Listing} {first mid : F} {old new : List File}
+    {outcome : Listing → Result B ReadError}
     (reads : HasRead leads told first mid old new outcome) where
   -- a result after them
   pub read_returned : {A : Type 0} (result : Result A ReadError) → ReadsInTurn leads told first mid old new outcome result
@@ -246,7 +248,8 @@ entry_step leads told first levels hash line state named name is same some =
     (λ listing. entry_finds levels listing hash line state named name is same some)
 
 -- a walk where a file is included
-module _ {F : Type 0} {leads : F → List ℕ → ℕ → F → Type 0} {told : Option Listing} {before now : Counts} {first mid : F} {old new : List File} {outcome : Listing → Result State ReadError}
+module _ {F : Type 0} {leads : F → List ℕ → ℕ → F → Type 0} {told : Option Listing} {before now : Counts} {first mid : F} {old new : List File}
+    {outcome : Listing → Result State ReadError}
     (levels : ℕ) (outer : Option Pos) (part : Part) (it : Bor Token × Bor (List Token)) (rest behind : List Token) (sections : List Section) (state : State)
     (reads : HasRead leads told first mid old new outcome) (reached : Reached told before now old new outcome (walk_of levels outer rest sections state))
     (ahead : pieces rest ≡ piece_of part ∷ pieces behind) (is : IsInclusionOf part sections (Some it)) where
@@ -257,35 +260,35 @@ module _ {F : Type 0} {leads : F → List ℕ → ℕ → F → Type 0} {told : 
   -- the walks behind it
   abbrev walks_behind : Listing → Entry → Result State ReadError
   walks_behind listing entered' =
-      and_then (walk_of (levels - 1) (Some (place_of outer it.0.now.pos)) entered'.tokens [] entered'.state listing) (λ state'. walk_of levels outer behind sections state' listing)
+      and_then (walk_of (levels - 1) (Some (place_of outer it.0.now.pos)) entered'.tokens [] entered'.state listing)
+      (λ state'. walk_of levels outer behind sections state' listing)
 
   -- what is left begins with its entry
   pub walk_entry_step : Step leads told first mid old new outcome entry_ahead walks_behind
   walk_entry_step =
-      step_after entry_ahead walks_behind reads (reached_inclusion told before now old new outcome levels outer part it rest behind sections state reached ahead is)
+      step_after entry_ahead walks_behind reads
+      (reached_inclusion told before now old new outcome levels outer part it rest behind sections state reached ahead is)
 
   -- and then with its walk
   pub walk_inner_step : {told' : Option Listing} {later : Counts} (final : F) (new' : List File) (state' : State) (tokens : List Token) (place : Pos)
       → place ≡ place_of outer it.0.now.pos → told' ≡ told → NeverFall now later
       → IsReading {A = List Token} told' now later new new' (entered_by state') entry_ahead (Ok tokens)
       → ReadsInTurn {A = Unit {0}} leads told' mid final new new' entry_ahead (Ok tt)
-      → Step leads told first final old new' outcome (walk_of (levels - 1) (Some place) tokens [] state') (λ listing state''. walk_of levels outer behind sections state'' listing)
+      → Step leads told first final old new' outcome (walk_of (levels - 1) (Some place) tokens [] state')
+      (λ listing state''. walk_of levels outer behind sections state'' listing)
   walk_inner_step {told' = told'} {later = later} final new' state' tokens place there same up reading reads' =
       step_after (walk_of (levels - 1) (Some place) tokens [] state') (λ listing state''. walk_of levels outer behind sections state'' listing)
       (read_on walk_entry_step same final new' reads')
       (walk_entry told before now later old new new' outcome levels outer part it rest behind sections state state' tokens place reached ahead is up there
       (reading_told {A = List Token} told' told now later new new' (entered_by state') entry_ahead (Ok tokens) same reading))
 
--- a unit behind its root file
-abbrev unit_behind : UnitSoFar → Listing → Found → Result UnitRead ReadError
-unit_behind unit listing it =
-    and_then (walked (entered most_levels listing) None (pieces it.tokens) [] (record { progress = it.progress; unit = unit })) (λ state. Ok (unit_read it.number state))
-
 -- a unit begins with its root file
 pub unit_file_step : {F : Type 0} (leads : F → List ℕ → ℕ → F → Type 0) (told : Option Listing) (first : F) (name : List ℕ) (progress : Progress)
-    → Step leads told first first progress.files progress.files (λ listing. unit_of listing name progress) (λ listing. found_file listing name progress) (unit_behind fresh)
+    → Step leads told first first progress.files progress.files (λ listing. unit_of listing name progress)
+    (λ listing. found_file listing name progress) (unit_behind fresh)
 unit_file_step leads told first name progress =
-    step_first leads told first progress.files (λ listing. unit_of listing name progress) (λ listing. found_file listing name progress) (unit_behind fresh) (λ listing. refl)
+    step_first leads told first progress.files (λ listing. unit_of listing name progress) (λ listing. found_file listing name progress)
+    (unit_behind fresh) (λ listing. refl)
 
 -- and what is left behind that with its walk
 pub unit_walk_step : {F : Type 0} {leads : F → List ℕ → ℕ → F → Type 0} {told : Option Listing} {first mid : F}
@@ -302,12 +305,9 @@ unit_walk_step name progress progress' known unit reads new found = record {
       ∙ ap (λ (unit' : UnitSoFar). unit_behind unit' listing (found_of progress' known)) (sym new);
 }
 
--- the units behind one
-abbrev units_behind : List (List ℕ) → List TranslationUnit → Listing → UnitRead → Result Units ReadError
-units_behind names units listing it = and_then (units_of listing names it.progress) (λ later. Ok (units_after (units ++ it.unit ∷ []) later))
-
 -- units, one after another
-module _ {F : Type 0} {leads : F → List ℕ → ℕ → F → Type 0} {told : Option Listing} {before now : Counts} {first mid : F} {old : List File} {outcome : Listing → Result Units ReadError} where
+module _ {F : Type 0} {leads : F → List ℕ → ℕ → F → Type 0} {told : Option Listing} {before now : Counts} {first mid : F} {old : List File}
+    {outcome : Listing → Result Units ReadError} where
   -- what is left of them begins with the next one
   pub unit_step : (name name' : List ℕ) (all names : List (List ℕ)) (progress : Progress) (units : List TranslationUnit)
       → HasRead leads told first mid old progress.files outcome
@@ -329,10 +329,13 @@ source_by-then (Err error) = refl
 source_by-then (Ok units) = refl
 
 -- all begins with the units
-pub source_step : {F : Type 0} (leads : F → List ℕ → ℕ → F → Type 0) (told : Option Listing) (first : F) (names : List (List ℕ)) (progress : Progress) → progress ≡ start
-    → Step leads told first first progress.files progress.files (λ listing. preprocessed listing names) (λ listing. units_of listing names progress) (λ listing units. Ok (source_of units))
+pub source_step : {F : Type 0} (leads : F → List ℕ → ℕ → F → Type 0) (told : Option Listing) (first : F) (names : List (List ℕ)) (progress : Progress)
+    → progress ≡ start
+    → Step leads told first first progress.files progress.files (λ listing. preprocessed listing names) (λ listing. units_of listing names progress)
+    (λ listing units. Ok (source_of units))
 source_step leads told first names progress begun =
-    step_first leads told first progress.files (λ listing. preprocessed listing names) (λ listing. units_of listing names progress) (λ listing units. Ok (source_of units))
+    step_first leads told first progress.files (λ listing. preprocessed listing names) (λ listing. units_of listing names progress)
+    (λ listing units. Ok (source_of units))
     (λ listing. source_by-then (units_of listing names start)
     ∙ ap (λ (progress' : Progress). and_then (units_of listing names progress') (λ units. Ok (source_of units))) (sym begun))
 
@@ -351,7 +354,8 @@ read_through {leads = leads} {told = told} {first = first} {final = final} {new 
       reads = reads'.names;
       leads_on = reads'.leads_on;
       in_turn = AreReads-begun told (λ listing. preprocessed listing names) [] (listing_of new) reads'.names reads'.in_turn;
-      all = sym (AreReads-names told (λ listing. preprocessed listing names) [] (listing_of new) reads'.names reads'.in_turn) ∙ listing_of-names new ∙ sym named;
+      all =
+          sym (AreReads-names told (λ listing. preprocessed listing names) [] (listing_of new) reads'.names reads'.in_turn) ∙ listing_of-names new ∙ sym named;
     }
 
 -- or up to a refusal

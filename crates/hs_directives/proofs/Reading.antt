@@ -1,5 +1,5 @@
 -- A file that is read: the listings that have it, and what its scan says of them.
-use Rattle.std.proofs.Common.{◌≡◌, ℕ, suc, ◌-◌, Bool, true, false, List, [], ◌∷◌, ◌++◌, length, Option, Some, None, Result, Ok, Err, IsErr, IsErrAnd, refl, sym, ap, subst, ◌∙◌, inl, inr, arith, append-nil}
+use Rattle.std.proofs.Common.{◌≡◌, ℕ, suc, ◌-◌, Bool, true, false, List, [], ◌∷◌, ◌++◌, length, Option, Some, None, Result, Ok, Err, IsErr, IsErrAnd, refl, sym, ap, subst, ◌∙◌, inl, inr, append-nil}
 use Rattle.std.specs.Prelude.{nat_lt, nat_le, if◌then◌else◌}
 use Rattle.std.specs.Str.{bytes_eq}
 use Rattle.std.proofs.lemmas.List.{map-append}
@@ -92,7 +92,8 @@ caused_none before now (Limit limit) none = tt
 caused_none before now NoMemory none = tt
 
 -- nor does it seek a file
-pub seeks_none : {B : Type 0} (told : Option Listing) (old new : List File) (outcome : Listing → Result B ReadError) (error : ReadError) → ReadsNone error → Seeks told old new outcome error
+pub seeks_none : {B : Type 0} (told : Option Listing) (old new : List File) (outcome : Listing → Result B ReadError) (error : ReadError)
+    → ReadsNone error → Seeks told old new outcome error
 seeks_none told old new outcome (Missing name) none = absurd none
 seeks_none told old new outcome (ReadFault name) none = absurd none
 seeks_none told old new outcome (Scan kind pos) none = tt
@@ -133,11 +134,6 @@ found-listed listing name text old none few within is =
     ∙ ap (listed_file name old) is
     ∙ ap (λ (long : Bool). if long then Err (passed FileBytes) else scanned_file name text old (scan_of (length old.files) old.room text)) within
 
--- a name is itself
-pub bytes_eq-same : (name : List ℕ) → bytes_eq name name ≡ true
-bytes_eq-same [] = refl
-bytes_eq-same (byte ∷ bytes) = grind (arith, bytes_eq-same bytes)
-
 -- a file that was read and scanned
 pub found_scanned : (told : Option Listing) (before now : Counts) (name text : List ℕ) (old new : Progress) (result : Result Known ReadError)
     → known_from 0 name old.files ≡ None → nat_le 256 (length old.files) ≡ false → nat_lt 4194304 (length text) ≡ false
@@ -160,7 +156,8 @@ found_scanned told before now name text old new (Ok known) none few within same 
       grown tokens is = record {
         more = record { name = name; text = text; tokens = tokens } ∷ [];
         longer = is;
-        told_agrees = λ listing of agrees. rw is (Agrees-push listing old.files (record { name = name; text = text; tokens = tokens }) (listed listing of) agrees);
+        told_agrees =
+            λ listing of agrees. rw is (Agrees-push listing old.files (record { name = name; text = text; tokens = tokens }) (listed listing of) agrees);
         own_agrees = λ own. rw is (own-push old.files (record { name = name; text = text; tokens = tokens }) none same own);
       }
 
@@ -195,7 +192,8 @@ sought_here told name old none few = record {
   sought = λ listing agrees missing. found-new listing name old none few ∙ ap (listed_file name old) missing;
 }
 
-seeks_here : (told : Option Listing) (name : List ℕ) (old : Progress) (error : ReadError) → known_from 0 name old.files ≡ None → nat_le 256 (length old.files) ≡ false
+seeks_here : (told : Option Listing) (name : List ℕ) (old : Progress) (error : ReadError) → known_from 0 name old.files ≡ None
+    → nat_le 256 (length old.files) ≡ false
     → IsNamed name error → Seeks told old.files old.files (λ listing. found_file listing name old) error
 seeks_here told name old (Missing missing) none few is = rw is (sought_here told name old none few)
 seeks_here told name old (ReadFault unread) none few is = rw is (sought_here told name old none few)
@@ -217,7 +215,8 @@ found_unread told before now name old error none few text = (
   seeks_here told name old error none few text.1,
   λ listing is steady agrees. refused listing (file_of listing name) refl (text.2 listing is steady),
 ) where
-  refused : (listing : Listing) (file : Option (List ℕ)) → file_of listing name ≡ file → IsRefusal (text_of_listed name (file_of listing name)) error → IsRefusal (found_file listing name old) error
+  refused : (listing : Listing) (file : Option (List ℕ)) → file_of listing name ≡ file → IsRefusal (text_of_listed name (file_of listing name)) error
+      → IsRefusal (found_file listing name old) error
   refused listing file same (inl want) = inl want
   refused listing None same (inr refusal) =
       let end : ◌≡◌ {A = Result (List ℕ) ReadError} (Err (Missing name)) (Err error) = sym (ap (text_of_listed name) same) ∙ refusal in
@@ -227,12 +226,14 @@ found_unread told before now name old error none few text = (
       inr (found-new listing name old none few ∙ ap (listed_file name old) same
       ∙ by (nat_lt 4194304 (length bytes)) (sym (ap (text_of_listed name) same) ∙ refusal)) where
         by : (long : Bool) → ◌≡◌ {A = Result (List ℕ) ReadError} (if long then Err (passed FileBytes) else Ok bytes) (Err error)
-            → ◌≡◌ {A = Result Found ReadError} (if long then Err (passed FileBytes) else scanned_file name bytes old (scan_of (length old.files) old.room bytes)) (Err error)
+            → ◌≡◌ {A = Result Found ReadError}
+            (if long then Err (passed FileBytes) else scanned_file name bytes old (scan_of (length old.files) old.room bytes)) (Err error)
         by true end = let limit : passed FileBytes ≡ error = cc in ap (λ (error' : ReadError). Err error') limit
         by false end = absurd cc
 
 -- a refusal that is handed on
-pub handed_on : {A B : Type 0} (told : Option Listing) (before now : Counts) (old new : List File) (view : A → B) (outcome : Listing → Result B ReadError) (result : Result A ReadError) (error : ReadError)
+pub handed_on : {A B : Type 0} (told : Option Listing) (before now : Counts) (old new : List File) (view : A → B)
+    (outcome : Listing → Result B ReadError) (result : Result A ReadError) (error : ReadError)
     → IsErr result × IsErrAnd result (λ error'. error' ≡ error)
     → IsReading told before now old new view outcome (Err error) → IsReading told before now old new view outcome result
 handed_on told before now old new view outcome (Ok value) error is reading = absurd cc

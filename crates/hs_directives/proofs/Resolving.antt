@@ -9,7 +9,8 @@ use Rattle.hs_directives.specs.Ahead.{behind_front, seen_operand}
 use Rattle.hs_directives.specs.declared.condition.Asked.{Asked}
 
 -- one more token
-behind_front-push : (front : List Token) (token : Token) (others : Option (List Token)) → behind_front (front ++ token ∷ []) others ≡ behind_front front (in_front token others)
+behind_front-push : (front : List Token) (token : Token) (others : Option (List Token))
+    → behind_front (front ++ token ∷ []) others ≡ behind_front front (in_front token others)
 behind_front-push front token None = refl
 behind_front-push front token (Some tokens) = ap (λ (all : List Token). Some all) (append_assoc front (token ∷ []) tokens)
 

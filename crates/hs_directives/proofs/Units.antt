@@ -2,7 +2,7 @@
 use Rattle.std.proofs.Common.{◌≡◌, ℕ, List, [], ◌∷◌, ◌++◌, map, zip, Option, Some, None, IfSome, Result, Ok, Err, IsErr, IsErrAnd, refl, sym, ap, subst, ◌∙◌, append_assoc, inl, inr}
 use Rattle.hs_base.specs.Files.{Listing, Counts, NeverFall}
 use Rattle.hs_directives.specs.Pieces.{pieces}
-use Rattle.hs_directives.specs.States.{and_then, found_file}
+use Rattle.hs_directives.specs.States.{Found, and_then, found_file}
 use Rattle.hs_directives.specs.Readings.{Agrees, listing_of, Grows, IsCaused, IsSought, Seeks, IsReading, found_of, unit_by, units_by, own_listing, AreListed, IsUnread, IsCausedBy, IsPreprocessed}
 use Rattle.hs_directives.specs.Preprocessing.{entered, walked, most_levels, fresh, unit_read, unit_of, UnitRead, Units, with_unit, units_of, start, source_of, source_by, preprocessed}
 use Rattle.hs_directives.specs.declared.source.Source.{Source}
@@ -17,10 +17,18 @@ use Rattle.hs_directives.specs.Outcomes.{IsRefusal}
 use Rattle.hs_directives.specs.declared.error.ReadError.{ReadError}
 use Rattle.hs_directives.specs.declared.error.ReadError.TheVariants.{Scan, Macro, BadDirective, OpenIf, IncludeDepth, BadCondition, Missing, ReadFault, Limit, NoMemory}
 
+-- a unit behind its root file
+abbrev pub unit_behind : UnitSoFar → Listing → Found → Result UnitRead ReadError
+unit_behind unit listing it =
+    and_then (walked (entered most_levels listing) None (pieces it.tokens) [] (record { progress = it.progress; unit = unit }))
+    (λ state. Ok (unit_read it.number state))
+
 -- a root file that was found and walked
-pub unit_reached : (told told' : Option Listing) (before mid now : Counts) (name : List ℕ) (progress progress' : Progress) (known : Known) (unit unit' : UnitSoFar) (state : State)
+pub unit_reached : (told told' : Option Listing) (before mid now : Counts) (name : List ℕ) (progress progress' : Progress) (known : Known)
+    (unit unit' : UnitSoFar) (state : State)
     → unit ≡ fresh → told' ≡ told → unit' ≡ state.unit
-    → NeverFall before mid → IsReading {A = Known} told before mid progress.files progress'.files (found_of progress') (λ listing. found_file listing name progress) (Ok known)
+    → NeverFall before mid
+    → IsReading {A = Known} told before mid progress.files progress'.files (found_of progress') (λ listing. found_file listing name progress) (Ok known)
     → NeverFall mid now
     → IsReading {A = Unit {0}} told' mid now progress'.files state.progress.files (λ _. state)
     (λ listing. walked (entered most_levels listing) None (pieces known.tokens) [] (record { progress = progress'; unit = unit })) (Ok tt)
@@ -29,9 +37,7 @@ pub unit_reached : (told told' : Option Listing) (before mid now : Counts) (name
 unit_reached told told' before mid now name progress progress' known unit unit' state new same put up found up' walk =
     let outcome : Listing → Result _ ReadError = λ listing. unit_of listing name progress in
     let first = reached_on {A = Known} told before before mid progress.files progress.files progress'.files outcome (found_of progress')
-    (λ listing. found_file listing name progress)
-    (λ listing it. and_then (walked (entered most_levels listing) None (pieces it.tokens) [] (record { progress = it.progress; unit = fresh })) (λ state'. Ok (unit_read it.number state')))
-    known (reached_none told before progress.files outcome) up found in
+    (λ listing. found_file listing name progress) (unit_behind fresh) known (reached_none told before progress.files outcome) up found in
     let walk' = subst (λ unit''. IsReading {A = Unit {0}} told mid now progress'.files state.progress.files (λ _. state)
     (λ listing. walked (entered most_levels listing) None (pieces known.tokens) [] (record { progress = progress'; unit = unit'' })) (Ok tt)) new
     (reading_told {A = Unit {0}} told' told mid now progress'.files state.progress.files (λ _. state)
@@ -44,6 +50,10 @@ unit_reached told told' before mid now name progress progress' known unit unit' 
 -- units, and later ones
 abbrev pub units_after : List TranslationUnit → Units → Units
 units_after units later = record { units = units ++ later.units; progress = later.progress }
+
+-- the units behind one
+abbrev pub units_behind : List (List ℕ) → List TranslationUnit → Listing → UnitRead → Result Units ReadError
+units_behind names units listing it = and_then (units_of listing names it.progress) (λ later. Ok (units_after (units ++ it.unit ∷ []) later))
 
 -- there are none so far
 pub units_first : (told : Option Listing) (counts : Counts) (files : List File) (names : List (List ℕ)) (progress : Progress)
@@ -59,7 +69,7 @@ units_first told counts files names progress =
 -- the next name's unit comes behind those so far
 pub units_next : (listing : Listing) (name : List ℕ) (names : List (List ℕ)) (progress : Progress) (units : List TranslationUnit)
     → and_then (units_of listing (name ∷ names) progress) (λ later. Ok (units_after units later))
-    ≡ and_then (unit_of listing name progress) (λ it. and_then (units_of listing names it.progress) (λ later. Ok (units_after (units ++ it.unit ∷ []) later)))
+    ≡ and_then (unit_of listing name progress) (units_behind names units listing)
 units_next listing name names progress units = by (unit_of listing name progress) where
   behind : (it : UnitRead) (outcome : Result Units ReadError)
       → and_then (and_then outcome (λ later. Ok (with_unit it.unit later))) (λ later. Ok (units_after units later))
@@ -69,8 +79,9 @@ units_next listing name names progress units = by (unit_of listing name progress
       ap (λ (all : List TranslationUnit). Ok (record { units = all; progress = later.progress })) (sym (append_assoc units (it.unit ∷ []) later.units))
 
   by : (outcome : Result UnitRead ReadError)
-      → and_then (and_then outcome (λ it. and_then (units_of listing names it.progress) (λ later. Ok (with_unit it.unit later)))) (λ later. Ok (units_after units later))
-      ≡ and_then outcome (λ it. and_then (units_of listing names it.progress) (λ later. Ok (units_after (units ++ it.unit ∷ []) later)))
+      → and_then (and_then outcome (λ it. and_then (units_of listing names it.progress) (λ later. Ok (with_unit it.unit later))))
+      (λ later. Ok (units_after units later))
+      ≡ and_then outcome (units_behind names units listing)
   by (Err error) = refl
   by (Ok it) = behind it (units_of listing names it.progress)
 
@@ -83,13 +94,18 @@ pub units_step : (told told' : Option Listing) (before mid now : Counts) (old : 
     → Reached told before now old progress'.files outcome (λ listing. and_then (units_of listing names progress') (λ later. Ok (units_after units' later)))
 units_step told told' before mid now old outcome name name' all names progress progress' unit units units' reached next named put same up reading =
     let next' = reached_as told before mid old progress.files outcome _
-    (λ listing. and_then (unit_of listing name progress) (λ it. and_then (units_of listing names it.progress) (λ later. Ok (units_after (units ++ it.unit ∷ []) later))))
-    reached (λ listing. ap (λ (all' : List (List ℕ)). and_then (units_of listing all' progress) (λ later. Ok (units_after units later))) next
+    (λ listing. and_then (unit_of listing name progress) (units_behind names units listing))
+    reached
+    (λ listing. ap (λ (all' : List (List ℕ)). and_then (units_of listing all' progress) (λ later. Ok (units_after units later))) next
     ∙ units_next listing name names progress units) in
-    let reading' = subst (λ name''. IsReading {A = TranslationUnit} told mid now progress.files progress'.files (unit_by progress') (λ listing. unit_of listing name'' progress) (Ok unit)) named
-    (reading_told {A = TranslationUnit} told' told mid now progress.files progress'.files (unit_by progress') (λ listing. unit_of listing name' progress) (Ok unit) same reading) in
-    rw put (reached_on {A = TranslationUnit} told before mid now old progress.files progress'.files outcome (unit_by progress') (λ listing. unit_of listing name progress)
-    (λ listing it. and_then (units_of listing names it.progress) (λ later. Ok (units_after (units ++ it.unit ∷ []) later))) unit next' up reading')
+    let reading' = subst
+    (λ name''. IsReading {A = TranslationUnit} told mid now progress.files progress'.files (unit_by progress')
+    (λ listing. unit_of listing name'' progress) (Ok unit))
+    named
+    (reading_told {A = TranslationUnit} told' told mid now progress.files progress'.files (unit_by progress')
+    (λ listing. unit_of listing name' progress) (Ok unit) same reading) in
+    rw put (reached_on {A = TranslationUnit} told before mid now old progress.files progress'.files outcome (unit_by progress')
+    (λ listing. unit_of listing name progress) (units_behind names units) unit next' up reading')
 
 -- files as a listing are their names with their texts
 zip_files : (files : List File) → zip (map (λ file. file.name) files) (map (λ file. file.text) files) ≡ listing_of files
@@ -104,7 +120,8 @@ told_files None names files source grows exact = tt
 told_files (Some listing) names files source grows exact = exact listing (grows.told_agrees listing refl tt)
 
 -- all units
-pub preprocessed_by : (told : Option Listing) (before now : Counts) (names : List (List ℕ)) (first progress : Progress) (units : List TranslationUnit) (source : Source)
+pub preprocessed_by : (told : Option Listing) (before now : Counts) (names : List (List ℕ)) (first progress : Progress) (units : List TranslationUnit)
+    (source : Source)
     → first ≡ start → Grows told first.files progress.files
     → ((listing : Listing) → Agrees listing progress.files → units_of listing names first ≡ Ok (units_by progress units))
     → source ≡ source_of (units_by progress units)
@@ -117,49 +134,59 @@ preprocessed_by told before now names first progress units source begun grows ex
   grows' = subst (λ first'. Grows told first'.files progress.files) begun grows
 
   whole : (listing : Listing) → Agrees listing progress.files → preprocessed listing names ≡ Ok source
-  whole listing agrees = ap source_by (subst (λ first'. units_of listing names first' ≡ Ok (units_by progress units)) begun (exact listing agrees)) ∙ ap (λ (source' : Source). Ok source') (sym made)
+  whole listing agrees =
+      ap source_by (subst (λ first'. units_of listing names first' ≡ Ok (units_by progress units)) begun (exact listing agrees))
+      ∙ ap (λ (source' : Source). Ok source') (sym made)
 
   own : own_listing source ≡ listing_of progress.files
   own = ap own_listing made ∙ zip_files progress.files
 
 -- a root file whose walk is refused
-pub unit_refused : (told told' : Option Listing) (before mid now : Counts) (name : List ℕ) (progress progress' : Progress) (known : Known) (unit : UnitSoFar) (state : State) (error : ReadError)
+pub unit_refused : (told told' : Option Listing) (before mid now : Counts) (name : List ℕ) (progress progress' : Progress) (known : Known)
+    (unit : UnitSoFar) (state : State) (error : ReadError)
     → unit ≡ fresh → told' ≡ told
-    → NeverFall before mid → IsReading {A = Known} told before mid progress.files progress'.files (found_of progress') (λ listing. found_file listing name progress) (Ok known)
+    → NeverFall before mid
+    → IsReading {A = Known} told before mid progress.files progress'.files (found_of progress') (λ listing. found_file listing name progress) (Ok known)
     → NeverFall mid now
     → IsReading {A = Unit {0}} told' mid now progress'.files state.progress.files (λ _. state)
     (λ listing. walked (entered most_levels listing) None (pieces known.tokens) [] (record { progress = progress'; unit = unit })) (Err error)
-    → IsReading {A = TranslationUnit} told before now progress.files state.progress.files (unit_by state.progress) (λ listing. unit_of listing name progress) (Err error)
+    → IsReading {A = TranslationUnit} told before now progress.files state.progress.files (unit_by state.progress)
+    (λ listing. unit_of listing name progress) (Err error)
 unit_refused told told' before mid now name progress progress' known unit state error new same up found up' walk =
     let outcome : Listing → Result UnitRead ReadError = λ listing. unit_of listing name progress in
     let first = reached_on {A = Known} told before before mid progress.files progress.files progress'.files outcome (found_of progress')
-    (λ listing. found_file listing name progress)
-    (λ listing it. and_then (walked (entered most_levels listing) None (pieces it.tokens) [] (record { progress = it.progress; unit = fresh })) (λ state'. Ok (unit_read it.number state')))
-    known (reached_none told before progress.files outcome) up found in
+    (λ listing. found_file listing name progress) (unit_behind fresh) known (reached_none told before progress.files outcome) up found in
     let walk' = subst (λ unit''. IsReading {A = Unit {0}} told mid now progress'.files state.progress.files (λ _. state)
     (λ listing. walked (entered most_levels listing) None (pieces known.tokens) [] (record { progress = progress'; unit = unit'' })) (Err error)) new
     (reading_told {A = Unit {0}} told' told mid now progress'.files state.progress.files (λ _. state)
     (λ listing. walked (entered most_levels listing) None (pieces known.tokens) [] (record { progress = progress'; unit = unit })) (Err error) same walk) in
-    refused_on {A = Unit {0}} {D = TranslationUnit} told before mid now progress.files progress'.files state.progress.files outcome (λ _. state) (unit_by state.progress)
+    refused_on {A = Unit {0}} {D = TranslationUnit} told before mid now progress.files progress'.files state.progress.files outcome (λ _. state)
+    (unit_by state.progress)
     (λ listing. walked (entered most_levels listing) None (pieces known.tokens) [] (record { progress = progress'; unit = fresh }))
     (λ listing state'. Ok (unit_read known.number state')) error first up' walk'
 
 -- a unit that is refused
-pub units_refused : {D : Type 0} (told told' : Option Listing) (before mid now : Counts) (old : List File) (outcome : Listing → Result Units ReadError) (view : D → Units)
-    (name name' : List ℕ) (all names : List (List ℕ)) (progress progress' : Progress) (units : List TranslationUnit) (error : ReadError)
+pub units_refused : {D : Type 0} (told told' : Option Listing) (before mid now : Counts) (old : List File)
+    (outcome : Listing → Result Units ReadError) (view : D → Units) (name name' : List ℕ) (all names : List (List ℕ)) (progress progress' : Progress)
+    (units : List TranslationUnit) (error : ReadError)
     → Reached told before mid old progress.files outcome (λ listing. and_then (units_of listing all progress) (λ later. Ok (units_after units later)))
     → all ≡ name ∷ names → name' ≡ name → told' ≡ told → NeverFall mid now
     → IsReading {A = TranslationUnit} told' mid now progress.files progress'.files (unit_by progress') (λ listing. unit_of listing name' progress) (Err error)
     → IsReading told before now old progress'.files view outcome (Err error)
 units_refused told told' before mid now old outcome view name name' all names progress progress' units error reached next named same up reading =
     let next' = reached_as told before mid old progress.files outcome _
-    (λ listing. and_then (unit_of listing name progress) (λ it. and_then (units_of listing names it.progress) (λ later. Ok (units_after (units ++ it.unit ∷ []) later))))
-    reached (λ listing. ap (λ (all' : List (List ℕ)). and_then (units_of listing all' progress) (λ later. Ok (units_after units later))) next
+    (λ listing. and_then (unit_of listing name progress) (units_behind names units listing))
+    reached
+    (λ listing. ap (λ (all' : List (List ℕ)). and_then (units_of listing all' progress) (λ later. Ok (units_after units later))) next
     ∙ units_next listing name names progress units) in
-    let reading' = subst (λ name''. IsReading {A = TranslationUnit} told mid now progress.files progress'.files (unit_by progress') (λ listing. unit_of listing name'' progress) (Err error)) named
-    (reading_told {A = TranslationUnit} told' told mid now progress.files progress'.files (unit_by progress') (λ listing. unit_of listing name' progress) (Err error) same reading) in
-    refused_on {A = TranslationUnit} told before mid now old progress.files progress'.files outcome (unit_by progress') view (λ listing. unit_of listing name progress)
-    (λ listing it. and_then (units_of listing names it.progress) (λ later. Ok (units_after (units ++ it.unit ∷ []) later))) error next' up reading'
+    let reading' = subst
+    (λ name''. IsReading {A = TranslationUnit} told mid now progress.files progress'.files (unit_by progress')
+    (λ listing. unit_of listing name'' progress) (Err error))
+    named
+    (reading_told {A = TranslationUnit} told' told mid now progress.files progress'.files (unit_by progress')
+    (λ listing. unit_of listing name' progress) (Err error) same reading) in
+    refused_on {A = TranslationUnit} told before mid now old progress.files progress'.files outcome (unit_by progress') view
+    (λ listing. unit_of listing name progress) (units_behind names units) error next' up reading'
 
 -- files with which a listing agrees are listed
 are_listed : (listing : Listing) (files : List File) → Agrees listing files → AreListed listing (listing_of files)
@@ -202,7 +229,8 @@ refused_by (Some listing) before now names files view error reading =
       refusal (inl want) = inl want
       refusal (inr refused) = inr (ap source_by refused)
 
-pub preprocessed_refused : (told : Option Listing) (before now : Counts) (names : List (List ℕ)) (first progress : Progress) (result : Result Source ReadError) (error : ReadError)
+pub preprocessed_refused : (told : Option Listing) (before now : Counts) (names : List (List ℕ)) (first progress : Progress)
+    (result : Result Source ReadError) (error : ReadError)
     → first ≡ start → IsErr result × IsErrAnd result (λ error'. error' ≡ error)
     → IsReading {A = List TranslationUnit} told before now first.files progress.files (units_by progress) (λ listing. units_of listing names first) (Err error)
     → IsPreprocessed told before now names result
@@ -210,4 +238,5 @@ preprocessed_refused told before now names first progress (Ok source) error begu
 preprocessed_refused told before now names first progress (Err error') error begun is reading =
     subst (λ error''. IsPreprocessed told before now names (Err error'')) (sym is.1)
     (refused_by told before now names progress.files (units_by progress) error
-    (subst (λ first'. IsReading {A = List TranslationUnit} told before now first'.files progress.files (units_by progress) (λ listing. units_of listing names first') (Err error)) begun reading))
+    (subst (λ first'. IsReading {A = List TranslationUnit} told before now first'.files progress.files (units_by progress)
+    (λ listing. units_of listing names first') (Err error)) begun reading))

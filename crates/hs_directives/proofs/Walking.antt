@@ -118,8 +118,10 @@ seeks_on : {C B : Type 0} (told : Option Listing) (before mid : Counts) (old bet
     (first : Listing → Result C ReadError) (next : Listing → C → Result B ReadError) (error : ReadError)
     → Reached told before mid old between outcome (λ listing. and_then (first listing) (next listing))
     → Seeks told between new first error → Seeks told old new outcome error
-seeks_on told before mid old between new outcome first next (Missing name) reached seeks = sought_on told before mid old between new outcome first next name reached seeks
-seeks_on told before mid old between new outcome first next (ReadFault name) reached seeks = sought_on told before mid old between new outcome first next name reached seeks
+seeks_on told before mid old between new outcome first next (Missing name) reached seeks =
+    sought_on told before mid old between new outcome first next name reached seeks
+seeks_on told before mid old between new outcome first next (ReadFault name) reached seeks =
+    sought_on told before mid old between new outcome first next name reached seeks
 seeks_on told before mid old between new outcome first next (Scan kind pos) reached seeks = tt
 seeks_on told before mid old between new outcome first next (Macro kind pos) reached seeks = tt
 seeks_on told before mid old between new outcome first next (BadDirective pos) reached seeks = tt
@@ -131,7 +133,8 @@ seeks_on told before mid old between new outcome first next NoMemory reached see
 
 -- one that is refused
 pub refused_on : {A C B D : Type 0} (told : Option Listing) (before mid now : Counts) (old between new : List File)
-    (outcome : Listing → Result B ReadError) (view : A → C) (view' : D → B) (first : Listing → Result C ReadError) (next : Listing → C → Result B ReadError) (error : ReadError)
+    (outcome : Listing → Result B ReadError) (view : A → C) (view' : D → B) (first : Listing → Result C ReadError)
+    (next : Listing → C → Result B ReadError) (error : ReadError)
     → Reached told before mid old between outcome (λ listing. and_then (first listing) (next listing)) → NeverFall mid now
     → IsReading told mid now between new view first (Err error)
     → IsReading told before now old new view' outcome (Err error)
@@ -140,15 +143,18 @@ refused_on told before mid now old between new outcome view view' first next err
   seeks_on told before mid old between new outcome first next error reached reading.1,
   λ listing is steady agrees.
       let agrees' = reached.grows.told_agrees listing is agrees in
-      refusal listing (reached.same listing agrees') (reading.2 listing is (steady_later before.faults mid.faults now.faults reached.never_fall.faults up.faults steady) agrees'),
+      refusal listing (reached.same listing agrees')
+      (reading.2 listing is (steady_later before.faults mid.faults now.faults reached.never_fall.faults up.faults steady) agrees'),
 ) where
-  refusal : (listing : Listing) → outcome listing ≡ and_then (first listing) (next listing) → IsRefusal (first listing) error → IsRefusal (outcome listing) error
+  refusal : (listing : Listing) → outcome listing ≡ and_then (first listing) (next listing) → IsRefusal (first listing) error
+      → IsRefusal (outcome listing) error
   refusal listing is (inl want) = inl want
   refusal listing is (inr refused) = inr (is ∙ ap (λ done. and_then done (next listing)) refused)
 
 -- a step that reads none is refused
 pub refused_given : {A C B D : Type 0} (told : Option Listing) (before now : Counts) (old new new' : List File)
-    (outcome : Listing → Result B ReadError) (view : A → C) (view' : D → B) (first : Listing → Result C ReadError) (next : Listing → C → Result B ReadError) (error : ReadError)
+    (outcome : Listing → Result B ReadError) (view : A → C) (view' : D → B) (first : Listing → Result C ReadError)
+    (next : Listing → C → Result B ReadError) (error : ReadError)
     → Reached told before now old new outcome (λ listing. and_then (first listing) (next listing))
     → ReadsNone error → ((listing : Listing) → IsRefusal (first listing) error)
     → IsReading told before now old new' view' outcome (Err error)
@@ -157,7 +163,8 @@ refused_given told before now old new new' outcome view view' first next error r
   seeks_none told old new' outcome error none,
   λ listing is steady agrees. refusal listing (reached.same listing (reached.grows.told_agrees listing is agrees)) (gives listing),
 ) where
-  refusal : (listing : Listing) → outcome listing ≡ and_then (first listing) (next listing) → IsRefusal (first listing) error → IsRefusal (outcome listing) error
+  refusal : (listing : Listing) → outcome listing ≡ and_then (first listing) (next listing) → IsRefusal (first listing) error
+      → IsRefusal (outcome listing) error
   refusal listing is (inl want) = inl want
   refusal listing is (inr refused) = inr (is ∙ ap (λ done. and_then done (next listing)) refused)
 
@@ -174,8 +181,10 @@ with_sections_then sections (Ok state) next = refl
 with_sections_then sections (Err error) next = refl
 
 -- a piece, and those behind it
-pub walked_piece : (enter : Option Pos → Token → List ℕ → State → Result State ReadError) (outer : Option Pos) (piece : Piece) (rest : List Piece) (sections : List Section) (state : State)
-    → walked enter outer (piece ∷ rest) sections state ≡ and_then (piece_outcome enter outer piece sections state) (λ turn. walked enter outer rest turn.sections turn.state)
+pub walked_piece : (enter : Option Pos → Token → List ℕ → State → Result State ReadError) (outer : Option Pos) (piece : Piece) (rest : List Piece)
+    (sections : List Section) (state : State)
+    → walked enter outer (piece ∷ rest) sections state
+    ≡ and_then (piece_outcome enter outer piece sections state) (λ turn. walked enter outer rest turn.sections turn.state)
 walked_piece enter outer (run tokens) rest sections state =
     sym (with_sections_then sections (run_done enter tokens sections state) (λ turn. walked enter outer rest turn.sections turn.state))
 walked_piece enter outer (directive hash line) rest sections state = refl
@@ -183,18 +192,23 @@ walked_piece enter outer (directive hash line) rest sections state = refl
 -- a file that is entered
 entered_named : (levels : ℕ) (listing : Listing) (outer : Option Pos) (hash : Token) (state : State) (named : Result Named ReadError)
     → include_named (entered levels listing) outer hash state named
-    ≡ and_then (entry_by levels listing hash state named) (λ it. walked (entered (levels - 1) listing) (Some (place_of outer hash.pos)) (pieces it.tokens) [] it.state)
+    ≡ and_then (entry_by levels listing hash state named)
+    (λ it. walked (entered (levels - 1) listing) (Some (place_of outer hash.pos)) (pieces it.tokens) [] it.state)
 entered_named levels listing outer hash state (Err error) = refl
 entered_named zero listing outer hash state (Ok it) = refl
-entered_named (suc levels) listing outer hash state (Ok it) = simp unary_clauses (by (with_left state it.left) (found_file listing it.name (with_left state it.left).progress)) where
-  by : (state' : State) (found : Result Found ReadError)
-      → and_then found (λ file. walked (entered levels listing) (Some (place_of outer hash.pos)) (pieces file.tokens) [] (record state' { progress = included_file file }))
-      ≡ and_then (and_then found (λ file. Ok (entry_of state' file))) (λ it'. walked (entered levels listing) (Some (place_of outer hash.pos)) (pieces it'.tokens) [] it'.state)
-  by state' (Ok file) = refl
-  by state' (Err error) = refl
+entered_named (suc levels) listing outer hash state (Ok it) =
+    simp unary_clauses (by (with_left state it.left) (found_file listing it.name (with_left state it.left).progress)) where
+      by : (state' : State) (found : Result Found ReadError)
+          → and_then found
+          (λ file. walked (entered levels listing) (Some (place_of outer hash.pos)) (pieces file.tokens) [] (record state' { progress = included_file file }))
+          ≡ and_then (and_then found (λ file. Ok (entry_of state' file)))
+          (λ it'. walked (entered levels listing) (Some (place_of outer hash.pos)) (pieces it'.tokens) [] it'.state)
+      by state' (Ok file) = refl
+      by state' (Err error) = refl
 
 -- an `#include` that is reached, and what stands behind it
-pub walked_inclusion : (levels : ℕ) (listing : Listing) (outer : Option Pos) (hash : Token) (line : List Token) (rest : List Piece) (sections : List Section) (state : State)
+pub walked_inclusion : (levels : ℕ) (listing : Listing) (outer : Option Pos) (hash : Token) (line : List Token) (rest : List Piece)
+    (sections : List Section) (state : State)
     → keyword_of line ≡ Include → is_active sections ≡ true
     → walked (entered levels listing) outer (directive hash line ∷ rest) sections state
     ≡ and_then (entry levels listing hash (drop 1 line) state) (λ it.
@@ -203,9 +217,14 @@ pub walked_inclusion : (levels : ℕ) (listing : Listing) (outer : Option Pos) (
 walked_inclusion levels listing outer hash line rest sections state word active =
     ap (λ (keyword : Keyword). and_then (directive_done (entered levels listing) outer keyword hash (drop 1 line) sections state)
     (λ turn. walked (entered levels listing) outer rest turn.sections turn.state)) word
-    ∙ ap (λ (active' : Bool). and_then (if active' then with_sections sections (reached_done (entered levels listing) outer Include hash (drop 1 line) state) else Ok (record { sections = sections; state = state }))
+    ∙ ap (λ (active' : Bool).
+    and_then
+    (if active'
+    then with_sections sections (reached_done (entered levels listing) outer Include hash (drop 1 line) state)
+    else Ok (record { sections = sections; state = state }))
     (λ turn. walked (entered levels listing) outer rest turn.sections turn.state)) active
-    ∙ with_sections_then sections (reached_done (entered levels listing) outer Include hash (drop 1 line) state) (λ turn. walked (entered levels listing) outer rest turn.sections turn.state)
+    ∙ with_sections_then sections (reached_done (entered levels listing) outer Include hash (drop 1 line) state)
+    (λ turn. walked (entered levels listing) outer rest turn.sections turn.state)
     ∙ ap (λ done. and_then done (λ state'. walked (entered levels listing) outer rest sections state'))
     (entered_named levels listing outer hash state (include_name state.unit.macros state.progress.left hash.pos (drop 1 line)))
     ∙ and_then_on (entry levels listing hash (drop 1 line) state)
@@ -213,7 +232,8 @@ walked_inclusion levels listing outer hash line rest sections state word active 
     (λ state'. walked (entered levels listing) outer rest sections state')
 
 -- the same of a part that includes a file
-inclusion_is : (levels : ℕ) (listing : Listing) (outer : Option Pos) (part : Part) (it : Bor Token × Bor (List Token)) (rest : List Piece) (sections : List Section) (state : State)
+inclusion_is : (levels : ℕ) (listing : Listing) (outer : Option Pos) (part : Part) (it : Bor Token × Bor (List Token)) (rest : List Piece)
+    (sections : List Section) (state : State)
     → IsInclusionOf part sections (Some it)
     → walked (entered levels listing) outer (piece_of part ∷ rest) sections state
     ≡ and_then (entry levels listing it.0.now it.1.now state) (λ entered'.
@@ -256,7 +276,8 @@ walk_of levels outer tokens sections state listing = walked (entered levels list
 pub walk_piece : (told : Option Listing) (before now : Counts) (old new new' : List File) (outcome : Listing → Result State ReadError)
     (levels : ℕ) (outer : Option Pos) (part : Part) (rest behind : List Token) (sections sections' : List Section) (state state' : State)
     → Reached told before now old new outcome (walk_of levels outer rest sections state) → pieces rest ≡ piece_of part ∷ pieces behind → new' ≡ new
-    → ((enter : Option Pos → Token → List ℕ → State → Result State ReadError) → piece_outcome enter outer (piece_of part) sections state ≡ Ok (turn_of sections' state'))
+    → ((enter : Option Pos → Token → List ℕ → State → Result State ReadError)
+    → piece_outcome enter outer (piece_of part) sections state ≡ Ok (turn_of sections' state'))
     → Reached told before now old new' outcome (walk_of levels outer behind sections' state')
 walk_piece told before now old new new' outcome levels outer part rest behind sections sections' state state' reached first stay gives =
     let on = reached_piece told before now old new outcome levels outer part rest behind sections state reached first in
@@ -264,14 +285,16 @@ walk_piece told before now old new new' outcome levels outer part rest behind se
       grows = on.grows;
       never_fall = on.never_fall;
       same = λ listing agrees. on.same listing agrees
-          ∙ ap (λ done. and_then done (λ turn. walked (entered levels listing) outer (pieces behind) turn.sections turn.state)) (gives (entered levels listing));
+          ∙ ap (λ done. and_then done (λ turn. walked (entered levels listing) outer (pieces behind) turn.sections turn.state))
+          (gives (entered levels listing));
     })
 
 -- or refused
 pub walk_piece_refused : (told : Option Listing) (before now : Counts) (old new new' : List File) (outcome : Listing → Result State ReadError) (last : State)
     (levels : ℕ) (outer : Option Pos) (part : Part) (rest behind : List Token) (sections : List Section) (state : State) (error : ReadError)
     → Reached told before now old new outcome (walk_of levels outer rest sections state) → pieces rest ≡ piece_of part ∷ pieces behind
-    → ((enter : Option Pos → Token → List ℕ → State → Result State ReadError) → IsRefusal (piece_outcome enter outer (piece_of part) sections state) error × ReadsNone error)
+    → ((enter : Option Pos → Token → List ℕ → State → Result State ReadError)
+    → IsRefusal (piece_outcome enter outer (piece_of part) sections state) error × ReadsNone error)
     → IsReading {A = Unit {0}} told before now old new' (λ _. last) outcome (Err error)
 walk_piece_refused told before now old new new' outcome last levels outer part rest behind sections state error reached first gives =
     refused_given {A = Unit {0}} {D = Unit {0}} told before now old new new' outcome (λ _. turn_of sections state) (λ _. last)
@@ -281,8 +304,9 @@ walk_piece_refused told before now old new new' outcome last levels outer part r
     (gives (entered 0 [])).1 (λ listing. (gives (entered levels listing)).0)
 
 -- an included file is not there
-pub walk_entry_refused : (told : Option Listing) (before mid now : Counts) (old new new' : List File) (outcome : Listing → Result State ReadError) (last : State)
-    (levels : ℕ) (outer : Option Pos) (part : Part) (it : Bor Token × Bor (List Token)) (rest behind : List Token) (sections : List Section) (state : State) (error : ReadError)
+pub walk_entry_refused : (told : Option Listing) (before mid now : Counts) (old new new' : List File) (outcome : Listing → Result State ReadError)
+    (last : State) (levels : ℕ) (outer : Option Pos) (part : Part) (it : Bor Token × Bor (List Token)) (rest behind : List Token)
+    (sections : List Section) (state : State) (error : ReadError)
     → Reached told before mid old new outcome (walk_of levels outer rest sections state) → pieces rest ≡ piece_of part ∷ pieces behind
     → IsInclusionOf part sections (Some it) → NeverFall mid now
     → IsReading {A = List Token} told mid now new new' (entered_by last) (λ listing. entry levels listing it.0.now it.1.now state) (Err error)
@@ -294,7 +318,8 @@ walk_entry_refused told before mid now old new new' outcome last levels outer pa
 
 -- it is there
 pub walk_entry : (told : Option Listing) (before mid now : Counts) (old new new' : List File) (outcome : Listing → Result State ReadError)
-    (levels : ℕ) (outer : Option Pos) (part : Part) (it : Bor Token × Bor (List Token)) (rest behind : List Token) (sections : List Section) (state state' : State) (tokens : List Token) (place : Pos)
+    (levels : ℕ) (outer : Option Pos) (part : Part) (it : Bor Token × Bor (List Token)) (rest behind : List Token) (sections : List Section)
+    (state state' : State) (tokens : List Token) (place : Pos)
     → Reached told before mid old new outcome (walk_of levels outer rest sections state) → pieces rest ≡ piece_of part ∷ pieces behind
     → IsInclusionOf part sections (Some it) → NeverFall mid now → place ≡ place_of outer it.0.now.pos
     → IsReading {A = List Token} told mid now new new' (entered_by state') (λ listing. entry levels listing it.0.now it.1.now state) (Ok tokens)
@@ -303,13 +328,16 @@ pub walk_entry : (told : Option Listing) (before mid now : Counts) (old new new'
 walk_entry told before mid now old new new' outcome levels outer part it rest behind sections state state' tokens place reached first is up there reading =
     rw there (reached_on {A = List Token} told before mid now old new new' outcome (entered_by state')
     (λ listing. entry levels listing it.0.now it.1.now state)
-    (λ listing entered'. and_then (walk_of (levels - 1) (Some (place_of outer it.0.now.pos)) entered'.tokens [] entered'.state listing) (λ state''. walk_of levels outer behind sections state'' listing)) tokens
+    (λ listing entered'. and_then (walk_of (levels - 1) (Some (place_of outer it.0.now.pos)) entered'.tokens [] entered'.state listing)
+    (λ state''. walk_of levels outer behind sections state'' listing)) tokens
     (reached_inclusion told before mid old new outcome levels outer part it rest behind sections state reached first is) up reading)
 
 -- and refused
-pub walk_inner_refused : (told : Option Listing) (before mid now : Counts) (old new new' : List File) (outcome : Listing → Result State ReadError) (last : State)
-    (inner : Listing → Result State ReadError) (levels : ℕ) (outer : Option Pos) (behind : List Token) (sections : List Section) (error : ReadError)
-    → Reached told before mid old new outcome (λ listing. and_then (inner listing) (λ state. walk_of levels outer behind sections state listing)) → NeverFall mid now
+pub walk_inner_refused : (told : Option Listing) (before mid now : Counts) (old new new' : List File) (outcome : Listing → Result State ReadError)
+    (last : State) (inner : Listing → Result State ReadError) (levels : ℕ) (outer : Option Pos) (behind : List Token) (sections : List Section)
+    (error : ReadError)
+    → Reached told before mid old new outcome (λ listing. and_then (inner listing) (λ state. walk_of levels outer behind sections state listing))
+    → NeverFall mid now
     → IsReading {A = Unit {0}} told mid now new new' (λ _. last) inner (Err error)
     → IsReading {A = Unit {0}} told before now old new' (λ _. last) outcome (Err error)
 walk_inner_refused told before mid now old new new' outcome last inner levels outer behind sections error reached up reading =
@@ -319,7 +347,8 @@ walk_inner_refused told before mid now old new new' outcome last inner levels ou
 -- or walked
 pub walk_inner : (told : Option Listing) (before mid now : Counts) (old new new' : List File) (outcome : Listing → Result State ReadError) (last : State)
     (inner : Listing → Result State ReadError) (levels : ℕ) (outer : Option Pos) (behind : List Token) (sections : List Section)
-    → Reached told before mid old new outcome (λ listing. and_then (inner listing) (λ state. walk_of levels outer behind sections state listing)) → NeverFall mid now
+    → Reached told before mid old new outcome (λ listing. and_then (inner listing) (λ state. walk_of levels outer behind sections state listing))
+    → NeverFall mid now
     → IsReading {A = Unit {0}} told mid now new new' (λ _. last) inner (Ok tt)
     → Reached told before now old new' outcome (walk_of levels outer behind sections last)
 walk_inner told before mid now old new new' outcome last inner levels outer behind sections reached up reading =
@@ -327,7 +356,8 @@ walk_inner told before mid now old new new' outcome last inner levels outer behi
     (λ listing state. walk_of levels outer behind sections state listing) tt reached up reading
 
 -- of the same listing
-pub reading_told : {A B : Type 0} (told told' : Option Listing) (before now : Counts) (old new : List File) (view : A → B) (outcome : Listing → Result B ReadError) (result : Result A ReadError)
+pub reading_told : {A B : Type 0} (told told' : Option Listing) (before now : Counts) (old new : List File) (view : A → B)
+    (outcome : Listing → Result B ReadError) (result : Result A ReadError)
     → told ≡ told' → IsReading told before now old new view outcome result → IsReading told' before now old new view outcome result
 reading_told told told' before now old new view outcome result same reading =
     subst (λ told''. IsReading told'' before now old new view outcome result) same reading

@@ -69,7 +69,8 @@ Seeks told old new outcome _ = Unit {0}
 
 -- A result that was returned, of a definition over listings: it is that of any listing that has the files that were read. A
 -- refusal is that of the listing that is told, where no fault was counted.
-abbrev pub IsReading : {A B : Type 0} → Option Listing → Counts → Counts → List File → List File → (A → B) → (Listing → Result B ReadError) → Result A ReadError → Type 0
+abbrev pub IsReading : {A B : Type 0} → Option Listing → Counts → Counts → List File → List File → (A → B) → (Listing → Result B ReadError)
+    → Result A ReadError → Type 0
 IsReading told before now old new view outcome (Ok value) =
     Grows told old new × ((listing : Listing) → Agrees listing new → outcome listing ≡ Ok (view value))
 IsReading told before now old new view outcome (Err error) =

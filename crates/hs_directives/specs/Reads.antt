@@ -46,7 +46,8 @@ Leads leads first [] final = final ≡ first
 Leads leads first (name ∷ names) final = (next : _) × leads first name (number_of FileBytes) next × Leads leads next names final
 
 -- the reads that led from the first files to the last: of all that was sought, or up to a refusal
-abbrev pub ReadsInTurn : {F A B : Type 0} → (F → List ℕ → ℕ → F → Type 0) → Option Listing → F → F → List File → List File → (Listing → Result B ReadError) → Result A ReadError → Type 0
+abbrev pub ReadsInTurn : {F A B : Type 0} → (F → List ℕ → ℕ → F → Type 0) → Option Listing → F → F → List File → List File
+    → (Listing → Result B ReadError) → Result A ReadError → Type 0
 ReadsInTurn leads told first final old new outcome (Ok value) =
     (names : List (List ℕ)) × Leads leads first names final × AreReads told outcome (listing_of old) names (listing_of new)
 ReadsInTurn leads told first final old new outcome (Err error) =
@@ -62,7 +63,8 @@ AreItsNames (Ok source) reads = reads ≡ source.names
 AreItsNames (Err error) reads = Unit {0}
 
 -- each file was read once, in the order of first reads, and no other was
-pub record IsReadThrough {F : Type 0} (leads : F → List ℕ → ℕ → F → Type 0) (told : Option Listing) (first last : F) (names : List (List ℕ)) (result : Result Source ReadError) : Type 0 where
+pub record IsReadThrough {F : Type 0} (leads : F → List ℕ → ℕ → F → Type 0) (told : Option Listing) (first last : F) (names : List (List ℕ))
+    (result : Result Source ReadError) : Type 0 where
   pub reads : List (List ℕ)
   pub leads_on : Leads leads first reads last
   pub in_turn : AreFirstReads told names reads

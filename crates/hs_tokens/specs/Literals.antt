@@ -28,7 +28,8 @@ content_len quote bytes = content_len_after false quote bytes
 -- \' \" \? \\ \a \b \f \n \r \t \v
 abbrev pub is_simple_escape : ℕ → Bool
 is_simple_escape byte =
-    (byte == 39) || (byte == 34) || (byte == 63) || (byte == 92) || (byte == 97) || (byte == 98) || (byte == 102) || (byte == 110) || (byte == 114) || (byte == 116) || (byte == 118)
+    (byte == 39) || (byte == 34) || (byte == 63) || (byte == 92) || (byte == 97) || (byte == 98)
+    || (byte == 102) || (byte == 110) || (byte == 114) || (byte == 116) || (byte == 118)
 
 -- the value of octal digits, and of hexadecimal ones, behind digits of that value
 abbrev pub octal_value : ℕ → List ℕ → ℕ
@@ -54,7 +55,10 @@ octal_escape bytes = byte_escape (prefix_len is_octal (take 3 bytes)) (octal_val
 
 -- hexadecimal digits, behind the x, at least one
 abbrev pub hex_escape : List ℕ → Option ℕ
-hex_escape bytes = if prefix_len is_hex bytes == 0 then None else one_more (byte_escape (prefix_len is_hex bytes) (hex_value 0 (take (prefix_len is_hex bytes) bytes)))
+hex_escape bytes =
+    if prefix_len is_hex bytes == 0
+    then None
+    else one_more (byte_escape (prefix_len is_hex bytes) (hex_value 0 (take (prefix_len is_hex bytes) bytes)))
 
 -- how many bytes an escape has behind its backslash, or nothing where it is none
 abbrev pub escape_len : List ℕ → Option ℕ

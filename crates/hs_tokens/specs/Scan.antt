@@ -24,7 +24,13 @@ with_token first scan = record { tokens = first ∷ scan.tokens; refusal = scan.
 
 -- the token of so many bytes at the front
 abbrev pub token_at : TokenKind → ℕ → List Placed → Bool → Bool → Token
-token_at kind len bytes first spaced = record { kind = kind; text = bytes_of (take len bytes); pos = place_of (record { file = 0; line = 0; col = 0 }) bytes; first = first; spaced = spaced }
+token_at kind len bytes first spaced = record {
+  kind = kind;
+  text = bytes_of (take len bytes);
+  pos = place_of (record { file = 0; line = 0; col = 0 }) bytes;
+  first = first;
+  spaced = spaced;
+}
 
 -- `first`: no token stands before on the line. `spaced`: white space stands directly before.
 abbrev pub scan_part : Bool → Bool → List Placed → Form → (Bool → Bool → Scan) → Scan

@@ -17,19 +17,30 @@ returns-then-levels-eq0-clause-reads g c = ([], refl, AreBegun.none (listing_of 
 -- the file is not there
 pub returns-in_err-known-clause-reads : goal.returns-in_err-known-clause-reads
 returns-in_err-known-clause-reads g c =
-    read_refused_on (entry_step g.F.Files.leads_to (g.F.Files.listing c.args.files.now) c.args.files.now c.args.levels c.args.hash.now c.args.line.now c.args.state.now
-    (named_of c.in_ok-named.named) c.as_str.result.now c.in_ok-named.ensures c.as_str.ensures.value c.if-levels-eq0.false) refl c.found_file.new.files
-    c.found_file.new.progress.files c.in_err-known.field-0.0 c.from_residual-in_err-known.result c.from_residual-in_err-known.ensures.0 c.in_err-known.ensures.reads
+    read_refused_on
+    (entry_step g.F.Files.leads_to (g.F.Files.listing c.args.files.now) c.args.files.now c.args.levels c.args.hash.now
+    c.args.line.now c.args.state.now (named_of c.in_ok-named.named) c.as_str.result.now c.in_ok-named.ensures
+    c.as_str.ensures.value c.if-levels-eq0.false)
+    refl c.found_file.new.files c.found_file.new.progress.files c.in_err-known.field-0.0 c.from_residual-in_err-known.result
+    c.from_residual-in_err-known.ensures.0 c.in_err-known.ensures.reads
 
 -- it is there, and memory is refused or not
 pub returns-in_err-insert-clause-reads : goal.returns-in_err-insert-clause-reads
 returns-in_err-insert-clause-reads g c =
-    read_returned (read_on (entry_step g.F.Files.leads_to (g.F.Files.listing c.args.files.now) c.args.files.now c.args.levels c.args.hash.now c.args.line.now c.args.state.now
-    (named_of c.in_ok-named.named) c.as_str.result.now c.in_ok-named.ensures c.as_str.ensures.value c.if-levels-eq0.false) refl c.found_file.new.files
-    c.found_file.new.progress.files c.in_ok-known.ensures.reads) c.from_residual-in_err-insert.result
+    read_returned
+    (read_on
+    (entry_step g.F.Files.leads_to (g.F.Files.listing c.args.files.now) c.args.files.now c.args.levels c.args.hash.now
+    c.args.line.now c.args.state.now (named_of c.in_ok-named.named) c.as_str.result.now c.in_ok-named.ensures
+    c.as_str.ensures.value c.if-levels-eq0.false)
+    refl c.found_file.new.files c.found_file.new.progress.files c.in_ok-known.ensures.reads)
+    c.from_residual-in_err-insert.result
 
 pub returns-clause-reads : goal.returns-clause-reads
 returns-clause-reads g c =
-    read_returned (read_on (entry_step g.F.Files.leads_to (g.F.Files.listing c.args.files.now) c.args.files.now c.args.levels c.args.hash.now c.args.line.now c.args.state.now
-    (named_of c.in_ok-named.named) c.as_str.result.now c.in_ok-named.ensures c.as_str.ensures.value c.if-levels-eq0.false) refl c.found_file.new.files
-    c.found_file.new.progress.files c.in_ok-known.ensures.reads) (Ok c.in_ok-known.known.tokens)
+    read_returned
+    (read_on
+    (entry_step g.F.Files.leads_to (g.F.Files.listing c.args.files.now) c.args.files.now c.args.levels c.args.hash.now
+    c.args.line.now c.args.state.now (named_of c.in_ok-named.named) c.as_str.result.now c.in_ok-named.ensures
+    c.as_str.ensures.value c.if-levels-eq0.false)
+    refl c.found_file.new.files c.found_file.new.progress.files c.in_ok-known.ensures.reads)
+    (Ok c.in_ok-known.known.tokens)

@@ -1,19 +1,23 @@
 use Rattle.std.proofs.Common.{◌≡◌, Some, [], refl, arith, subst, IfSome}
+use Rattle.std.proofs.lemmas.Slice.Eq.{bytes_eq-Decides}
 use Rattle.hs_base.specs.Files.{file_of}
 use Rattle.hs_directives.specs.Readings.{found_of, listing_of}
 use Rattle.hs_directives.specs.Reads.{AreReads, AreBegun}
 use Rattle.hs_directives.specs.States.{found_file}
 use Rattle.hs_directives.proofs.InTurn.{read_none, read_returned, found_read, found_begun}
-use Rattle.hs_directives.proofs.Reading.{found_scanned, found_unread, handed_on, bytes_eq-same}
+use Rattle.hs_directives.proofs.Reading.{found_scanned, found_unread, handed_on}
 use Rattle.hs_directives.proofs.found.found_file.Goals as goal
 
 -- the file was read now
 pub returns-clause-means : goal.returns-clause-means
 returns-clause-means g c =
-    found_scanned (g.F.Files.listing c.args.files.now) (g.F.Files.counts c.args.files.now) (g.F.Files.counts c.text_of.new.files) c.args.name.now
-    c.in_ok-text.text.items c.args.progress.now c.scanned_file.new.progress c.scanned_file.result
-    (cc (c.in_default.is, c.in_ok-known.ensures, c.as_bytes.ensures.value)) (grind (arith, c.len.ensures.len, c.if-len-ge256.false)) (grind (arith, c.in_ok-text.ensures.means.0)) (bytes_eq-same c.args.name.now)
-    (λ listing told. subst (λ files. IfSome files (λ listing'. file_of listing' c.args.name.now ≡ Some c.in_ok-text.text.items)) told c.in_ok-text.ensures.means.1) c.scanned_file.ensures
+    found_scanned (g.F.Files.listing c.args.files.now) (g.F.Files.counts c.args.files.now) (g.F.Files.counts c.text_of.new.files)
+    c.args.name.now c.in_ok-text.text.items c.args.progress.now c.scanned_file.new.progress c.scanned_file.result
+    (cc (c.in_default.is, c.in_ok-known.ensures, c.as_bytes.ensures.value)) (grind (arith, c.len.ensures.len, c.if-len-ge256.false))
+    (grind (arith, c.in_ok-text.ensures.means.0)) ((bytes_eq-Decides c.args.name.now c.args.name.now).1 refl)
+    (λ listing told. subst (λ files. IfSome files (λ listing'. file_of listing' c.args.name.now ≡ Some c.in_ok-text.text.items))
+    told c.in_ok-text.ensures.means.1)
+    c.scanned_file.ensures
 
 -- it was not read
 pub returns-in_err-text-clause-means : goal.returns-in_err-text-clause-means

@@ -29,8 +29,11 @@ returns-in_err-walk-clause-means g c =
 -- the reads of a root file that is not there
 pub returns-in_err-known-clause-reads : goal.returns-in_err-known-clause-reads
 returns-in_err-known-clause-reads g c =
-    read_refused_on (unit_file_step g.F.Files.leads_to (g.F.Files.listing c.args.files.now) c.args.files.now c.args.name.now c.args.state.now.progress) refl c.found_file.new.files
-    c.found_file.new.progress.files c.in_err-known.field-0.0 c.from_residual.result c.from_residual.ensures.0 c.in_err-known.ensures.reads
+    read_refused_on
+    (unit_file_step g.F.Files.leads_to (g.F.Files.listing c.args.files.now) c.args.files.now c.args.name.now
+    c.args.state.now.progress)
+    refl c.found_file.new.files c.found_file.new.progress.files c.in_err-known.field-0.0 c.from_residual.result
+    c.from_residual.ensures.0 c.in_err-known.ensures.reads
 
 -- of one whose walk is refused
 pub returns-in_err-walk-clause-reads : goal.returns-in_err-walk-clause-reads
