@@ -4,12 +4,11 @@
 --     open_follows               the rows behind it are the numbers of the levels behind it
 use Rattle.std.proofs.Common.{◌≡◌, ℕ, ◌-◌, ◌≤◌, true, List, [], ◌∷◌, map, length, drop, Some, inl, inr, refl, ap, ap₂, ◌∙◌, length-drop, arith}
 use Rattle.std.specs.Prelude.{codes, ◌||◌, slice_set}
-use Rattle.std.proofs.lemmas.Bool.{and_parts, or_cases, false≢true}
+use Rattle.std.proofs.lemmas.Bool.{and_parts, or_cases}
 use Rattle.std.proofs.lemmas.List.{drop-set}
 use Rattle.std.proofs.lemmas.Slice.Eq.{bytes_eq-Decides}
-use Rattle.hs_tokens.specs.Marks.{is_same_kind}
-use Rattle.hs_tokens.specs.declared.token.TokenKind.{TokenKind}
-use Rattle.hs_tokens.specs.declared.token.TokenKind.TheVariants.{Identifier, Number, Character, Literal, Punctuator}
+use Rattle.hs_tokens.specs.KindLaws.{kind_is}
+use Rattle.hs_tokens.specs.declared.token.TokenKind.TheVariants.{Punctuator}
 use Rattle.hs_tokens.specs.declared.token.SourceToken.{SourceToken}
 use Rattle.hs_syntax.specs.declared.level.Level.{Level}
 use Rattle.hs_syntax.specs.Counts.{counts, with_mark, all_marks, AllMarked, Follows}
@@ -17,20 +16,12 @@ use Rattle.hs_syntax.specs.Nesting.{is_punctuator, opens, mark_of, marked}
 use Rattle.hs_syntax.specs.Nesting.Mark.{other}
 use Rattle.hs_syntax.proofs.Counting.{length_all_marks}
 
--- the one kind that is a punctuator's
-kind_is : (kind : TokenKind) → is_same_kind kind Punctuator ≡ true → kind ≡ Punctuator
-kind_is Punctuator same = refl
-kind_is Identifier same = absurd (false≢true same)
-kind_is Number same = absurd (false≢true same)
-kind_is Character same = absurd (false≢true same)
-kind_is Literal same = absurd (false≢true same)
-
 -- the kind and the bytes of a punctuator
 punctuator_is : (mark : List ℕ) (source : SourceToken) → is_punctuator mark source ≡ true
     → (source.token.kind ≡ Punctuator) × (source.token.text ≡ mark)
 punctuator_is mark source is =
     let parts = and_parts _ _ is in
-    (kind_is source.token.kind parts.0, (bytes_eq-Decides source.token.text mark).0 parts.1)
+    (kind_is source.token.kind Punctuator parts.0, (bytes_eq-Decides source.token.text mark).0 parts.1)
 
 -- An opening bracket counts as another punctuator.
 pub mark_of_open : (source : SourceToken) → opens source ≡ true → mark_of source ≡ Some other

@@ -1,12 +1,13 @@
 -- The tokens of a form, taken apart.
 --     with_text kind text source     the token with this kind and this text
---     kind_same, token_is, spelled_is      what a test on a token tells of it
+--     token_is, spelled_is           what a test on a token tells of it
 --     split, when_parts, one_token   the parts of phrases one after another, under a condition, of one token
 use Rattle.std.proofs.Common.{◌≡◌, ℕ, Bool, true, false, List, [], ◌∷◌, ◌++◌, Option, Some, None, IfSome, refl, ap, sym, ◌∙◌, inl, inr}
 use Rattle.std.specs.Prelude.{◌&&◌}
 use Rattle.std.specs.Str.{bytes_eq}
 use Rattle.std.proofs.lemmas.Bool.{and_parts, cases_Bool}
 use Rattle.std.proofs.lemmas.Slice.Eq.{bytes_eq-Decides}
+use Rattle.hs_tokens.specs.KindLaws.{kind_is}
 use Rattle.hs_tokens.specs.Marks.{is_same_kind}
 use Rattle.hs_tokens.specs.declared.token.SourceToken.{SourceToken}
 use Rattle.hs_tokens.specs.declared.token.TokenKind.{TokenKind}
@@ -24,20 +25,11 @@ pub source_is : (kind : TokenKind) (text : List ℕ) (source : SourceToken) → 
     → source ≡ with_text kind text source
 source_is kind text source same alike = λ i. record source { token = record source.token { kind = same i; text = alike i } }
 
--- kinds that are the same
-pub kind_same : (kind other : TokenKind) → is_same_kind kind other ≡ true → kind ≡ other
-kind_same Identifier Identifier same = refl
-kind_same Number Number same = refl
-kind_same Character Character same = refl
-kind_same Literal Literal same = refl
-kind_same Punctuator Punctuator same = refl
-kind_same _ _ same = absurd cc
-
 -- a token that passes the test
 pub token_is : (kind : TokenKind) (text : List ℕ) (source : SourceToken) → is_token kind text source ≡ true → source ≡ with_text kind text source
 token_is kind text source is =
     let tests = and_parts (is_same_kind source.token.kind kind) (bytes_eq source.token.text text) is in
-    source_is kind text source (kind_same source.token.kind kind tests.0) ((bytes_eq-Decides source.token.text text).0 tests.1)
+    source_is kind text source (kind_is source.token.kind kind tests.0) ((bytes_eq-Decides source.token.text text).0 tests.1)
 
 -- the text is the spelling of what it spells
 pub spelled_is : {A : Type 0} (spelling : A → List ℕ) (all : List A) (text : List ℕ) (it : A)

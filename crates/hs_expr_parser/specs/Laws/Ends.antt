@@ -6,6 +6,7 @@ use Rattle.std.proofs.Common.{◌≡◌, ℕ, Bool, true, false, List, [], ◌�
 use Rattle.std.specs.Prelude.{codes, not, ◌&&◌, ◌||◌}
 use Rattle.std.specs.Str.{bytes_eq}
 use Rattle.std.proofs.lemmas.Bool.{and_parts, or_parts, or_cases, not-true}
+use Rattle.hs_tokens.specs.KindLaws.{kind_is}
 use Rattle.hs_tokens.specs.Marks.{is_same_kind}
 use Rattle.hs_tokens.specs.declared.token.SourceToken.{SourceToken}
 use Rattle.hs_tokens.specs.declared.token.TokenKind.{TokenKind}
@@ -15,7 +16,6 @@ use Rattle.hs_syntax.specs.Names.{is_among, is_type_name}
 use Rattle.hs_syntax.specs.Phrases.{specifier_words, dropped_words, begins_none, begins_parameters}
 use Rattle.hs_expr_parser.specs.Ahead.{is_keyword, storage_of, dropped_of, basic_of, is_ahead, is_mark_ahead, begins_specifier}
 use Rattle.hs_expr_parser.specs.Reading.{Known, begins_list}
-use Rattle.hs_expr_parser.specs.Laws.Apart.{kind_same}
 use Rattle.hs_expr_parser.specs.Laws.Firsts.{text_is}
 use Rattle.hs_expr_parser.specs.Laws.Spelled.{Begins}
 
@@ -173,7 +173,7 @@ pub named_free : (known : Known) (source : SourceToken) → begins_specifier kno
 unfolding IsWord
 named_free known source is =
     let tests = and_parts (is_same_kind source.token.kind Identifier) (is_among specifier_words source.token.text || false) is in
-    let kind : source.token.kind ≡ Identifier = kind_same source.token.kind Identifier tests.0 in
+    let kind : source.token.kind ≡ Identifier = kind_is source.token.kind Identifier tests.0 in
     let among : is_among specifier_words source.token.text ≡ true = or_false (is_among specifier_words source.token.text) tests.1 in
     let word = among_all (λ text. IsWord (as_word source text)) specifier_words source.token.text among (all_words source) in
     let same : as_word source source.token.text ≡ source = λ i. record source { token = record source.token { kind = sym kind i } } in

@@ -9,6 +9,7 @@ use Rattle.std.specs.Prelude.{◌&&◌, ◌||◌, not, codes, if◌then◌else�
 use Rattle.std.specs.Str.{bytes_eq}
 use Rattle.std.proofs.lemmas.Slice.Eq.{bytes_eq-Decides}
 use Rattle.std.proofs.lemmas.Bool.{and_parts, cases_Bool, or_parts}
+use Rattle.hs_tokens.specs.KindLaws.{kind_is}
 use Rattle.hs_tokens.specs.Marks.{is_same_kind}
 use Rattle.hs_tokens.specs.declared.token.SourceToken.{SourceToken}
 use Rattle.hs_tokens.specs.declared.token.TokenKind.{TokenKind}
@@ -28,7 +29,6 @@ use Rattle.hs_syntax.specs.declared.operators.Pointer.TheVariants as pointer
 use Rattle.hs_expr_parser.specs.Ahead.{place_of, word_of, name_of, is_punctuator, spelled_so, is_ahead, is_mark_ahead, mark_at, token_so, dropped_of, begins_specifier}
 use Rattle.hs_expr_parser.specs.Ahead as ahead
 use Rattle.hs_expr_parser.specs.Reading.{Known, pointer_by, pointer_of, with_pointer, pointers_at}
-use Rattle.hs_expr_parser.specs.Laws.Apart.{kind_same}
 use Rattle.hs_expr_parser.specs.Expected.{enders, is_ender, ended}
 use Rattle.hs_expr_parser.specs.Laws.Primaries.{names_apart}
 use Rattle.hs_expr_parser.specs.Laws.Stopping.{operator_is}
@@ -251,7 +251,7 @@ mark_no_specifier known typed text [] is = refl
 mark_no_specifier known typed text (source ∷ rest) is =
     let tests = and_parts (is_same_kind source.token.kind Punctuator) (bytes_eq source.token.text text) is in
     ap (λ kind. is_same_kind kind Identifier && (is_among specifier_words source.token.text || (not typed && is_type_name known source.token.text)))
-    (kind_same source.token.kind Punctuator tests.0)
+    (kind_is source.token.kind Punctuator tests.0)
 
 -- a punctuator is no other one
 pub mark_no_mark : (text other : List ℕ) (tokens : List SourceToken) → bytes_eq text other ≡ false → is_mark_ahead text tokens ≡ true
@@ -341,7 +341,7 @@ pub ender_no_name : (source : SourceToken) → is_ender source ≡ true → name
 ender_no_name source is =
     let tests = and_parts (is_same_kind source.token.kind Punctuator) (is_among enders source.token.text) is in
     ap (λ kind. if is_same_kind kind Identifier && is_name source.token.text then Some (word_of source) else None)
-    (kind_same source.token.kind Punctuator tests.0)
+    (kind_is source.token.kind Punctuator tests.0)
 
 -- such a punctuator may follow one
 pub mark_ender : (text : List ℕ) (tokens : List SourceToken) → is_among enders text ≡ true → is_mark_ahead text tokens ≡ true → ended tokens ≡ true
@@ -354,7 +354,7 @@ mark_ender text (source ∷ rest) among is =
 ender_no_pointer : (source : SourceToken) → is_ender source ≡ true → pointer_of source ≡ None
 ender_no_pointer source is =
     let tests = and_parts (is_same_kind source.token.kind Punctuator) (is_among enders source.token.text) is in
-    let kind = kind_same source.token.kind Punctuator tests.0 in
+    let kind = kind_is source.token.kind Punctuator tests.0 in
     let star = ender_no_mark (codes "*") source refl is in
     let none : dropped_of source ≡ None =
     ap (λ kind. if is_same_kind kind Identifier then spelled_so dropped_text ahead.dropped_words source.token.text else None) kind in

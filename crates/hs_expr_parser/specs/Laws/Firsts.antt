@@ -7,6 +7,7 @@ use Rattle.std.specs.Prelude.{codes, ◌&&◌, if◌then◌else◌, option_map}
 use Rattle.std.specs.Str.{bytes_eq}
 use Rattle.std.proofs.lemmas.Bool.{and_parts, cases_Bool}
 use Rattle.std.proofs.lemmas.Slice.Eq.{bytes_eq-Decides}
+use Rattle.hs_tokens.specs.KindLaws.{kind_is}
 use Rattle.hs_tokens.specs.Marks.{is_same_kind}
 use Rattle.hs_tokens.specs.declared.token.SourceToken.{SourceToken}
 use Rattle.hs_tokens.specs.declared.token.TokenKind.{TokenKind}
@@ -24,7 +25,7 @@ use Rattle.hs_syntax.specs.declared.word.Word.{Word}
 use Rattle.hs_expr_parser.specs.Ahead.{place_of, word_of, is_token, is_punctuator, spelled_so, token_so, dropped_of, mark_at, place_if, name_at, literals_at}
 use Rattle.hs_expr_parser.specs.Reading.{going_on, tag_at, pointer_by, with_pointer, pointers_at}
 use Rattle.hs_expr_parser.specs.Recursion.{Read}
-use Rattle.hs_expr_parser.specs.Laws.Apart.{kind_same, spelled_is}
+use Rattle.hs_expr_parser.specs.Laws.Apart.{spelled_is}
 use Rattle.hs_expr_parser.specs.Laws.Gives.{Gives, none_gives, some_gives}
 use Rattle.hs_expr_parser.specs.Laws.Spelled.{Begins, nothing_begins, then_begins, when_begins, token_begins, place_begins}
 
@@ -37,7 +38,7 @@ pub token_is : (kind : TokenKind) (text : List ℕ) (source : SourceToken) → i
     → (source.token.kind ≡ kind) × (source.token.text ≡ text)
 token_is kind text source is =
     let tests = and_parts (is_same_kind source.token.kind kind) (bytes_eq source.token.text text) is in
-    (kind_same source.token.kind kind tests.0, text_is source.token.text text tests.1)
+    (kind_is source.token.kind kind tests.0, text_is source.token.text text tests.1)
 
 -- the token of an operator or of a word
 pub token_of : {A : Type 0} (kind : TokenKind) (spelling : A → List ℕ) (all : List A) (source : SourceToken) (it : A)
@@ -45,7 +46,7 @@ pub token_of : {A : Type 0} (kind : TokenKind) (spelling : A → List ℕ) (all 
 token_of kind spelling all source it is = elim (cases_Bool (is_same_kind source.token.kind kind)) [
   | inl same ↦
       let found : spelled_so spelling all source.token.text ≡ Some it = sym (rw same refl) ∙ is in
-      (kind_same source.token.kind kind same, spelled_is spelling all source.token.text it found)
+      (kind_is source.token.kind kind same, spelled_is spelling all source.token.text it found)
   | inr other ↦ absurd (let none : None ≡ Some it = sym (rw other refl) ∙ is in cc)
 ]
 
@@ -76,14 +77,14 @@ name_gives (source ∷ rest) = given (is_same_kind source.token.kind Identifier 
         (option_map (λ (it : Word). (it, rest)) (if is then Some (word_of source) else None))
     given true is =
         let tests = and_parts (is_same_kind source.token.kind Identifier) (is_name source.token.text) is in
-        some_gives (word_of source) rest (when_begins tests.1 (place_begins source rest (kind_same source.token.kind Identifier tests.0) refl))
+        some_gives (word_of source) rest (when_begins tests.1 (place_begins source rest (kind_is source.token.kind Identifier tests.0) refl))
     given false is = none_gives
 
 -- string literals
 pub literals_begin : (tokens : List SourceToken) → Begins (literals (literals_at tokens).0) tokens (literals_at tokens).1
 literals_begin [] = nothing_begins []
 literals_begin (source ∷ rest) = elim (cases_Bool (is_same_kind source.token.kind Literal)) [
-  | inl is ↦ rw is (then_begins (place_begins source rest (kind_same source.token.kind Literal is) refl) (literals_begin rest))
+  | inl is ↦ rw is (then_begins (place_begins source rest (kind_is source.token.kind Literal is) refl) (literals_begin rest))
   | inr is ↦ rw is (nothing_begins (source ∷ rest))
 ]
 

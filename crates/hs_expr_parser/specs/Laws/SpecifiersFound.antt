@@ -7,6 +7,7 @@ use Rattle.std.specs.Prelude.{codes, not, ◌&&◌, ◌||◌}
 use Rattle.std.proofs.lemmas.Bool.{and_parts, both_ways}
 use Rattle.std.proofs.lemmas.List.{append-nil}
 use Rattle.std.proofs.Math.Bool.{or_assoc}
+use Rattle.hs_tokens.specs.KindLaws.{kind_is}
 use Rattle.hs_tokens.specs.Marks.{is_same_kind}
 use Rattle.hs_tokens.specs.declared.token.SourceToken.{SourceToken}
 use Rattle.hs_tokens.specs.declared.token.TokenKind.TheVariants.{Identifier}
@@ -31,7 +32,6 @@ use Rattle.hs_expr_parser.specs.Reading.{Known, Shorter, tag_at, tagged, struct_
 use Rattle.hs_expr_parser.specs.Found.{IsFound}
 use Rattle.hs_expr_parser.specs.Laws.Gives.{Gives, none_gives, some_gives, then_gives, if_gives, so_gives}
 use Rattle.hs_expr_parser.specs.Laws.Spelled.{Begins, form_again, nothing_begins, nothing_ends, then_begins, when_begins, place_begins}
-use Rattle.hs_expr_parser.specs.Laws.Apart.{kind_same}
 use Rattle.hs_expr_parser.specs.Laws.Firsts.{token_is, token_of, mark_gives, tag_begins}
 use Rattle.hs_expr_parser.specs.Laws.Ends.{ends_there, named_free}
 use Rattle.hs_expr_parser.specs.Laws.Tables.{Specifies, members_gives, constants_gives, specifiers_gives}
@@ -145,7 +145,7 @@ module _ (known : Known) (table : Shorter) (found : IsFound known table) where
           → is_keyword (codes "enum") source ≡ false → is_type_name known source.token.text ≡ true
           → Begins (in_list known typed (tree.named (word_of source))) (source ∷ rest) rest
       named a b c d e is =
-          let kind = kind_same source.token.kind Identifier
+          let kind = kind_is source.token.kind Identifier
           (and_parts (is_same_kind source.token.kind Identifier)
           (is_among specifier_words source.token.text || (not typed && is_type_name known source.token.text)) begins).0 in
           let tests = and_parts (is_name source.token.text) (is_among known source.token.text) is in

@@ -5,6 +5,7 @@ use Rattle.std.proofs.Common.{◌≡◌, ℕ, ◌≤◌, true, false, List, [], 
 use Rattle.std.specs.Prelude.{◌+◌, nat_le, codes}
 use Rattle.std.proofs.lemmas.Bool.{cases_Bool}
 use Rattle.std.proofs.lemmas.Bool.Decides.{nat_tests}
+use Rattle.hs_tokens.specs.KindLaws.{kind_is}
 use Rattle.hs_tokens.specs.declared.token.SourceToken.{SourceToken}
 use Rattle.hs_tokens.specs.declared.token.TokenKind.{TokenKind}
 use Rattle.hs_tokens.specs.declared.token.TokenKind.TheVariants.{Punctuator}
@@ -21,7 +22,7 @@ use Rattle.hs_syntax.specs.declared.operators.PostfixOperator.{PostfixOperator}
 use Rattle.hs_syntax.specs.declared.operators.PostfixOperator.TheVariants as postfix
 use Rattle.hs_expr_parser.specs.Ahead.{place_of, is_punctuator, spelled_so, token_so, binary_operators, assign_operators, accesses, postfix_operators, binary_of, assign_of, access_of, postfix_of, mark_at, joins, is_below, stops}
 use Rattle.hs_expr_parser.specs.Reading.{Shorter, suffix_rule, member_rule, operand_by, operand_rule, branches_rule, value_rule, value_by, another_rule}
-use Rattle.hs_expr_parser.specs.Laws.Apart.{with_text, source_is, kind_same, token_is, spelled_is}
+use Rattle.hs_expr_parser.specs.Laws.Apart.{with_text, source_is, token_is, spelled_is}
 
 -- the token that an operator or a word is
 pub operator_is : {A : Type 0} (kind : TokenKind) (spelling : A → List ℕ) (all : List A) (source : SourceToken) (it : A)
@@ -30,7 +31,7 @@ operator_is kind spelling all source it is =
     elim (cases_Bool (is_same_kind source.token.kind kind)) [
       | inl same ↦
           let found : spelled_so spelling all source.token.text ≡ Some it = sym (rw same refl) ∙ is in
-          source_is kind (spelling it) source (kind_same source.token.kind kind same) (spelled_is spelling all source.token.text it found)
+          source_is kind (spelling it) source (kind_is source.token.kind kind same) (spelled_is spelling all source.token.text it found)
       | inr other ↦
           let found : None ≡ Some it = sym (rw other refl) ∙ is in
           absurd cc
