@@ -8,8 +8,6 @@ mod lines;
 mod marks;
 mod printer;
 mod reader;
-#[cfg(test)]
-mod tests;
 mod verifier;
 
 pub use certificate::{CertError, Certificate, Wrong};

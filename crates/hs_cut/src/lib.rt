@@ -10,8 +10,6 @@ mod levels;
 mod lists;
 mod network;
 mod obstacle;
-#[cfg(test)]
-mod tests;
 
 pub use cut::{Cut, CutEnd};
 pub use least::best_cut;
