@@ -76,7 +76,10 @@ pub cut_of : (network : Network) (one other : Side) → AreAlike one other → l
 cut_of network one other same inside outside slotless = record {
   inside = all_pass one other same network.inside inside;
   outside = all_out one other same network.outside outside;
-  slotless = λ k d below no_slot. sym (crosses_alike one other same (get_or network.edges k d)) ∙ crosses_not (get_or network.edges k d).slot _ no_slot (all_fail (λ edge. not edge.slot && crosses one edge) network.edges slotless k d below);
+  slotless = λ k d below no_slot.
+      sym (crosses_alike one other same (get_or network.edges k d))
+      ∙ crosses_not (get_or network.edges k d).slot _ no_slot
+      (all_fail (λ edge. not edge.slot && crosses one edge) network.edges slotless k d below);
 }
   where
     crosses_not : (slot cross : Bool) → slot ≡ false → (not slot && cross) ≡ false → cross ≡ false
@@ -85,7 +88,8 @@ cut_of network one other same inside outside slotless = record {
 -- where nothing is too large, each flow is of size
 pub of_size : (edges : List CutEdge) (flow : List ℤ) → position (λ it. nat_lt (most it.0) (nat_abs it.1)) (zip edges flow) ≡ None
     → All (λ it. nat_abs it.1 ≤ most it.0) (zip edges flow)
-of_size edges flow is k d below = let fails = all_fail (λ (it : CutEdge × ℤ). nat_lt (most it.0) (nat_abs it.1)) (zip edges flow) is k d below in grind (arith, nat_tests)
+of_size edges flow is k d below =
+    let fails = all_fail (λ (it : CutEdge × ℤ). nat_lt (most it.0) (nat_abs it.1)) (zip edges flow) is k d below in grind (arith, nat_tests)
 
 -- pairs are no more than edges
 zip_short : (edges : List CutEdge) (flow : List ℤ) → length (zip edges flow) ≤ length edges

@@ -15,7 +15,8 @@ pub after_is : (word text : List ℕ)
     → after word text ≡ cond (pointwise nat_eq (take (length word) text) word) (Some (drop (length word) text)) None
 after_is [] text = refl
 after_is (byte ∷ word) [] = refl
-after_is (byte ∷ word) (other ∷ text) = rw (after_is word text) (both (other == byte) (pointwise nat_eq (take (length word) text) word) (Some (drop (length word) text)))
+after_is (byte ∷ word) (other ∷ text) =
+    rw (after_is word text) (both (other == byte) (pointwise nat_eq (take (length word) text) word) (Some (drop (length word) text)))
 
 -- what `strip_prefix` tells is what reading gives
 pub gives_after : (word text : List ℕ) (result : Option (Bor (List ℕ)))

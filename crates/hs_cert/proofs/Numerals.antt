@@ -38,7 +38,9 @@ decimal_read n low = decimal_by_steps ReadsDigits (λ n small most rest fits. on
 
 -- these digits are read as a number without a sign
 abbrev ReadsUnsigned : ℕ → List ℕ → Type 0
-ReadsUnsigned n digits = (rest : List ℕ) → signed_at (digits ++ rest) ≡ (pos (number_at most_size 0 (digits ++ rest)).0, (number_at most_size 0 (digits ++ rest)).1)
+ReadsUnsigned n digits =
+    (rest : List ℕ)
+    → signed_at (digits ++ rest) ≡ (pos (number_at most_size 0 (digits ++ rest)).0, (number_at most_size 0 (digits ++ rest)).1)
 
 -- a digit is no sign
 no_sign : (k : ℕ) (rest : List ℕ)
@@ -47,16 +49,20 @@ no_sign k rest = let other : ((48 + k) == 45) ≡ false = grind (arith, nat_test
 
 -- a number without a sign
 unsigned_read : (n : ℕ) → n < 2 ^ 64 → ReadsUnsigned n (decimal n)
-unsigned_read n low = decimal_by_steps ReadsUnsigned (λ n small rest. no_sign n rest) (λ n digits large before rest. rw append_assoc (before ((48 + n % 10) ∷ rest))) n low
+unsigned_read n low =
+    decimal_by_steps ReadsUnsigned (λ n small rest. no_sign n rest)
+    (λ n digits large before rest. rw append_assoc (before ((48 + n % 10) ∷ rest))) n low
 
 -- the amounts that are written
 pub signed_read : (amount : ℤ) (byte : ℕ) (rest : List ℕ) → nat_abs amount ≤ 2147483647 → is_digit byte ≡ false
     → signed_at (signed_decimal amount ++ byte ∷ rest) ≡ (amount, byte ∷ rest)
 signed_read (pos n) byte rest small ends =
-    let number : number_at most_size 0 (decimal n ++ byte ∷ rest) ≡ (n, byte ∷ rest) = decimal_read n (omega arith) most_size (byte ∷ rest) (omega arith) ∙ rw ends refl in
+    let number : number_at most_size 0 (decimal n ++ byte ∷ rest) ≡ (n, byte ∷ rest) =
+    decimal_read n (omega arith) most_size (byte ∷ rest) (omega arith) ∙ rw ends refl in
     unsigned_read n (omega arith) (byte ∷ rest) ∙ rw number refl
 signed_read (negsuc n) byte rest small ends =
-    let number : number_at most_size 0 (decimal (suc n) ++ byte ∷ rest) ≡ (suc n, byte ∷ rest) = decimal_read (suc n) (omega arith) most_size (byte ∷ rest) (omega arith) ∙ rw ends refl in
+    let number : number_at most_size 0 (decimal (suc n) ++ byte ∷ rest) ≡ (suc n, byte ∷ rest) =
+    decimal_read (suc n) (omega arith) most_size (byte ∷ rest) (omega arith) ∙ rw ends refl in
     rw number refl
 
 -- a line that is written
@@ -86,16 +92,20 @@ flow_line_read edge amount rest low small flows =
 pub number_shorter : (most value : ℕ) (text : List ℕ) → length (number_at most value text).1 ≤ length text
 number_shorter most value [] = omega arith
 number_shorter most value (byte ∷ text) =
-    by_test (is_digit byte) value byte text (number_at most (min (value * 10 + (byte - 48)) most) text) (number_shorter most (min (value * 10 + (byte - 48)) most) text)
+    by_test (is_digit byte) value byte text (number_at most (min (value * 10 + (byte - 48)) most) text)
+    (number_shorter most (min (value * 10 + (byte - 48)) most) text)
   where
-    by_test : (test : Bool) (value byte : ℕ) (text : List ℕ) (read : ℕ × List ℕ) → length read.1 ≤ length text → (let now : ℕ × List ℕ = if test then read else (value, byte ∷ text) in length now.1) ≤ suc (length text)
+    by_test : (test : Bool) (value byte : ℕ) (text : List ℕ) (read : ℕ × List ℕ) → length read.1 ≤ length text
+        → (let now : ℕ × List ℕ = if test then read else (value, byte ∷ text) in length now.1) ≤ suc (length text)
     by_test true value byte text read shorter = omega arith
     by_test false value byte text read shorter = omega arith
 
 -- the same with a sign
 pub signed_shorter : (text : List ℕ) → length (signed_at text).1 ≤ length text
 signed_shorter [] = omega arith
-signed_shorter (byte ∷ text) = by_test (byte == 45) (number_at most_size 0 text) (number_at most_size 0 (byte ∷ text)) (number_shorter most_size 0 text) (number_shorter most_size 0 (byte ∷ text))
+signed_shorter (byte ∷ text) =
+    by_test (byte == 45) (number_at most_size 0 text) (number_at most_size 0 (byte ∷ text)) (number_shorter most_size 0 text)
+    (number_shorter most_size 0 (byte ∷ text))
   where
     by_test : (test : Bool) (signed plain : ℕ × List ℕ) → length signed.1 ≤ length text → length plain.1 ≤ suc (length text)
         → (let read : ℤ × List ℕ = if test then (neg_ℤ (pos signed.0), signed.1) else (pos plain.0, plain.1) in length read.1) ≤ suc (length text)

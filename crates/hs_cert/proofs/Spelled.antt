@@ -33,7 +33,8 @@ words_step limit fits inside rest vertices text digits now begins = of_left now.
         → WordsLeft limit inside rest (vertices ++ (number_at limit 0 digits).0 ∷ []) (number_at limit 0 digits).1
     of_left [] all is small = let none : after (32 ∷ []) text ≡ None = rw is refl in absurd (cc)
     of_left (vertex ∷ left) all is small =
-        let some : after (32 ∷ []) text ≡ Some (decimal vertex ++ (flat_map word left ++ 10 ∷ rest)) = ap (after (32 ∷ [])) (is ∙ append_assoc (word vertex) (flat_map word left) (10 ∷ rest)) in
+        let some : after (32 ∷ []) text ≡ Some (decimal vertex ++ (flat_map word left ++ 10 ∷ rest)) =
+        ap (after (32 ∷ [])) (is ∙ append_assoc (word vertex) (flat_map word left) (10 ∷ rest)) in
         let same : digits ≡ decimal vertex ++ (flat_map word left ++ 10 ∷ rest) = cc in
         let low : vertex < limit = All-head (λ (vertex : ℕ). vertex < limit) vertex left small in
         let number : number_at limit 0 digits ≡ (vertex, flat_map word left ++ 10 ∷ rest) =
@@ -53,7 +54,8 @@ words_end limit inside rest vertices text now ends = of_left now.left now.all no
     of_left : (left : List ℕ) → vertices ++ left ≡ inside → text ≡ flat_map word left ++ 10 ∷ rest → (vertices ≡ inside) × (text ≡ 10 ∷ rest)
     of_left [] all is = (sym (append-nil vertices) ∙ all, is)
     of_left (vertex ∷ left) all is =
-        let some : after (32 ∷ []) text ≡ Some (decimal vertex ++ (flat_map word left ++ 10 ∷ rest)) = ap (after (32 ∷ [])) (is ∙ append_assoc (word vertex) (flat_map word left) (10 ∷ rest)) in
+        let some : after (32 ∷ []) text ≡ Some (decimal vertex ++ (flat_map word left ++ 10 ∷ rest)) =
+        ap (after (32 ∷ [])) (is ∙ append_assoc (word vertex) (flat_map word left) (10 ∷ rest)) in
         absurd (cc)
 
 -- nothing flows
@@ -129,7 +131,8 @@ step : (other : List ℤ) (tail text : List ℕ) (flow : List ℤ) (line : ℕ �
 step other tail text flow line [] done at here low all is_flow is_text small is_line =
     let none : line_at text ≡ None = ap line_at is_text ∙ no_line tail in absurd (cc)
 step other tail text flow line (pos zero ∷ left) done at here low all is_flow is_text small is_line =
-    step other tail text flow line left (done ++ pos 0 ∷ []) (suc at) (omega (arith, length_push done (pos 0))) (omega arith) (rw append_assoc all) (rw append_assoc is_flow) is_text
+    step other tail text flow line left (done ++ pos 0 ∷ []) (suc at) (omega (arith, length_push done (pos 0))) (omega arith)
+    (rw append_assoc all) (rw append_assoc is_flow) is_text
     (All-tail (λ (amount : ℤ). nat_abs amount ≤ 2147483647) (pos 0) left small) is_line
 step other tail text flow line (pos (suc n) ∷ left) done at here low all is_flow is_text small is_line =
     taken other tail text flow line (pos (suc n)) left done at here (omega arith) all is_flow is_text small (grind (arith, nat_tests)) is_line
@@ -141,7 +144,8 @@ pub lines_step : (other : List ℤ) (tail text : List ℕ) (flow : List ℤ) (li
     → LinesLeft other tail flow text
     → line_at text ≡ Some line → LinesLeft other tail (set flow line.0 line.1) line.2
 lines_step other tail text flow line low now is_line =
-    step other tail text flow line now.left now.done now.at now.here (let long = ap length now.all in omega (arith, length-append now.done now.left)) now.all now.flow now.text now.small is_line
+    step other tail text flow line now.left now.done now.at now.here
+    (let long = ap length now.all in omega (arith, length-append now.done now.left)) now.all now.flow now.text now.small is_line
 
 -- the same, where no line stands next
 finish : (other : List ℤ) (tail text : List ℕ) (flow left done : List ℤ) (at : ℕ) → length done ≡ at → at + length left < 2 ^ 64
@@ -149,15 +153,23 @@ finish : (other : List ℤ) (tail text : List ℕ) (flow left done : List ℤ) (
     → All (λ amount. nat_abs amount ≤ 2147483647) left → line_at text ≡ None → flow ≡ other
 finish other tail text flow [] done at here low all is_flow is_text small none = is_flow ∙ all
 finish other tail text flow (pos zero ∷ left) done at here low all is_flow is_text small none =
-    finish other tail text flow left (done ++ pos 0 ∷ []) (suc at) (omega (arith, length_push done (pos 0))) (omega arith) (rw append_assoc all) (rw append_assoc is_flow) is_text
+    finish other tail text flow left (done ++ pos 0 ∷ []) (suc at) (omega (arith, length_push done (pos 0))) (omega arith)
+    (rw append_assoc all) (rw append_assoc is_flow) is_text
     (All-tail (λ (amount : ℤ). nat_abs amount ≤ 2147483647) (pos 0) left small) none
 finish other tail text flow (pos (suc n) ∷ left) done at here low all is_flow is_text small none =
-    let next = next_line at (pos (suc n)) left tail text (omega arith) (All-head (λ (amount : ℤ). nat_abs amount ≤ 2147483647) (pos (suc n)) left small) (grind (arith, nat_tests)) is_text in absurd (cc)
+    let next =
+    next_line at (pos (suc n)) left tail text (omega arith)
+    (All-head (λ (amount : ℤ). nat_abs amount ≤ 2147483647) (pos (suc n)) left small) (grind (arith, nat_tests)) is_text in
+    absurd (cc)
 finish other tail text flow (negsuc n ∷ left) done at here low all is_flow is_text small none =
-    let next = next_line at (negsuc n) left tail text (omega arith) (All-head (λ (amount : ℤ). nat_abs amount ≤ 2147483647) (negsuc n) left small) (grind (arith, nat_tests)) is_text in absurd (cc)
+    let next =
+    next_line at (negsuc n) left tail text (omega arith) (All-head (λ (amount : ℤ). nat_abs amount ≤ 2147483647) (negsuc n) left small)
+    (grind (arith, nat_tests)) is_text in
+    absurd (cc)
 
 -- where no line stands next, nothing flows over the edges that are left
 pub lines_end : (other : List ℤ) (tail text : List ℕ) (flow : List ℤ) → length other < 2 ^ 64 → LinesLeft other tail flow text
     → line_at text ≡ None → flow ≡ other
 lines_end other tail text flow low now none =
-    finish other tail text flow now.left now.done now.at now.here (let long = ap length now.all in omega (arith, length-append now.done now.left)) now.all now.flow now.text now.small none
+    finish other tail text flow now.left now.done now.at now.here
+    (let long = ap length now.all in omega (arith, length-append now.done now.left)) now.all now.flow now.text now.small none

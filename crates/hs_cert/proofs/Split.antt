@@ -22,7 +22,9 @@ ungrouped : (inside vertices lines crossings digits : List ℕ) → inside ++ (v
 ungrouped inside vertices lines crossings digits = simp append_assoc
 
 whole : (network : Network) (c : Certificate) → text_of network c ≡ front c (decimal (crossings (among c.inside) network.edges) ++ 10 ∷ [])
-whole network c = grouped (codes "inside") (flat_map word c.inside) (flow_lines 0 c.flow) (codes "crossings ") (decimal (crossings (among c.inside) network.edges))
+whole network c =
+    grouped (codes "inside") (flat_map word c.inside) (flow_lines 0 c.flow) (codes "crossings ")
+    (decimal (crossings (among c.inside) network.edges))
 
 pushed : (c : Certificate) (digits : List ℕ) → front c (digits ++ 10 ∷ []) ≡ front c digits ++ 10 ∷ []
 pushed c digits = ungrouped (codes "inside") (flat_map word c.inside) (flow_lines 0 c.flow) (codes "crossings ") digits

@@ -35,9 +35,11 @@ pub balanced : (sums first : List ℤ) (vertex from to : ℕ) (amount back : ℤ
 balanced sums first vertex from to amount back from_within to_within is_back is_first =
     let long : length first ≡ length sums = ap length is_first ∙ length-set sums from (get_or sums from (pos 0) +ℤ amount) in
     let within : to < length first = omega arith in
-    let here : get_or first vertex (pos 0) ≡ cond (nat_eq vertex from) (get_or sums from (pos 0) +ℤ amount) (get_or sums vertex (pos 0)) = rw is_first (written sums vertex from (get_or sums from (pos 0) +ℤ amount) from_within) in
+    let here : get_or first vertex (pos 0) ≡ cond (nat_eq vertex from) (get_or sums from (pos 0) +ℤ amount) (get_or sums vertex (pos 0)) =
+    rw is_first (written sums vertex from (get_or sums from (pos 0) +ℤ amount) from_within) in
     rw (written first vertex to (get_or first to (pos 0) +ℤ back) within)
-    (at_vertex (nat_eq vertex from) (nat_eq vertex to) amount back (get_or sums vertex (pos 0)) (get_or sums from (pos 0)) (get_or first vertex (pos 0)) (get_or first to (pos 0)) is_back here
+    (at_vertex (nat_eq vertex from) (nat_eq vertex to) amount back (get_or sums vertex (pos 0)) (get_or sums from (pos 0))
+    (get_or first vertex (pos 0)) (get_or first to (pos 0)) is_back here
     (λ h. ap (λ (v : ℕ). get_or sums v (pos 0)) (same vertex from h)) (λ h. ap (λ (v : ℕ). get_or first v (pos 0)) (same vertex to h)))
   where
     at_vertex : (is_from is_to : Bool) (amount back here at_from now at_to : ℤ) → back ≡ pos 0 -ℤ amount → now ≡ cond is_from (at_from +ℤ amount) here
@@ -79,6 +81,7 @@ half_small sums first from vertex i bound amount within is_first small low =
     rw (is_first, written sums vertex from (get_or sums from (pos 0) +ℤ amount) within)
     (of_test (nat_eq vertex from) (get_or sums from (pos 0)) (get_or sums vertex (pos 0)) amount i bound (low from) (low vertex) small)
   where
-    of_test : (test : Bool) (at_from here amount : ℤ) (i bound : ℕ) → nat_abs at_from ≤ i * bound → nat_abs here ≤ i * bound → nat_abs amount ≤ bound → nat_abs (cond test (at_from +ℤ amount) here) ≤ (i + 1) * bound
+    of_test : (test : Bool) (at_from here amount : ℤ) (i bound : ℕ) → nat_abs at_from ≤ i * bound → nat_abs here ≤ i * bound
+        → nat_abs amount ≤ bound → nat_abs (cond test (at_from +ℤ amount) here) ≤ (i + 1) * bound
     of_test true at_from here amount i bound low_from low small = omega (arith, ints)
     of_test false at_from here amount i bound low_from low small = omega (arith, ints)

@@ -38,7 +38,9 @@ pub among-flat_map : (f : ℕ → List ℕ) (numbers : List ℕ) (vertex : ℕ) 
     → (number : ℕ) × (among numbers number ≡ true) × (among (f number) vertex ≡ true)
 among-flat_map f [] vertex is = absurd cc
 among-flat_map f (number ∷ numbers) vertex is =
-    elim (or_cases (among (f number) vertex) (among (flat_map f numbers) vertex) (sym (list_any-append (nat_eq vertex) (f number) (flat_map f numbers)) ∙ ap (λ (xs : List ℕ). among xs vertex) (sym (flat_map-cons f number numbers)) ∙ is)) [
+    elim (or_cases (among (f number) vertex) (among (flat_map f numbers) vertex)
+    (sym (list_any-append (nat_eq vertex) (f number) (flat_map f numbers))
+    ∙ ap (λ (xs : List ℕ). among xs vertex) (sym (flat_map-cons f number numbers)) ∙ is)) [
       | inl here ↦ (number, among-get_or (number ∷ numbers) 0 0 (omega arith), here)
       | inr there ↦
           let rest = among-flat_map f numbers vertex there in
@@ -52,7 +54,8 @@ flat_map-among f [] number vertex is has = absurd cc
 flat_map-among f (one ∷ numbers) number vertex is has =
     ap (λ (xs : List ℕ). among xs vertex) (flat_map-cons f one numbers)
     ∙ list_any-append (nat_eq vertex) (f one) (flat_map f numbers)
-    ∙ elim (or_cases (nat_eq number one) (among numbers number) (sym (among-cons one numbers number) ∙ is)) as (λ _. (among (f one) vertex || among (flat_map f numbers) vertex) ≡ true) [
+    ∙ elim (or_cases (nat_eq number one) (among numbers number) (sym (among-cons one numbers number) ∙ is))
+    as (λ _. (among (f one) vertex || among (flat_map f numbers) vertex) ≡ true) [
       | inl same ↦ ap (λ b. b || among (flat_map f numbers) vertex) (ap (λ n. among (f n) vertex) (sym (eqb-true number one same)) ∙ has)
       | inr there ↦ ap (λ b. among (f one) vertex || b) (flat_map-among f numbers number vertex there has) ∙ or-true (among (f one) vertex)
     ]

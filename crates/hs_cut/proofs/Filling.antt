@@ -28,7 +28,8 @@ use Rattle.hs_cut.proofs.Steps.{arc-complete, start-back, goal-back, step-sound}
 net_out-zeros : (side : Side) (edges : List CutEdge) (long : ℕ) → net_out side edges (replicate long (pos 0)) ≡ pos 0
 net_out-zeros side [] long = refl
 net_out-zeros side (edge ∷ edges) zero = refl
-net_out-zeros side (edge ∷ edges) (suc long) = nothing (side edge.from) (side edge.to) (net_out side edges (replicate long (pos 0))) (net_out-zeros side edges long)
+net_out-zeros side (edge ∷ edges) (suc long) =
+    nothing (side edge.from) (side edge.to) (net_out side edges (replicate long (pos 0))) (net_out-zeros side edges long)
   where
     nothing : (from to : Bool) (rest : ℤ) → rest ≡ pos 0 → (cond from (pos 0) (pos 0) -ℤ cond to (pos 0) (pos 0)) +ℤ rest ≡ pos 0
     nothing true true rest is = omega (arith, ints)
@@ -59,7 +60,8 @@ none_out false true amount same = absurd cc
 none_out false false amount same = omega (arith, ints)
 
 -- over one edge no more flows out than crossings count, where a slot carries one unit at most
-edge-crosses : (side : Side) (edge : CutEdge) (amount : ℤ) (units : ℕ) → nat_abs amount ≤ cond edge.slot 1 units → (IsFalse edge.slot → IsFalse (crosses side edge))
+edge-crosses : (side : Side) (edge : CutEdge) (amount : ℤ) (units : ℕ) → nat_abs amount ≤ cond edge.slot 1 units
+    → (IsFalse edge.slot → IsFalse (crosses side edge))
     → out_over side edge amount ≤ℤ pos (cond (crosses side edge) 1 0)
 edge-crosses side edge amount units size apart = split edge.slot refl
   where
@@ -68,15 +70,21 @@ edge-crosses side edge amount units size apart = split edge.slot refl
     split false is = rw (apart is) (none_out (side edge.from) (side edge.to) amount (apart is))
 
 -- and so over all of them
-net_out-slots : (side : Side) (edges : List CutEdge) (flow : List ℤ) (units : ℕ) → ((index : ℕ) → index < length edges → nat_abs (amount_at flow index) ≤ cond (edge_at edges index).slot 1 units)
+net_out-slots : (side : Side) (edges : List CutEdge) (flow : List ℤ) (units : ℕ)
+    → ((index : ℕ) → index < length edges → nat_abs (amount_at flow index) ≤ cond (edge_at edges index).slot 1 units)
     → CrossSlots side edges → net_out side edges flow ≤ℤ pos (crossings side edges)
 net_out-slots side [] flow units sized slots = omega (arith, ints)
 net_out-slots side (edge ∷ edges) [] units sized slots = omega (arith, ints)
 net_out-slots side (edge ∷ edges) (amount ∷ flow) units sized slots =
-    let rest = net_out-slots side edges flow units (λ index below. sized (suc index) (omega arith)) (All-tail (λ edge. IsFalse edge.slot → IsFalse (crosses side edge)) edge edges slots) in
-    let first = edge-crosses side edge amount units (sized zero (omega arith)) (All-head (λ edge. IsFalse edge.slot → IsFalse (crosses side edge)) edge edges slots) in
+    let rest =
+    net_out-slots side edges flow units (λ index below. sized (suc index) (omega arith))
+    (All-tail (λ edge. IsFalse edge.slot → IsFalse (crosses side edge)) edge edges slots) in
+    let first =
+    edge-crosses side edge amount units (sized zero (omega arith))
+    (All-head (λ edge. IsFalse edge.slot → IsFalse (crosses side edge)) edge edges slots) in
     let both = crossings-cons side edge edges in
-    sum (out_over side edge amount) (net_out side edges flow) (cond (crosses side edge) 1 0) (crossings side edges) (crossings side (edge ∷ edges)) first rest both
+    sum (out_over side edge amount) (net_out side edges flow) (cond (crosses side edge) 1 0) (crossings side edges)
+    (crossings side (edge ∷ edges)) first rest both
   where
     sum : (one rest : ℤ) (a b all : ℕ) → one ≤ℤ pos a → rest ≤ℤ pos b → all ≡ a + b → (one +ℤ rest) ≤ℤ pos all
     sum one rest a b all first others both = omega (arith, ints)
@@ -86,7 +94,8 @@ units-crossings : (network : Network) (units : ℕ) (flow : List ℤ) (side : Si
     → units ≤ crossings side network.edges
 units-crossings network units flow side numbered partial cut =
     let low = net_out-slots side network.edges flow units partial.size cut.slotless in
-    let same : net_out side network.edges flow ≡ pos units = net_out-cut network flow side numbered partial.conservation cut.inside cut.outside ∙ partial.value in
+    let same : net_out side network.edges flow ≡ pos units =
+    net_out-cut network flow side numbered partial.conservation cut.inside cut.outside ∙ partial.value in
     let bound : pos units ≤ℤ pos (crossings side network.edges) = rw (← same) low in
     omega (arith, ints)
 
@@ -118,7 +127,8 @@ among-apart network side vertex cut out = split (among network.inside vertex) re
         absurd cc
 
 -- one unit more, from what must be inside to what must be outside
-pub IsPartial-push : (network : Network) (units : ℕ) (before after : List ℤ) (from to : ℕ) (side : Side) → IsPartial network units before → IsPushed network.edges from to before after → IsCut network side
+pub IsPartial-push : (network : Network) (units : ℕ) (before after : List ℤ) (from to : ℕ) (side : Side)
+    → IsPartial network units before → IsPushed network.edges from to before after → IsCut network side
     → among network.inside from ≡ true → among network.outside to ≡ true → IsPartial network (suc units) after
 IsPartial-push network units before after from to side partial pushed cut begins ends = record {
   long = pushed.long ∙ partial.long;
@@ -128,13 +138,16 @@ IsPartial-push network units before after from to side partial pushed cut begins
       let out = away vertex from network.inside begins (or-left (among network.inside vertex) (among network.outside vertex) free) in
       let in_ = away vertex to network.outside ends (or-right (among network.inside vertex) (among network.outside vertex) free) in
       let was = partial.conservation vertex below free in
-      still (net_out (nat_eq vertex) network.edges after) (net_out (nat_eq vertex) network.edges before) (count (nat_eq vertex to)) (count (nat_eq vertex from)) net (ap count in_) (ap count out) was;
+      still (net_out (nat_eq vertex) network.edges after) (net_out (nat_eq vertex) network.edges before) (count (nat_eq vertex to))
+      (count (nat_eq vertex from)) net (ap count in_) (ap count out) was;
   value =
-      more_ (net_out (among network.inside) network.edges after) (net_out (among network.inside) network.edges before) (count (among network.inside to)) (count (among network.inside from)) units
+      more_ (net_out (among network.inside) network.edges after) (net_out (among network.inside) network.edges before)
+      (count (among network.inside to)) (count (among network.inside from)) units
       (pushed.net (among network.inside)) (ap count (among-apart network side to cut ends)) (ap count begins) partial.value;
 }
   where
-    size : (index : ℕ) → index < length network.edges → (slot : Bool) → (edge_at network.edges index).slot ≡ slot → nat_abs (amount_at after index) ≤ cond (edge_at network.edges index).slot 1 (suc units)
+    size : (index : ℕ) → index < length network.edges → (slot : Bool) → (edge_at network.edges index).slot ≡ slot
+        → nat_abs (amount_at after index) ≤ cond (edge_at network.edges index).slot 1 (suc units)
     size index below true is = rw is (pushed.slots index below is)
     size index below false is =
         let old : nat_abs (amount_at before index) ≤ cond (edge_at network.edges index).slot 1 units = partial.size index below in
@@ -164,7 +177,8 @@ IsPartial-push network units before after from to side partial pushed cut begins
     more_ after before to from units net none one was = omega (arith, ints)
 
 -- an arc leads down from each vertex above level 0
-pub leads_down : (edges : List CutEdge) (gates : List Gate) (rows : List (Vec Arc Global)) (starts : List ℕ) (levels : List (Option ℕ)) → IsGraph edges rows → AreLevels gates rows starts levels
+pub leads_down : (edges : List CutEdge) (gates : List Gate) (rows : List (Vec Arc Global)) (starts : List ℕ) (levels : List (Option ℕ))
+    → IsGraph edges rows → AreLevels gates rows starts levels
     → (vertex level : ℕ) → level_at levels vertex ≡ Some (level + 1) → (arc : Arc) × Contains (arcs_from rows vertex) arc × LeadsDown gates levels level arc
 leads_down edges gates rows starts levels graph all vertex level is =
     let same : level + 1 ≡ suc level = omega arith in
@@ -173,7 +187,10 @@ leads_down edges gates rows starts levels graph all vertex level is =
     let has = arc-complete edges rows vertex step.index step.edge (not step.along) graph step.found (start-back step.edge step.along ∙ step.ends) in (
       (record { to = goal step.edge (not step.along); edge = step.index; along = not step.along }),
       has,
-      (ap (level_at levels) (goal-back step.edge step.along ∙ step.begins) ∙ below.1, twice step.along (opens (slice_index_or gates step.index shut)) step.opened),
+      (
+        ap (level_at levels) (goal-back step.edge step.along ∙ step.begins) ∙ below.1,
+        twice step.along (opens (slice_index_or gates step.index shut)) step.opened,
+      ),
     )
   where
     twice : (b : Bool) (f : Bool → Bool) → f b ≡ true → f (not (not b)) ≡ true

@@ -39,15 +39,23 @@ IsAt-new levels level vertices new is =
 -- a vertex of another level changes nothing
 pub IsLeastAt-miss : (levels : List (Option ℕ)) (level : ℕ) (vertices : List ℕ) (new : ℕ) (least : Option ℕ) → IsLeastAt levels level vertices least
     → (level_at levels new ≡ Some level → ⊥) → IsLeastAt levels level (vertices ++ new ∷ []) least
-IsLeastAt-miss levels level vertices new None old miss = λ vertex is. elim (IsAt-push levels level vertices new vertex is) [ inl was ↦ old vertex was | inr it ↦ miss it.1 ]
-IsLeastAt-miss levels level vertices new (Some least) old miss =
-    (IsAt-old levels level vertices new least old.0, λ vertex is. elim (IsAt-push levels level vertices new vertex is) [ inl was ↦ old.1 vertex was | inr it ↦ absurd (miss it.1) ])
+IsLeastAt-miss levels level vertices new None old miss = λ vertex is.
+    elim (IsAt-push levels level vertices new vertex is) [ inl was ↦ old vertex was | inr it ↦ miss it.1 ]
+IsLeastAt-miss levels level vertices new (Some least) old miss = (
+  IsAt-old levels level vertices new least old.0,
+  λ vertex is. elim (IsAt-push levels level vertices new vertex is) [ inl was ↦ old.1 vertex was | inr it ↦ absurd (miss it.1) ],
+)
 
 -- a vertex of the level may be the least
 pub IsLeastAt-hit : (levels : List (Option ℕ)) (level : ℕ) (vertices : List ℕ) (new : ℕ) (least : Option ℕ) → IsLeastAt levels level vertices least
     → level_at levels new ≡ Some level → IsLeastAt levels level (vertices ++ new ∷ []) (Some (lesser least new))
-IsLeastAt-hit levels level vertices new None old hit =
-    (IsAt-new levels level vertices new hit, λ vertex is. elim (IsAt-push levels level vertices new vertex is) [ inl was ↦ absurd (old vertex was) | inr it ↦ let same : vertex ≡ new = it.0 in omega arith ])
+IsLeastAt-hit levels level vertices new None old hit = (
+  IsAt-new levels level vertices new hit,
+  λ vertex is. elim (IsAt-push levels level vertices new vertex is) [
+    | inl was ↦ absurd (old vertex was)
+    | inr it ↦ let same : vertex ≡ new = it.0 in omega arith
+  ],
+)
 IsLeastAt-hit levels level vertices new (Some least) old hit = (
   first,
   λ vertex is. elim (IsAt-push levels level vertices new vertex is) [
@@ -68,9 +76,15 @@ IsLeastAt-hit levels level vertices new (Some least) old hit = (
 -- a vertex without a level
 pub IsLeastLevel-miss : (levels : List (Option ℕ)) (vertices : List ℕ) (new : ℕ) (least : Option ℕ) → IsLeastLevel levels vertices least
     → level_at levels new ≡ None → IsLeastLevel levels (vertices ++ new ∷ []) least
-IsLeastLevel-miss levels vertices new None old miss = λ vertex level is. elim (IsAt-push levels level vertices new vertex is) [ inl was ↦ old vertex level was | inr it ↦ absurd (let some = it.1 in cc) ]
-IsLeastLevel-miss levels vertices new (Some least) old miss =
-    ((old.0.0, IsAt-old levels least vertices new old.0.0 old.0.1), λ vertex level is. elim (IsAt-push levels level vertices new vertex is) [ inl was ↦ old.1 vertex level was | inr it ↦ absurd (let some = it.1 in cc) ])
+IsLeastLevel-miss levels vertices new None old miss = λ vertex level is.
+    elim (IsAt-push levels level vertices new vertex is) [ inl was ↦ old vertex level was | inr it ↦ absurd (let some = it.1 in cc) ]
+IsLeastLevel-miss levels vertices new (Some least) old miss = (
+  (old.0.0, IsAt-old levels least vertices new old.0.0 old.0.1),
+  λ vertex level is. elim (IsAt-push levels level vertices new vertex is) [
+    | inl was ↦ old.1 vertex level was
+    | inr it ↦ absurd (let some = it.1 in cc)
+  ],
+)
 
 -- a vertex with a level may have the least
 pub IsLeastLevel-hit : (levels : List (Option ℕ)) (vertices : List ℕ) (new own : ℕ) (least : Option ℕ) → IsLeastLevel levels vertices least
@@ -112,7 +126,8 @@ option_eq-false (Some own) level is same =
 
 -- one vertex more, of the level
 pub IsLeastAt-then : (levels : List (Option ℕ)) (level : ℕ) (vertices : List ℕ) (index : ℕ) (least after : Option ℕ) → index < length vertices
-    → IsLeastAt levels level (take index vertices) least → level_at levels (get_or vertices index 0) ≡ Some level → after ≡ Some (lesser least (get_or vertices index 0))
+    → IsLeastAt levels level (take index vertices) least → level_at levels (get_or vertices index 0) ≡ Some level
+    → after ≡ Some (lesser least (get_or vertices index 0))
     → IsLeastAt levels level (take (index + 1) vertices) after
 IsLeastAt-then levels level vertices index least after below old hit is =
     rw (take_more vertices index 0 below, is) (IsLeastAt-hit levels level (take index vertices) (get_or vertices index 0) least old hit)
@@ -141,23 +156,33 @@ IsLeastLevel-else levels vertices index least after below old miss is =
 -- where the arcs so far and one more lead
 targets-more : (gates : List Gate) (row : List Arc) (index : ℕ) (none : Arc) → index < length row
     → targets gates (take (index + 1) row) ≡ targets gates (take index row) ++ targets gates (get_or row index none ∷ [])
-targets-more gates row index none below = ap (targets gates) (take_more row index none below) ∙ targets-append gates (take index row) (get_or row index none ∷ [])
+targets-more gates row index none below =
+    ap (targets gates) (take_more row index none below) ∙ targets-append gates (take index row) (get_or row index none ∷ [])
 
 -- one arc more, which leads there
-pub IsLeastAt-arc : (levels : List (Option ℕ)) (level : ℕ) (gates : List Gate) (row : List Arc) (index : ℕ) (none : Arc) (least after : Option ℕ) → index < length row
-    → IsLeastAt levels level (targets gates (take index row)) least → LeadsTo gates levels level (get_or row index none) → after ≡ Some (lesser least (get_or row index none).to)
+pub IsLeastAt-arc : (levels : List (Option ℕ)) (level : ℕ) (gates : List Gate) (row : List Arc) (index : ℕ) (none : Arc)
+    (least after : Option ℕ) → index < length row
+    → IsLeastAt levels level (targets gates (take index row)) least → LeadsTo gates levels level (get_or row index none)
+    → after ≡ Some (lesser least (get_or row index none).to)
     → IsLeastAt levels level (targets gates (take (index + 1) row)) after
 IsLeastAt-arc levels level gates row index none least after below old leads is =
-    rw (targets-more gates row index none below ∙ ap (λ (found : List ℕ). targets gates (take index row) ++ found) (targets-open gates (get_or row index none) leads.1), is)
-    (IsLeastAt-hit levels level (targets gates (take index row)) (get_or row index none).to least old leads.0)
+    rw (
+      targets-more gates row index none below
+          ∙ ap (λ (found : List ℕ). targets gates (take index row) ++ found) (targets-open gates (get_or row index none) leads.1),
+      is,
+    ) (IsLeastAt-hit levels level (targets gates (take index row)) (get_or row index none).to least old leads.0)
 
 -- and one that does not
-pub IsLeastAt-no_arc : (levels : List (Option ℕ)) (level : ℕ) (gates : List Gate) (row : List Arc) (index : ℕ) (none : Arc) (least after : Option ℕ) → index < length row
+pub IsLeastAt-no_arc : (levels : List (Option ℕ)) (level : ℕ) (gates : List Gate) (row : List Arc) (index : ℕ) (none : Arc)
+    (least after : Option ℕ) → index < length row
     → IsLeastAt levels level (targets gates (take index row)) least → (LeadsTo gates levels level (get_or row index none) → ⊥) → after ≡ least
     → IsLeastAt levels level (targets gates (take (index + 1) row)) after
 IsLeastAt-no_arc levels level gates row index none least after below old misses is =
     rw (targets-more gates row index none below, is) (split (is_open gates (get_or row index none)) refl)
   where
-    split : (b : Bool) → is_open gates (get_or row index none) ≡ b → IsLeastAt levels level (targets gates (take index row) ++ targets gates (get_or row index none ∷ [])) least
-    split true opened = rw (targets-open gates (get_or row index none) opened) (IsLeastAt-miss levels level (targets gates (take index row)) (get_or row index none).to least old (λ at. misses (at, opened)))
+    split : (b : Bool) → is_open gates (get_or row index none) ≡ b
+        → IsLeastAt levels level (targets gates (take index row) ++ targets gates (get_or row index none ∷ [])) least
+    split true opened =
+        rw (targets-open gates (get_or row index none) opened)
+        (IsLeastAt-miss levels level (targets gates (take index row)) (get_or row index none).to least old (λ at. misses (at, opened)))
     split false closed = rw (targets-shut gates (get_or row index none) closed, append-nil) old

@@ -26,7 +26,8 @@ put_twice level false true other None = refl
 put_twice level false false other None = refl
 
 -- marking some and then others is marking all of them
-IsMarked-append : (level : ℕ) (some others : List ℕ) (first : List (Option ℕ)) (next : List ℕ) (mid : List (Option ℕ)) (next' : List ℕ) (last : List (Option ℕ)) (next'' : List ℕ)
+IsMarked-append : (level : ℕ) (some others : List ℕ) (first : List (Option ℕ)) (next : List ℕ) (mid : List (Option ℕ)) (next' : List ℕ)
+    (last : List (Option ℕ)) (next'' : List ℕ)
     → IsMarked level some first next mid next' → IsMarked level others mid next' last next''
     → IsMarked level (some ++ others) first next last next''
 IsMarked-append level some others first next mid next' last next'' one other = record {
@@ -65,7 +66,8 @@ pub targets-shut : (gates : List Gate) (arc : Arc) → is_open gates arc ≡ fal
 targets-shut gates arc is = ap (λ b. map (λ arc. arc.to) (cond b (arc ∷ []) [])) is
 
 -- what one vertex more leads to is marked too
-pub IsMarked-next : (f : ℕ → List ℕ) (level : ℕ) (vertices : List ℕ) (index : ℕ) (found : List ℕ) (first : List (Option ℕ)) (next : List ℕ) (mid : List (Option ℕ)) (next' : List ℕ) (last : List (Option ℕ)) (next'' : List ℕ)
+pub IsMarked-next : (f : ℕ → List ℕ) (level : ℕ) (vertices : List ℕ) (index : ℕ) (found : List ℕ) (first : List (Option ℕ))
+    (next : List ℕ) (mid : List (Option ℕ)) (next' : List ℕ) (last : List (Option ℕ)) (next'' : List ℕ)
     → index < length vertices → f (get_or vertices index 0) ≡ found
     → IsMarked level (flat_map f (take index vertices)) first next mid next' → IsMarked level found mid next' last next''
     → IsMarked level (flat_map f (take (index + 1) vertices)) first next last next''
@@ -73,5 +75,6 @@ IsMarked-next f level vertices index found first next mid next' last next'' belo
     let grown : flat_map f (take (index + 1) vertices) ≡ flat_map f (take index vertices) ++ found =
     ap (flat_map f) (take_more vertices index 0 below)
     ∙ flat_map-append f (take index vertices) (get_or vertices index 0 ∷ [])
-    ∙ ap (λ (found : List ℕ). flat_map f (take index vertices) ++ found) (flat_map-cons f (get_or vertices index 0) [] ∙ append-nil (f (get_or vertices index 0)) ∙ is) in
+    ∙ ap (λ (found : List ℕ). flat_map f (take index vertices) ++ found)
+    (flat_map-cons f (get_or vertices index 0) [] ∙ append-nil (f (get_or vertices index 0)) ∙ is) in
     rw grown (IsMarked-append level (flat_map f (take index vertices)) found first next mid next' last next'' one other)

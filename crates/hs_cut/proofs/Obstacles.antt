@@ -27,7 +27,8 @@ use Rattle.hs_cut.proofs.Among.{All-among}
 use Rattle.hs_cut.proofs.Steps.{IsStep, goal-back, start-back, step-complete, step-sound}
 
 -- the gate of an edge
-uncut_at : (edges : List CutEdge) (index : ℕ) (edge : CutEdge) → slice_get edges index ≡ Some edge → slice_index_or (map uncut_gate edges) index shut ≡ uncut_gate edge
+uncut_at : (edges : List CutEdge) (index : ℕ) (edge : CutEdge) → slice_get edges index ≡ Some edge
+    → slice_index_or (map uncut_gate edges) index shut ≡ uncut_gate edge
 uncut_at [] index edge found = absurd cc
 uncut_at (first ∷ edges) zero edge found = let same : first ≡ edge = cc in ap uncut_gate same
 uncut_at (first ∷ edges) (suc index) edge found = uncut_at edges index edge found
@@ -49,12 +50,16 @@ both_eq a b c d one other = ap (λ x. x && nat_eq b d) (eq-eqb a c one) ∙ eq-e
 joins-along : (edge : CutEdge) (along : Bool) (from to : ℕ) → start edge along ≡ from → goal edge along ≡ to → joins edge from to ≡ true
 joins-along edge true from to begins ends = ap (λ b. b || (nat_eq edge.from to && nat_eq edge.to from)) (both_eq edge.from edge.to from to begins ends)
 joins-along edge false from to begins ends =
-    ap (λ b. (nat_eq edge.from from && nat_eq edge.to to) || b) (both_eq edge.from edge.to to from ends begins) ∙ or-true (nat_eq edge.from from && nat_eq edge.to to)
+    ap (λ b. (nat_eq edge.from from && nat_eq edge.to to) || b) (both_eq edge.from edge.to to from ends begins)
+    ∙ or-true (nat_eq edge.from from && nat_eq edge.to to)
 
 -- a step joins
 step-joined : (edges : List CutEdge) (from to : ℕ) → IsStep edges (map uncut_gate edges) from to → is_joined edges from to ≡ true
 step-joined edges from to step =
-    let opened : not step.edge.slot ≡ true = sym (uncut_opens step.edge step.along) ∙ ap (λ (gate : Gate). opens gate step.along) (sym (uncut_at edges step.index step.edge step.found)) ∙ step.opened in
+    let opened : not step.edge.slot ≡ true =
+    sym (uncut_opens step.edge step.along)
+    ∙ ap (λ (gate : Gate). opens gate step.along) (sym (uncut_at edges step.index step.edge step.found))
+    ∙ step.opened in
     let joined : joins step.edge from to ≡ true = joins-along step.edge step.along from to step.begins step.ends in
     let test : (not step.edge.slot && joins step.edge from to) ≡ true = ap (λ b. b && joins step.edge from to) opened ∙ joined in
     let here : get_or edges step.index step.edge ≡ step.edge = get_or_from_slice_get edges step.index step.edge step.edge step.found in
@@ -64,7 +69,8 @@ step-joined edges from to step =
 -- and what is joined is a step
 joined-step : (edges : List CutEdge) (from to : ℕ) → is_joined edges from to ≡ true → IsStep edges (map uncut_gate edges) from to
 joined-step edges from to is =
-    let found : Any (λ (edge : CutEdge). (not edge.slot && joins edge from to) ≡ true) edges = Any-from_list_any (λ (edge : CutEdge). not edge.slot && joins edge from to) edges is in
+    let found : Any (λ (edge : CutEdge). (not edge.slot && joins edge from to) ≡ true) edges =
+    Any-from_list_any (λ (edge : CutEdge). not edge.slot && joins edge from to) edges is in
     let both = and_parts (not found.1.slot) (joins found.1 from to) found.4 in
     let at : slice_get edges found.0 ≡ Some found.1 = slice_get-get_or edges found.0 found.1 found.2 ∙ ap (λ edge. Some edge) found.3 in
     elim (or_cases (nat_eq found.1.from from && nat_eq found.1.to to) (nat_eq found.1.from to && nat_eq found.1.to from) both.1) [
@@ -101,11 +107,17 @@ step-back edges from to step =
       found = step.found;
       begins = start-back step.edge step.along ∙ step.ends;
       ends = goal-back step.edge step.along ∙ step.begins;
-      opened = ap (λ (gate : Gate). opens gate (not step.along)) gate ∙ uncut_opens step.edge (not step.along) ∙ sym (uncut_opens step.edge step.along) ∙ ap (λ (gate : Gate). opens gate step.along) (sym gate) ∙ step.opened;
+      opened =
+          ap (λ (gate : Gate). opens gate (not step.along)) gate
+          ∙ uncut_opens step.edge (not step.along)
+          ∙ sym (uncut_opens step.edge step.along)
+          ∙ ap (λ (gate : Gate). opens gate step.along) (sym gate)
+          ∙ step.opened;
     }
 
 -- an edge that is no slot is a step
-edge-step : (edges : List CutEdge) (index : ℕ) (edge : CutEdge) → slice_get edges index ≡ Some edge → edge.slot ≡ false → IsStep edges (map uncut_gate edges) edge.from edge.to
+edge-step : (edges : List CutEdge) (index : ℕ) (edge : CutEdge) → slice_get edges index ≡ Some edge → edge.slot ≡ false
+    → IsStep edges (map uncut_gate edges) edge.from edge.to
 edge-step edges index edge found slotless =
     record {
       index = index;
@@ -118,7 +130,8 @@ edge-step edges index edge found slotless =
     }
 
 -- two ends that both have a level, or neither
-alike : (one other : Option ℕ) → ((level : ℕ) → one ≡ Some level → IsWithinLevel (suc level) other) → ((level : ℕ) → other ≡ Some level → IsWithinLevel (suc level) one)
+alike : (one other : Option ℕ) → ((level : ℕ) → one ≡ Some level → IsWithinLevel (suc level) other)
+    → ((level : ℕ) → other ≡ Some level → IsWithinLevel (suc level) one)
     → xor (is_none one) (is_none other) ≡ false
 unfolding xor
 alike None None there back = refl
@@ -127,17 +140,22 @@ alike (Some level) None there back = absurd (there level refl)
 alike (Some level) (Some own) there back = refl
 
 -- where nothing that must be inside has a level, the vertices without one are a cut
-pub IsCut-unreached : (network : Network) (rows : List (Vec Arc Global)) (levels : List (Option ℕ)) → IsGraph network.edges rows → AreLevels (map uncut_gate network.edges) rows network.outside levels
+pub IsCut-unreached : (network : Network) (rows : List (Vec Arc Global)) (levels : List (Option ℕ)) → IsGraph network.edges rows
+    → AreLevels (map uncut_gate network.edges) rows network.outside levels
     → IsLeastLevel levels network.inside None → IsCut network (λ vertex. is_none (level_at levels vertex))
 IsCut-unreached network rows levels graph all none = record {
-  inside = All-among (λ vertex. IsTrue (is_none (level_at levels vertex))) network.inside (λ vertex is. blank (level_at levels vertex) (λ level at. none vertex level (is, at)));
+  inside =
+      All-among (λ vertex. IsTrue (is_none (level_at levels vertex))) network.inside
+      (λ vertex is. blank (level_at levels vertex) (λ level at. none vertex level (is, at)));
   outside = All-among (λ vertex. IsFalse (is_none (level_at levels vertex))) network.outside (λ vertex is. ap is_none (all.first vertex is));
   slotless = λ index default below slotless.
       let edge = get_or network.edges index default in
       let step = edge-step network.edges index edge (slice_get-get_or network.edges index default below) slotless in
       alike (level_at levels edge.from) (level_at levels edge.to)
       (λ level at. all.above edge.from edge.to level at (step-complete network.edges (map uncut_gate network.edges) rows edge.from edge.to graph step))
-      (λ level at. all.above edge.to edge.from level at (step-complete network.edges (map uncut_gate network.edges) rows edge.to edge.from graph (step-back network.edges edge.from edge.to step)));
+      (λ level at. all.above edge.to edge.from level at
+      (step-complete network.edges (map uncut_gate network.edges) rows edge.to edge.from graph
+      (step-back network.edges edge.from edge.to step)));
 }
   where
     blank : (own : Option ℕ) → ((level : ℕ) → own ≡ Some level → ⊥) → is_none own ≡ true
@@ -145,7 +163,8 @@ IsCut-unreached network rows levels graph all none = record {
     blank (Some level) no_level = absurd (no_level level refl)
 
 -- a step leads down from each vertex above level 0
-pub below-level : (edges : List CutEdge) (rows : List (Vec Arc Global)) (starts : List ℕ) (levels : List (Option ℕ)) → IsGraph edges rows → AreLevels (map uncut_gate edges) rows starts levels
+pub below-level : (edges : List CutEdge) (rows : List (Vec Arc Global)) (starts : List ℕ) (levels : List (Option ℕ))
+    → IsGraph edges rows → AreLevels (map uncut_gate edges) rows starts levels
     → (vertex level : ℕ) → level_at levels vertex ≡ Some (level + 1) → (next : ℕ) × IsAt levels level (next_to (map uncut_gate edges) rows vertex) next
 below-level edges rows starts levels graph all vertex level is =
     let same : level + 1 ≡ suc level = omega arith in
@@ -154,7 +173,8 @@ below-level edges rows starts levels graph all vertex level is =
     (below.0, (step-complete edges (map uncut_gate edges) rows vertex below.0 graph (step-back edges below.0 vertex step), below.1))
 
 -- the way down leads out
-descends-way : (network : Network) (rows : List (Vec Arc Global)) (levels : List (Option ℕ)) (level : ℕ) (path : List ℕ) → IsGraph network.edges rows → AreLevels (map uncut_gate network.edges) rows network.outside levels
+descends-way : (network : Network) (rows : List (Vec Arc Global)) (levels : List (Option ℕ)) (level : ℕ) (path : List ℕ)
+    → IsGraph network.edges rows → AreLevels (map uncut_gate network.edges) rows network.outside levels
     → Descends (map uncut_gate network.edges) rows levels level path → IsWayOut network path
 descends-way network rows levels level [] graph all down = down
 descends-way network rows levels level (last ∷ []) graph all down = all.origin last down.1
@@ -164,7 +184,8 @@ descends-way network rows levels level (vertex ∷ next ∷ path) graph all down
 )
 
 -- it has a vertex for each level
-descends-length : (gates : List Gate) (rows : List (Vec Arc Global)) (levels : List (Option ℕ)) (level : ℕ) (path : List ℕ) → Descends gates rows levels level path → length path ≡ suc level
+descends-length : (gates : List Gate) (rows : List (Vec Arc Global)) (levels : List (Option ℕ)) (level : ℕ) (path : List ℕ)
+    → Descends gates rows levels level path → length path ≡ suc level
 descends-length gates rows levels level [] down = absurd down
 descends-length gates rows levels level (last ∷ []) down = let zero_is : level ≡ 0 = down.0 in omega arith
 descends-length gates rows levels level (vertex ∷ next ∷ path) down =
@@ -177,19 +198,23 @@ more-within : (own : Option ℕ) (level it : ℕ) → own ≡ Some it → it ≤
 more-within own level it is below = rw is below
 
 -- a way out is no shorter than the level
-way-within : (network : Network) (rows : List (Vec Arc Global)) (levels : List (Option ℕ)) (vertex : ℕ) (rest : List ℕ) → IsGraph network.edges rows → AreLevels (map uncut_gate network.edges) rows network.outside levels
+way-within : (network : Network) (rows : List (Vec Arc Global)) (levels : List (Option ℕ)) (vertex : ℕ) (rest : List ℕ)
+    → IsGraph network.edges rows → AreLevels (map uncut_gate network.edges) rows network.outside levels
     → IsWayOut network (vertex ∷ rest) → IsWithinLevel (length rest) (level_at levels vertex)
 way-within network rows levels vertex [] graph all way = more-within (level_at levels vertex) 0 0 (all.first vertex way) (omega arith)
 way-within network rows levels vertex (next ∷ rest) graph all way =
     let later = further (level_at levels next) (length rest) (way-within network rows levels next rest graph all way.1) in
     let step = step-back network.edges vertex next (joined-step network.edges vertex next way.0) in
-    let up = further (level_at levels vertex) (suc later.0) (all.above next vertex later.0 later.1 (step-complete network.edges (map uncut_gate network.edges) rows next vertex graph step)) in
+    let up =
+    further (level_at levels vertex) (suc later.0)
+    (all.above next vertex later.0 later.1 (step-complete network.edges (map uncut_gate network.edges) rows next vertex graph step)) in
     let low : later.0 ≤ length rest = later.2 in
     let high : up.0 ≤ suc later.0 = up.2 in
     more-within (level_at levels vertex) (suc (length rest)) up.0 up.1 (omega arith)
 
 -- the first of two words that differ is less
-is_le-cons : (one other : ℕ) (path rest : List ℕ) → one ≤ other → (one ≡ other → is_le (slice_cmp nat_cmp path rest) ≡ true) → is_le (slice_cmp nat_cmp (one ∷ path) (other ∷ rest)) ≡ true
+is_le-cons : (one other : ℕ) (path rest : List ℕ) → one ≤ other → (one ≡ other → is_le (slice_cmp nat_cmp path rest) ≡ true)
+    → is_le (slice_cmp nat_cmp (one ∷ path) (other ∷ rest)) ≡ true
 is_le-cons one other path rest below same = elim (cases_order one other) [
   | inl is ↦ ap (λ o. is_le (ordering_then o (slice_cmp nat_cmp path rest))) (sym (nat_cmp_is one other Equal is)) ∙ same is
   | inr apart ↦ elim apart [
@@ -199,8 +224,10 @@ is_le-cons one other path rest below same = elim (cases_order one other) [
 ]
 
 -- the way down is the least
-descends-least : (network : Network) (rows : List (Vec Arc Global)) (levels : List (Option ℕ)) (level vertex : ℕ) (path other : List ℕ) → IsGraph network.edges rows → AreLevels (map uncut_gate network.edges) rows network.outside levels
-    → level_at levels vertex ≡ Some level → Descends (map uncut_gate network.edges) rows levels level (vertex ∷ path) → IsWayOut network (vertex ∷ other) → length other ≡ level
+descends-least : (network : Network) (rows : List (Vec Arc Global)) (levels : List (Option ℕ)) (level vertex : ℕ) (path other : List ℕ)
+    → IsGraph network.edges rows → AreLevels (map uncut_gate network.edges) rows network.outside levels
+    → level_at levels vertex ≡ Some level → Descends (map uncut_gate network.edges) rows levels level (vertex ∷ path)
+    → IsWayOut network (vertex ∷ other) → length other ≡ level
     → is_le (slice_cmp nat_cmp path other) ≡ true
 descends-least network rows levels level vertex [] [] graph all at down way long = refl
 descends-least network rows levels level vertex [] (next ∷ other) graph all at down way long = absurd (let zero_is : level ≡ 0 = down.0 in omega arith)
@@ -209,7 +236,9 @@ descends-least network rows levels level vertex (next ∷ path) (found ∷ other
     let same : level ≡ suc down.0 = down.1 in
     let later = further (level_at levels found) (length other) (way-within network rows levels found other graph all way.1) in
     let step = joined-step network.edges vertex found way.0 in
-    let up = all.above found vertex later.0 later.1 (step-complete network.edges (map uncut_gate network.edges) rows found vertex graph (step-back network.edges vertex found step)) in
+    let up =
+    all.above found vertex later.0 later.1
+    (step-complete network.edges (map uncut_gate network.edges) rows found vertex graph (step-back network.edges vertex found step)) in
     let high : level ≤ suc later.0 = rw at at up in
     let low : later.0 ≤ length other = later.2 in
     let equal : later.0 ≡ down.0 = omega arith in
@@ -220,8 +249,10 @@ descends-least network rows levels level vertex (next ∷ path) (found ∷ other
     descends-least network rows levels down.0 next path other graph all down.2.0.1 down.3 way_ (omega arith))
 
 -- from the least vertex of the least level it is the least obstacle
-pub IsLeastObstacle-descent : (network : Network) (rows : List (Vec Arc Global)) (levels : List (Option ℕ)) (level first : ℕ) (rest : List ℕ) → IsGraph network.edges rows → AreLevels (map uncut_gate network.edges) rows network.outside levels
-    → IsLeastLevel levels network.inside (Some level) → IsLeastAt levels level network.inside (Some first) → Descends (map uncut_gate network.edges) rows levels level (first ∷ rest)
+pub IsLeastObstacle-descent : (network : Network) (rows : List (Vec Arc Global)) (levels : List (Option ℕ)) (level first : ℕ)
+    (rest : List ℕ) → IsGraph network.edges rows → AreLevels (map uncut_gate network.edges) rows network.outside levels
+    → IsLeastLevel levels network.inside (Some level) → IsLeastAt levels level network.inside (Some first)
+    → Descends (map uncut_gate network.edges) rows levels level (first ∷ rest)
     → IsLeastObstacle network (first ∷ rest)
 IsLeastObstacle-descent network rows levels level first rest graph all low least down = record {
   obstacle = record { begins = least.0.0; way = descends-way network rows levels level (first ∷ rest) graph all down };

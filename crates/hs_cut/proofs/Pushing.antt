@@ -41,7 +41,8 @@ pub record IsUnderway (edges : List CutEdge) (levels : List (Option ℕ)) (end v
   pub at : level_at levels vertex ≡ Some level
   pub long : length after ≡ length before
   pub each : (index : ℕ) → index < length edges
-      → (amount_at after index ≡ amount_at before index) ⊎ (IsAbove levels level (edge_at edges index) × IsGrown (edge_at edges index) (amount_at before index) (amount_at after index))
+      → (amount_at after index ≡ amount_at before index)
+      ⊎ (IsAbove levels level (edge_at edges index) × IsGrown (edge_at edges index) (amount_at before index) (amount_at after index))
   pub net : (side : Side) → net_out side edges after +ℤ count (side end) ≡ net_out side edges before +ℤ count (side vertex)
 
 -- the ways over an edge by which more may flow
@@ -109,14 +110,17 @@ unit-slot edge amount false slot small opened =
 
 -- what one unit more takes out of a set
 out_along : (from to : Bool) (amount : ℤ)
-    → (cond from (amount +ℤ pos 1) (pos 0) -ℤ cond to (amount +ℤ pos 1) (pos 0)) -ℤ (cond from amount (pos 0) -ℤ cond to amount (pos 0)) ≡ count from -ℤ count to
+    → (cond from (amount +ℤ pos 1) (pos 0) -ℤ cond to (amount +ℤ pos 1) (pos 0)) -ℤ (cond from amount (pos 0) -ℤ cond to amount (pos 0))
+    ≡ count from -ℤ count to
 out_along true true amount = omega (arith, ints)
 out_along true false amount = omega (arith, ints)
 out_along false true amount = omega (arith, ints)
 out_along false false amount = omega (arith, ints)
 
 out_against : (from to : Bool) (amount : ℤ)
-    → (cond from (amount +ℤ negsuc 0) (pos 0) -ℤ cond to (amount +ℤ negsuc 0) (pos 0)) -ℤ (cond from amount (pos 0) -ℤ cond to amount (pos 0)) ≡ count to -ℤ count from
+    → (cond from (amount +ℤ negsuc 0) (pos 0) -ℤ cond to (amount +ℤ negsuc 0) (pos 0))
+    -ℤ (cond from amount (pos 0) -ℤ cond to amount (pos 0))
+    ≡ count to -ℤ count from
 out_against true true amount = omega (arith, ints)
 out_against true false amount = omega (arith, ints)
 out_against false true amount = omega (arith, ints)
@@ -139,7 +143,9 @@ IsUnderway-step edges gates levels end vertex level before after arc gates_are l
   each = λ index below. elim (eqb_tells index arc.edge) [
     | inl here ↦ inr (rw here.1 (above, grown))
     | inr apart ↦
-        let same : amount_at (slice_set after arc.edge (with_unit (amount_at after arc.edge) (not arc.along))) index ≡ amount_at after index = get_or-set_other after arc.edge index (with_unit (amount_at after arc.edge) (not arc.along)) (pos 0) apart.1 in
+        let same : amount_at (slice_set after arc.edge (with_unit (amount_at after arc.edge) (not arc.along))) index
+        ≡ amount_at after index =
+        get_or-set_other after arc.edge index (with_unit (amount_at after arc.edge) (not arc.along)) (pos 0) apart.1 in
         elim (under.each index below) [
           | inl old ↦ inl (same ∙ old)
           | inr up ↦ inr ((up.0.0, (let high : suc level < up.0.0 = up.0.1 in omega arith), up.0.2), rw same up.1)
@@ -147,10 +153,17 @@ IsUnderway-step edges gates levels end vertex level before after arc gates_are l
   ];
   net = λ side.
       let changes = net_out-slice_set side edges after arc.edge (with_unit (amount_at after arc.edge) (not arc.along)) (pos 0) no_edge within inside in
-      let out : out_over side (edge_at edges arc.edge) (with_unit (amount_at after arc.edge) (not arc.along)) -ℤ out_over side (edge_at edges arc.edge) (amount_at after arc.edge) ≡ count (side arc.to) -ℤ count (side vertex) =
-      rw is (unit-out side way.0 (amount_at after arc.edge) (not arc.along) ∙ ap (λ n. count (side n) -ℤ count (side (goal way.0 (not arc.along)))) (start-back way.0 arc.along ∙ way.3) ∙ ap (λ n. count (side arc.to) -ℤ count (side n)) (goal-back way.0 arc.along ∙ way.2)) in
-      moved (net_out side edges (slice_set after arc.edge (with_unit (amount_at after arc.edge) (not arc.along)))) (net_out side edges after) (net_out side edges before)
-      (out_over side (edge_at edges arc.edge) (with_unit (amount_at after arc.edge) (not arc.along)) -ℤ out_over side (edge_at edges arc.edge) (amount_at after arc.edge))
+      let out : out_over side (edge_at edges arc.edge) (with_unit (amount_at after arc.edge) (not arc.along))
+      -ℤ out_over side (edge_at edges arc.edge) (amount_at after arc.edge)
+      ≡ count (side arc.to) -ℤ count (side vertex) =
+      rw is
+      (unit-out side way.0 (amount_at after arc.edge) (not arc.along)
+      ∙ ap (λ n. count (side n) -ℤ count (side (goal way.0 (not arc.along)))) (start-back way.0 arc.along ∙ way.3)
+      ∙ ap (λ n. count (side arc.to) -ℤ count (side n)) (goal-back way.0 arc.along ∙ way.2)) in
+      moved (net_out side edges (slice_set after arc.edge (with_unit (amount_at after arc.edge) (not arc.along))))
+      (net_out side edges after) (net_out side edges before)
+      (out_over side (edge_at edges arc.edge) (with_unit (amount_at after arc.edge) (not arc.along))
+      -ℤ out_over side (edge_at edges arc.edge) (amount_at after arc.edge))
       (count (side arc.to)) (count (side vertex)) (count (side end)) changes out (under.net side);
 }
   where
@@ -166,8 +179,11 @@ IsUnderway-step edges gates levels end vertex level before after arc gates_are l
     old : amount_at after arc.edge ≡ amount_at before arc.edge
     old = untouched edges levels end vertex level before after arc under way leads.0
 
-    new : amount_at (slice_set after arc.edge (with_unit (amount_at after arc.edge) (not arc.along))) arc.edge ≡ with_unit (amount_at before arc.edge) (not arc.along)
-    new = get_or-set_same after arc.edge (with_unit (amount_at after arc.edge) (not arc.along)) (pos 0) inside ∙ ap (λ amount. with_unit amount (not arc.along)) old
+    new : amount_at (slice_set after arc.edge (with_unit (amount_at after arc.edge) (not arc.along))) arc.edge
+        ≡ with_unit (amount_at before arc.edge) (not arc.along)
+    new =
+        get_or-set_same after arc.edge (with_unit (amount_at after arc.edge) (not arc.along)) (pos 0) inside
+        ∙ ap (λ amount. with_unit amount (not arc.along)) old
 
     opened : opens (residual (edge_at edges arc.edge) (amount_at before arc.edge)) (not arc.along) ≡ true
     opened =
@@ -180,18 +196,23 @@ IsUnderway-step edges gates levels end vertex level before after arc gates_are l
     above : IsAbove levels level (edge_at edges arc.edge)
     above = rw is (suc level, omega arith, ends way.0 arc.along way.2)
       where
-        ends : (edge : CutEdge) (along : Bool) → start edge along ≡ vertex → (level_at levels edge.from ≡ Some (suc level)) ⊎ (level_at levels edge.to ≡ Some (suc level))
+        ends : (edge : CutEdge) (along : Bool) → start edge along ≡ vertex
+            → (level_at levels edge.from ≡ Some (suc level)) ⊎ (level_at levels edge.to ≡ Some (suc level))
         ends edge true begins = inl (ap (level_at levels) begins ∙ under.at)
         ends edge false begins = inr (ap (level_at levels) begins ∙ under.at)
 
-    grown : IsGrown (edge_at edges arc.edge) (amount_at before arc.edge) (amount_at (slice_set after arc.edge (with_unit (amount_at after arc.edge) (not arc.along))) arc.edge)
+    grown : IsGrown (edge_at edges arc.edge) (amount_at before arc.edge)
+        (amount_at (slice_set after arc.edge (with_unit (amount_at after arc.edge) (not arc.along))) arc.edge)
     grown = rw new (record {
       size = unit-size (amount_at before arc.edge) (not arc.along);
       slot = λ slot. unit-slot (edge_at edges arc.edge) (amount_at before arc.edge) (not arc.along) slot
-          (let small : nat_abs (amount_at before arc.edge) ≤ cond (edge_at edges arc.edge).slot 1 2147483647 = sized arc.edge within in rw slot at small) opened;
+          (let small : nat_abs (amount_at before arc.edge) ≤ cond (edge_at edges arc.edge).slot 1 2147483647 = sized arc.edge within in
+          rw slot at small)
+          opened;
     })
 
-    moved : (new after before change to vertex end : ℤ) → new ≡ after +ℤ change → change ≡ to -ℤ vertex → after +ℤ end ≡ before +ℤ vertex → new +ℤ end ≡ before +ℤ to
+    moved : (new after before change to vertex end : ℤ) → new ≡ after +ℤ change → change ≡ to -ℤ vertex
+        → after +ℤ end ≡ before +ℤ vertex → new +ℤ end ≡ before +ℤ to
     moved new after before change to vertex end one two three = omega (arith, ints)
 
 -- a small amount is what a signed number of 64 bits can be
@@ -211,8 +232,10 @@ untouched-small edges levels end vertex level before after arc sized under way l
     bounded false size is = is
 
 -- an arc that is read from the vertex's row goes over an edge, out of the vertex
-pub IsArc-read : (edges : List CutEdge) (rows : List (Vec Arc Global)) (levels : List (Option ℕ)) (vertex level : ℕ) (row : Vec Arc Global) (arcs : List Arc) (arc : Arc)
-    → IsGraph edges rows → length levels ≡ length rows → level_at levels vertex ≡ Some level → row ≡ get_or rows vertex row → arcs ≡ row.items → Contains arcs arc
+pub IsArc-read : (edges : List CutEdge) (rows : List (Vec Arc Global)) (levels : List (Option ℕ)) (vertex level : ℕ)
+    (row : Vec Arc Global) (arcs : List Arc) (arc : Arc)
+    → IsGraph edges rows → length levels ≡ length rows → level_at levels vertex ≡ Some level → row ≡ get_or rows vertex row
+    → arcs ≡ row.items → Contains arcs arc
     → IsArc edges vertex arc
 IsArc-read edges rows levels vertex level row arcs arc graph long at is same has =
     let within = level-within levels vertex level at in
@@ -224,6 +247,7 @@ IsArc-read edges rows levels vertex level row arcs arc graph long at is same has
 pub with_unit-read : (amount read result : ℤ) (along : Bool) → read ≡ amount → nat_abs amount ≤ 2147483647 → result ≡ with_unit (to_z w64 (of_z w64 read)) along
     → to_z w64 (of_z w64 result) ≡ with_unit amount along
 with_unit-read amount read result along same small is =
-    let plain : result ≡ with_unit amount along = is ∙ ap (λ n. with_unit (to_z w64 (of_z w64 n)) along) same ∙ ap (λ n. with_unit n along) (to_z-small amount (omega arith)) in
+    let plain : result ≡ with_unit amount along =
+    is ∙ ap (λ n. with_unit (to_z w64 (of_z w64 n)) along) same ∙ ap (λ n. with_unit n along) (to_z-small amount (omega arith)) in
     let size : nat_abs (with_unit amount along) ≤ 2147483648 = (let more_ = unit-size amount along in omega arith) in
     rw plain (to_z-small (with_unit amount along) size)

@@ -35,7 +35,8 @@ pub arcs_from-put : (rows : List (Vec Arc Global)) (vertex : ℕ) (before after 
 arcs_from-put rows vertex before after arc other below is put = elim (eqb_tells other vertex) [
   | inl same ↦
       ap (arcs_from (set rows vertex after)) same.1
-      ∙ (let inside : vertex < length (set rows vertex after) = omega (arith, length-set {A = Vec Arc Global}) in arcs_from-row (set rows vertex after) vertex after inside (sym (get_or-set_same rows vertex after after below)))
+      ∙ (let inside : vertex < length (set rows vertex after) = omega (arith, length-set {A = Vec Arc Global}) in
+      arcs_from-row (set rows vertex after) vertex after inside (sym (get_or-set_same rows vertex after after below)))
       ∙ put
       ∙ ap (λ (arcs : List Arc). arcs ++ arc ∷ []) (sym (arcs_from-row rows vertex before below is) ∙ ap (arcs_from rows) (sym same.1))
       ∙ ap (λ b. arcs_from rows other ++ cond b (arc ∷ []) []) (sym same.0)
@@ -54,10 +55,13 @@ arcs_at-push vertex index (first ∷ edges) edge at is =
     ∙ sym (append_assoc (own_arcs vertex index first) (arcs_at vertex (suc index) edges) (own_arcs vertex at edge))
 
 -- the arcs over the edges so far and one more, which is put to both rows
-pub arcs_at-more : (rows mid after : List (Vec Arc Global)) (edges : List CutEdge) (index : ℕ) (edge : CutEdge) → index < length edges → edge ≡ get_or edges index edge
+pub arcs_at-more : (rows mid after : List (Vec Arc Global)) (edges : List CutEdge) (index : ℕ) (edge : CutEdge) → index < length edges
+    → edge ≡ get_or edges index edge
     → ((vertex : ℕ) → arcs_from rows vertex ≡ arcs_at vertex 0 (take index edges))
-    → ((vertex : ℕ) → arcs_from mid vertex ≡ arcs_from rows vertex ++ cond (nat_eq vertex edge.from) (record { to = edge.to; edge = index; along = true } ∷ []) [])
-    → ((vertex : ℕ) → arcs_from after vertex ≡ arcs_from mid vertex ++ cond (nat_eq vertex edge.to) (record { to = edge.from; edge = index; along = false } ∷ []) [])
+    → ((vertex : ℕ) → arcs_from mid vertex
+    ≡ arcs_from rows vertex ++ cond (nat_eq vertex edge.from) (record { to = edge.to; edge = index; along = true } ∷ []) [])
+    → ((vertex : ℕ) → arcs_from after vertex
+    ≡ arcs_from mid vertex ++ cond (nat_eq vertex edge.to) (record { to = edge.from; edge = index; along = false } ∷ []) [])
     → (vertex : ℕ) → arcs_from after vertex ≡ arcs_at vertex 0 (take (index + 1) edges)
 arcs_at-more rows mid after edges index edge below is graph along against vertex =
     let out : List Arc = cond (nat_eq vertex edge.from) (record { to = edge.to; edge = index; along = true } ∷ []) [] in

@@ -15,7 +15,8 @@ use Rattle.std.proofs.Math.ListN.{get_or-eq_default}
 use Rattle.hs_cut.proofs.Among.{All-among, among-flat_map, flat_map-among}
 
 -- All levels up to this one are right, and the frontier has the vertices of this one.
-pub record IsFrontier (gates : List Gate) (rows : List (Vec Arc Global)) (starts : List ℕ) (levels : List (Option ℕ)) (frontier : List ℕ) (level : ℕ) : Type 0 where
+pub record IsFrontier (gates : List Gate) (rows : List (Vec Arc Global)) (starts : List ℕ) (levels : List (Option ℕ)) (frontier : List ℕ)
+    (level : ℕ) : Type 0 where
   pub long : length levels ≡ length rows
   pub first : (vertex : ℕ) → IsTrue (among starts vertex) → level_at levels vertex ≡ Some 0
   pub origin : (vertex : ℕ) → level_at levels vertex ≡ Some 0 → IsTrue (among starts vertex)
@@ -41,12 +42,14 @@ came level own true None after is now = inr (refl, refl, cc)
 came level own false None after is now = absurd cc
 
 -- what is marked has a level that is no higher
-within : (level : ℕ) (before after : Option ℕ) → after ≡ level_after level true before → ((own : ℕ) → before ≡ Some own → own ≤ level) → IsWithinLevel level after
+within : (level : ℕ) (before after : Option ℕ) → after ≡ level_after level true before → ((own : ℕ) → before ≡ Some own → own ≤ level)
+    → IsWithinLevel level after
 within level None after is most = rw is (omega arith)
 within level (Some old) after is most = rw is (most old refl)
 
 -- what had a level within has it still
-still : (level bound : ℕ) (is_one : Bool) (before after : Option ℕ) → after ≡ level_after level is_one before → IsWithinLevel bound before → IsWithinLevel bound after
+still : (level bound : ℕ) (is_one : Bool) (before after : Option ℕ) → after ≡ level_after level is_one before
+    → IsWithinLevel bound before → IsWithinLevel bound after
 still level bound is_one None after is old = absurd old
 still level bound is_one (Some own) after is old = rw is old
 
@@ -90,7 +93,8 @@ IsFrontier-starts gates rows starts blank levels frontier long none marked = rec
     ]
 
 -- what is a step from a frontier is the next one
-pub IsFrontier-next : (gates : List Gate) (rows : List (Vec Arc Global)) (starts : List ℕ) (levels : List (Option ℕ)) (frontier : List ℕ) (level : ℕ) (levels' : List (Option ℕ)) (next : List ℕ)
+pub IsFrontier-next : (gates : List Gate) (rows : List (Vec Arc Global)) (starts : List ℕ) (levels : List (Option ℕ))
+    (frontier : List ℕ) (level : ℕ) (levels' : List (Option ℕ)) (next : List ℕ)
     → IsFrontier gates rows starts levels frontier level → 0 < length frontier
     → IsMarked (suc level) (flat_map (next_to gates rows) frontier) levels [] levels' next
     → IsFrontier gates rows starts levels' next (suc level)
@@ -111,10 +115,15 @@ IsFrontier-next gates rows starts levels frontier level levels' next old some ma
   above = λ from vertex own below is step. elim (comes from own is) [
     | inl was ↦ elim (cases_order own level) [
       | inl same ↦ rw same (
-          let marks : among (flat_map (next_to gates rows) frontier) vertex ≡ true = flat_map-among (next_to gates rows) frontier from vertex (old.has from (was ∙ ap (λ n. Some n) same)) step in
-          within (suc level) (level_at levels vertex) (level_at levels' vertex) (marked.each vertex ∙ ap (λ b. level_after (suc level) b (level_at levels vertex)) marks) (λ other other_is. let most = old.most vertex other other_is in omega arith))
+          let marks : among (flat_map (next_to gates rows) frontier) vertex ≡ true =
+          flat_map-among (next_to gates rows) frontier from vertex (old.has from (was ∙ ap (λ n. Some n) same)) step in
+          within (suc level) (level_at levels vertex) (level_at levels' vertex)
+          (marked.each vertex ∙ ap (λ b. level_after (suc level) b (level_at levels vertex)) marks)
+          (λ other other_is. let most = old.most vertex other other_is in omega arith))
       | inr apart ↦ elim apart [
-        | inl less ↦ still (suc level) (suc own) (among (flat_map (next_to gates rows) frontier) vertex) (level_at levels vertex) (level_at levels' vertex) (marked.each vertex) (old.above from vertex own less was step)
+        | inl less ↦
+            still (suc level) (suc own) (among (flat_map (next_to gates rows) frontier) vertex) (level_at levels vertex)
+            (level_at levels' vertex) (marked.each vertex) (old.above from vertex own less was step)
         | inr greater ↦ absurd (let most = old.most from own was in omega arith)
       ]
     ]
@@ -130,16 +139,22 @@ IsFrontier-next gates rows starts levels frontier level levels' next old some ma
   ];
   only = λ vertex is.
       let was = put_new (level_at levels vertex) (among (flat_map (next_to gates rows) frontier) vertex) (among next vertex) (marked.put vertex) is in
-      new_level (suc level) (among (flat_map (next_to gates rows) frontier) vertex) (level_at levels vertex) (level_at levels' vertex) (marked.each vertex) was.0 was.1;
+      new_level (suc level) (among (flat_map (next_to gates rows) frontier) vertex) (level_at levels vertex) (level_at levels' vertex)
+      (marked.each vertex) was.0 was.1;
   budget = let balance = marked.balance in let budget = old.budget in omega arith;
 }
   where
     keeps : (vertex own : ℕ) → level_at levels vertex ≡ Some own → level_at levels' vertex ≡ Some own
-    keeps vertex own is = kept (suc level) own (among (flat_map (next_to gates rows) frontier) vertex) (level_at levels vertex) (level_at levels' vertex) (marked.each vertex) is
+    keeps vertex own is =
+        kept (suc level) own (among (flat_map (next_to gates rows) frontier) vertex) (level_at levels vertex) (level_at levels' vertex)
+        (marked.each vertex) is
 
     comes : (vertex own : ℕ) → level_at levels' vertex ≡ Some own
-        → (level_at levels vertex ≡ Some own) ⊎ ((level_at levels vertex ≡ None) × (among (flat_map (next_to gates rows) frontier) vertex ≡ true) × (own ≡ suc level))
-    comes vertex own is = came (suc level) own (among (flat_map (next_to gates rows) frontier) vertex) (level_at levels vertex) (level_at levels' vertex) (marked.each vertex) is
+        → (level_at levels vertex ≡ Some own)
+        ⊎ ((level_at levels vertex ≡ None) × (among (flat_map (next_to gates rows) frontier) vertex ≡ true) × (own ≡ suc level))
+    comes vertex own is =
+        came (suc level) own (among (flat_map (next_to gates rows) frontier) vertex) (level_at levels vertex) (level_at levels' vertex)
+        (marked.each vertex) is
 
 -- where the frontier has no vertex, all levels are there
 pub AreLevels-done : (gates : List Gate) (rows : List (Vec Arc Global)) (starts : List ℕ) (levels : List (Option ℕ)) (level : ℕ)
@@ -172,7 +187,8 @@ level-within levels vertex own is = elim (cases_order vertex (length levels)) [
 pub IsFrontier-within : (gates : List Gate) (rows : List (Vec Arc Global)) (starts : List ℕ) (levels : List (Option ℕ)) (frontier : List ℕ) (level : ℕ)
     → IsFrontier gates rows starts levels frontier level → All (λ vertex. vertex < length rows) frontier
 IsFrontier-within gates rows starts levels frontier level all =
-    All-among (λ vertex. vertex < length rows) frontier (λ vertex is. let inside = level-within levels vertex level (all.only vertex is) in let long = all.long in omega arith)
+    All-among (λ vertex. vertex < length rows) frontier
+    (λ vertex is. let inside = level-within levels vertex level (all.only vertex is) in let long = all.long in omega arith)
 
 -- a list without a vertex
 pub no_vertex : (vertices : List ℕ) → length vertices ≡ 0 → vertices ≡ []

@@ -28,7 +28,8 @@ use Rattle.hs_cut.proofs.Pushing.{residual_at}
 use Rattle.hs_cut.proofs.Steps.{IsStep, step-complete, step-sound}
 
 -- a way over an edge by which more may flow is a step
-residual-step : (edges : List CutEdge) (flow : List ℤ) (index : ℕ) (edge : CutEdge) (along : Bool) → length flow ≡ length edges → slice_get edges index ≡ Some edge
+residual-step : (edges : List CutEdge) (flow : List ℤ) (index : ℕ) (edge : CutEdge) (along : Bool) → length flow ≡ length edges
+    → slice_get edges index ≡ Some edge
     → opens (residual edge (amount_at flow index)) along ≡ true → IsStep edges (residuals edges flow) (start edge along) (goal edge along)
 residual-step edges flow index edge along long found opened = record {
   index = index;
@@ -50,11 +51,15 @@ within-some level None is = absurd is
 within-some level (Some own) is = refl
 
 -- a step leads from what was reached to what was reached
-pub reached-step : (network : Network) (rows : List (Vec Arc Global)) (flow : List ℤ) (levels : List (Option ℕ)) (side : Side) → IsGraph network.edges rows → IsFull network rows flow levels
-    → ((vertex : ℕ) → side vertex ≡ is_some (level_at levels vertex)) → (from to : ℕ) → IsStep network.edges (residuals network.edges flow) from to → side from ≡ true → side to ≡ true
+pub reached-step : (network : Network) (rows : List (Vec Arc Global)) (flow : List ℤ) (levels : List (Option ℕ)) (side : Side)
+    → IsGraph network.edges rows → IsFull network rows flow levels
+    → ((vertex : ℕ) → side vertex ≡ is_some (level_at levels vertex)) → (from to : ℕ)
+    → IsStep network.edges (residuals network.edges flow) from to → side from ≡ true → side to ≡ true
 reached-step network rows flow levels side graph full is from to step there =
     let own = some-level (level_at levels from) (sym (is from) ∙ there) in
-    is to ∙ within-some (suc own.0) (level_at levels to) (full.searched.above from to own.0 own.1 (step-complete network.edges (residuals network.edges flow) rows from to graph step))
+    is to
+    ∙ within-some (suc own.0) (level_at levels to)
+    (full.searched.above from to own.0 own.1 (step-complete network.edges (residuals network.edges flow) rows from to graph step))
 
 -- over an edge that is no slot more may flow, either way
 slotless-opens : (edge : CutEdge) (amount : ℤ) (along : Bool) → edge.slot ≡ false → opens (residual edge amount) along ≡ true
@@ -70,7 +75,8 @@ alike false true there back = absurd (let both : false ≡ true = back refl in c
 alike false false there back = refl
 
 -- what was reached is a cut
-pub IsCut-reached : (network : Network) (rows : List (Vec Arc Global)) (flow : List ℤ) (levels : List (Option ℕ)) (side : Side) → IsGraph network.edges rows → IsFull network rows flow levels
+pub IsCut-reached : (network : Network) (rows : List (Vec Arc Global)) (flow : List ℤ) (levels : List (Option ℕ)) (side : Side)
+    → IsGraph network.edges rows → IsFull network rows flow levels
     → ((vertex : ℕ) → side vertex ≡ is_some (level_at levels vertex)) → IsCut network side
 IsCut-reached network rows flow levels side graph full is = record {
   inside = All-among (λ vertex. IsTrue (side vertex)) network.inside (λ vertex there. is vertex ∙ ap is_some (full.searched.first vertex there));
@@ -119,7 +125,9 @@ edge-full true false edge amount small along against =
     closed true no_ = absurd (let both : false ≡ true = no_ refl in cc)
     closed false no_ = refl
 edge-full false true edge amount small along against =
-    let one : amount ≡ negsuc 0 = full-against edge amount small (closed (opens (residual edge amount) false) (λ opened. against opened refl)) in omega (arith, ints)
+    let one : amount ≡ negsuc 0 =
+    full-against edge amount small (closed (opens (residual edge amount) false) (λ opened. against opened refl)) in
+    omega (arith, ints)
   where
     closed : (b : Bool) → (b ≡ true → false ≡ true) → b ≡ false
     closed true no_ = absurd (let both : false ≡ true = no_ refl in cc)
@@ -133,7 +141,8 @@ net_out-full side [] flow long each = refl
 net_out-full side (edge ∷ edges) [] long each = absurd (omega arith)
 net_out-full side (edge ∷ edges) (amount ∷ flow) long each =
     let rest = net_out-full side edges flow (omega arith) (λ index below. each (suc index) (omega arith)) in
-    sum (out_over side edge amount) (net_out side edges flow) (cond (crosses side edge) 1 0) (crossings side edges) (crossings side (edge ∷ edges)) (each zero (omega arith)) rest (crossings-cons side edge edges)
+    sum (out_over side edge amount) (net_out side edges flow) (cond (crosses side edge) 1 0) (crossings side edges)
+    (crossings side (edge ∷ edges)) (each zero (omega arith)) rest (crossings-cons side edge edges)
   where
     sum : (one rest : ℤ) (a b all : ℕ) → one ≡ pos a → rest ≡ pos b → all ≡ a + b → one +ℤ rest ≡ pos all
     sum one rest a b all first others both = omega (arith, ints)
@@ -144,10 +153,15 @@ AreOfSize-sized network flow long sized index default below =
     let many = length-zip network.edges flow in
     let within : index < length network.edges = omega arith in
     let inside : index < length flow = omega arith in
-    rw (get_or-zip network.edges flow index default within inside, get_or_default network.edges index default.0 no_edge within, get_or_default flow index default.1 (pos 0) inside) (sized index within)
+    rw (
+      get_or-zip network.edges flow index default within inside,
+      get_or_default network.edges index default.0 no_edge within,
+      get_or_default flow index default.1 (pos 0) inside,
+    ) (sized index within)
 
 -- the flow fits what was reached
-pub Fits-reached : (network : Network) (rows : List (Vec Arc Global)) (flow : List ℤ) (levels : List (Option ℕ)) (side : Side) → IsNumbered network → length network.edges < 2147483648 → IsGraph network.edges rows
+pub Fits-reached : (network : Network) (rows : List (Vec Arc Global)) (flow : List ℤ) (levels : List (Option ℕ)) (side : Side)
+    → IsNumbered network → length network.edges < 2147483648 → IsGraph network.edges rows
     → IsFull network rows flow levels → ((vertex : ℕ) → side vertex ≡ is_some (level_at levels vertex)) → Fits network side flow
 Fits-reached network rows flow levels side numbered countable graph full is = record {
   each = partial.long;
@@ -168,13 +182,16 @@ Fits-reached network rows flow levels side numbered countable graph full is = re
     sized : IsSized network.edges flow
     sized = IsSized-partial network full.partial.0 flow partial (let few = units-length network full.partial.0 flow side numbered partial cut in omega arith)
 
-    each : (index : ℕ) → index < length network.edges → out_over side (edge_at network.edges index) (amount_at flow index) ≡ pos (cond (crosses side (edge_at network.edges index)) 1 0)
+    each : (index : ℕ) → index < length network.edges
+        → out_over side (edge_at network.edges index) (amount_at flow index) ≡ pos (cond (crosses side (edge_at network.edges index)) 1 0)
     each index below =
         let edge = edge_at network.edges index in
         let found = slice_get-get_or network.edges index no_edge below in
         edge-full (side edge.from) (side edge.to) edge (amount_at flow index) (sized index below)
-        (λ opened. reached-step network rows flow levels side graph full is edge.from edge.to (residual-step network.edges flow index edge true partial.long found opened))
-        (λ opened. reached-step network rows flow levels side graph full is edge.to edge.from (residual-step network.edges flow index edge false partial.long found opened))
+        (λ opened. reached-step network rows flow levels side graph full is edge.from edge.to
+        (residual-step network.edges flow index edge true partial.long found opened))
+        (λ opened. reached-step network rows flow levels side graph full is edge.to edge.from
+        (residual-step network.edges flow index edge false partial.long found opened))
 
 -- no more may flow over an edge that leaves a least cut
 leaves : (edge : CutEdge) (amount : ℤ) (along : Bool) → opens (residual edge amount) along ≡ true → amount ≡ cond along (pos 1) (negsuc 0) → edge.slot ≡ false
@@ -213,7 +230,8 @@ step-stays network flow side other from to numbered fits least_ step there = spl
     opened : opens (residual step.edge (amount_at flow step.index)) step.along ≡ true
     opened = ap (λ gate. opens gate step.along) (sym (residual_at network.edges flow step.index step.edge step.found fits.each)) ∙ step.opened
 
-    carried : (along : Bool) → start step.edge along ≡ from → goal step.edge along ≡ to → other to ≡ false → amount_at flow step.index ≡ cond along (pos 1) (negsuc 0)
+    carried : (along : Bool) → start step.edge along ≡ from → goal step.edge along ≡ to → other to ≡ false
+        → amount_at flow step.index ≡ cond along (pos 1) (negsuc 0)
     carried true begins ends out =
         cut_carries_out network other flow numbered fits.each fits.size fits.conservation least_.cut value step.index no_edge (pos 0) below
         (rw is (ap other begins ∙ there)) (rw is (ap other ends ∙ out))
@@ -233,17 +251,21 @@ step-stays network flow side other from to numbered fits least_ step there = spl
         alike_ step.along step.begins step.ends (one_side (other step.edge.from) (other step.edge.to) (apart slotless))
 
 -- what was reached is in each least cut
-pub reached-within : (network : Network) (rows : List (Vec Arc Global)) (flow : List ℤ) (levels : List (Option ℕ)) (side other : Side) → IsNumbered network → IsGraph network.edges rows
-    → IsFull network rows flow levels → Fits network side flow → IsLeast network other → (level vertex : ℕ) → level_at levels vertex ≡ Some level → other vertex ≡ true
+pub reached-within : (network : Network) (rows : List (Vec Arc Global)) (flow : List ℤ) (levels : List (Option ℕ)) (side other : Side)
+    → IsNumbered network → IsGraph network.edges rows
+    → IsFull network rows flow levels → Fits network side flow → IsLeast network other → (level vertex : ℕ)
+    → level_at levels vertex ≡ Some level → other vertex ≡ true
 reached-within network rows flow levels side other numbered graph full fits least_ zero vertex at =
     among-All (λ vertex. IsTrue (other vertex)) network.inside vertex least_.cut.inside (full.searched.origin vertex at)
 reached-within network rows flow levels side other numbered graph full fits least_ (suc level) vertex at =
     let below = full.searched.below vertex level at in
     let before = reached-within network rows flow levels side other numbered graph full fits least_ level below.0 below.1 in
-    step-stays network flow side other below.0 vertex numbered fits least_ (step-sound network.edges (residuals network.edges flow) rows below.0 vertex graph below.2) before
+    step-stays network flow side other below.0 vertex numbered fits least_
+    (step-sound network.edges (residuals network.edges flow) rows below.0 vertex graph below.2) before
 
 -- so it is the cut that is chosen
-pub IsChosen-reached : (network : Network) (rows : List (Vec Arc Global)) (flow : List ℤ) (levels : List (Option ℕ)) (side : Side) → IsNumbered network → length network.edges < 2147483648 → IsGraph network.edges rows
+pub IsChosen-reached : (network : Network) (rows : List (Vec Arc Global)) (flow : List ℤ) (levels : List (Option ℕ)) (side : Side)
+    → IsNumbered network → length network.edges < 2147483648 → IsGraph network.edges rows
     → IsFull network rows flow levels → ((vertex : ℕ) → side vertex ≡ is_some (level_at levels vertex)) → IsChosen network side
 IsChosen-reached network rows flow levels side numbered countable graph full is = record {
   least = least network side flow numbered fits;

@@ -32,7 +32,8 @@ LeadsTo gates levels level arc = (level_at levels arc.to ≡ Some level) × IsTr
 -- no vertex has a lower level, and one has it; or no vertex has a level
 abbrev pub IsLeastLevel : List (Option ℕ) → List ℕ → Option ℕ → Type 0
 IsLeastLevel levels vertices None = (vertex level : ℕ) → IsAt levels level vertices vertex → ⊥
-IsLeastLevel levels vertices (Some least) = ((vertex : ℕ) × IsAt levels least vertices vertex) × ((vertex level : ℕ) → IsAt levels level vertices vertex → least ≤ level)
+IsLeastLevel levels vertices (Some least) =
+    ((vertex : ℕ) × IsAt levels least vertices vertex) × ((vertex level : ℕ) → IsAt levels level vertices vertex → least ≤ level)
 
 -- from this level to level 0
 abbrev pub Descends : List Gate → List (Vec Arc Global) → List (Option ℕ) → ℕ → List ℕ → Type 0

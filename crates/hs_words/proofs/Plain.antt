@@ -37,7 +37,8 @@ waits [] = idle
 waits (name ∷ names) = positional
 
 -- a plain word is a value
-met : (names : List Text) (word : Text) → begins_with_hyphen word ≡ false → word_met shape.rules [] false (waits names) 1 word (reads names) ≡ (reads names, value)
+met : (names : List Text) (word : Text) → begins_with_hyphen word ≡ false
+    → word_met shape.rules [] false (waits names) 1 word (reads names) ≡ (reads names, value)
 met [] word plain = rw (no_dashes word plain, no_hyphen word plain, no_hyphen word plain) refl
 met (name ∷ names) word plain = rw (no_dashes word plain, no_hyphen word plain, no_hyphen word plain) refl
 
@@ -127,7 +128,9 @@ takes_plain (name ∷ names) plain =
     record {
       command = refl;
       taken = ap₂ faults walk_is.0 walk_is.1
-          ∙ ap (λ (kinds : Kinds). or_else kinds (or_else (defaults_fault (settled shape.rules (reads (name ∷ names))).rows shape.rules) (check_fault shape (finished shape.rules (reads (name ∷ names))) false)))
+          ∙ ap (λ (kinds : Kinds). or_else kinds
+          (or_else (defaults_fault (settled shape.rules (reads (name ∷ names))).rows shape.rules)
+          (check_fault shape (finished shape.rules (reads (name ∷ names))) false)))
           (ended name names plain.1);
       read = sym (ap names_at walk_is.0);
     }

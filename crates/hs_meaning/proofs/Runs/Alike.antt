@@ -43,7 +43,8 @@ alike_at_place f P pos (Ok x) y alike = (ap (at_place pos) alike.0, alike.1)
 alike_at_place f P pos (Err kind) y alike = (ap (at_place pos) alike.0, alike.1)
 
 -- alike results that go on alike end alike
-pub alike_then : {A B C D : Type 0} (f : A → B) (P : A → Type 0) (g : C → D) (Q : C → Type 0) (x : Result A Halt) (y : Result B Halt) (next : A → Result C Halt) (still_next : B → Result D Halt)
+pub alike_then : {A B C D : Type 0} (f : A → B) (P : A → Type 0) (g : C → D) (Q : C → Type 0) (x : Result A Halt) (y : Result B Halt)
+    (next : A → Result C Halt) (still_next : B → Result D Halt)
     → Alike IsHarmlessHalt f P x y → ((a : A) → P a → Alike IsHarmlessHalt g Q (next a) (still_next (f a)))
     → Alike IsHarmlessHalt g Q (x >>= next) (y >>= still_next)
 alike_then f P g Q (Ok a) y next still_next alike go =
@@ -76,7 +77,8 @@ used-alike : (heap : List Block) (s : Spot) → IsFreshSpot heap s
 used-alike heap s fresh = rw (block_at-still heap s.block) (go (block_at heap s.block) fresh)
   where
     at_range : (block : Block) (is_short : Bool)
-        → Alike IsHarmless still_block (λ found. Some block ≡ Some found) (if is_short then Err stop.Range else Ok block) (if is_short then Err stop.Range else Ok (still_block block))
+        → Alike IsHarmless still_block (λ found. Some block ≡ Some found) (if is_short then Err stop.Range else Ok block)
+        (if is_short then Err stop.Range else Ok (still_block block))
     at_range block true = (refl, λ pos misuse. misuse)
     at_range block false = (refl, refl)
 
@@ -89,8 +91,14 @@ used-alike heap s fresh = rw (block_at-still heap s.block) (go (block_at heap s.
 
     at_block : (block : Block) (is_gone : Bool)
         → Alike IsHarmless still_block (λ found. Some block ≡ Some found)
-        (if is_gone then Err stop.Disposed else if not (s.life == block.life) then Err stop.Old else if nat_le (length block.cells) s.offset then Err stop.Range else Ok block)
-        (if is_gone then Err stop.Disposed else if not (s.life == block.life) then Err stop.Old else if nat_le (length block.cells) s.offset then Err stop.Range else Ok (still_block block))
+        (if is_gone then Err stop.Disposed
+        else if not (s.life == block.life) then Err stop.Old
+        else if nat_le (length block.cells) s.offset then Err stop.Range
+        else Ok block)
+        (if is_gone then Err stop.Disposed
+        else if not (s.life == block.life) then Err stop.Old
+        else if nat_le (length block.cells) s.offset then Err stop.Range
+        else Ok (still_block block))
     at_block block true = (refl, λ pos misuse. misuse)
     at_block block false = at_life block (s.life == block.life)
 
@@ -137,7 +145,8 @@ store_through-alike heap (spot s) byte fresh = go (used heap s) (used (map still
     go : (x y : Result Block Stop) → Alike IsHarmless still_block (λ block. block_at heap s.block ≡ Some block) x y
         → Alike IsHarmless (map still_block) (IsStored heap) (stored_in heap s byte x) (stored_in (map still_block heap) (record s { epoch = 0 }) byte y)
     go (Ok block) y alike = (
-      ap (stored_in (map still_block heap) (record s { epoch = 0 }) byte) alike.0 ∙ ap Ok (put_block-still heap s.block (record block { cells = slice_set block.cells s.offset (Byte byte) })),
+      ap (stored_in (map still_block heap) (record s { epoch = 0 }) byte) alike.0
+          ∙ ap Ok (put_block-still heap s.block (record block { cells = slice_set block.cells s.offset (Byte byte) })),
       record { place = s.block; block = block; cells = slice_set block.cells s.offset (Byte byte); is_block = alike.1; is_after = refl },
     )
     go (Err kind) y alike = (ap (stored_in (map still_block heap) (record s { epoch = 0 }) byte) alike.0, alike.1)
@@ -161,7 +170,9 @@ derive_through-alike heap plain (number n) = (refl, λ pos misuse. misuse)
 derive_through-alike heap plain (spot s) = (refl, λ pos misuse. misuse)
 derive_through-alike heap plain (handle named) = rw (block_at-still heap named) (go (block_at heap named) refl)
   where
-    go : (block : Option Block) → block_at heap named ≡ block → Alike IsHarmless still_value (IsMaster heap (handle named)) (master_if named block) (master_if named (option_map still_block block))
+    go : (block : Option Block) → block_at heap named ≡ block
+        → Alike IsHarmless still_value (IsMaster heap (handle named)) (master_if named block)
+        (master_if named (option_map still_block block))
     go None found = (refl, λ pos misuse. misuse)
     go (Some block) found = rw ((block_at-plain heap plain named block found).is_present) (
       refl,
@@ -192,18 +203,21 @@ IsLockedThrough on heap (spot s) after = ⊥
 
 -- HLock and HUnlock do the same to a plain heap and to the still one
 pub lock_through-alike : (on : Bool) (heap : List Block) → Each IsPlain heap → (value : Value)
-    → Alike IsHarmless (map still_block) (IsLockedThrough on heap value) (lock_through on heap value) (lock_through on (map still_block heap) (still_value value))
+    → Alike IsHarmless (map still_block) (IsLockedThrough on heap value) (lock_through on heap value)
+    (lock_through on (map still_block heap) (still_value value))
 lock_through-alike on heap plain nil = (refl, refl)
 lock_through-alike on heap plain (number n) = (refl, λ pos misuse. misuse)
 lock_through-alike on heap plain (spot s) = (refl, λ pos misuse. misuse)
 lock_through-alike on heap plain (handle named) = rw (block_at-still heap named) (go (block_at heap named) refl)
   where
     go : (block : Option Block) → block_at heap named ≡ block
-        → Alike IsHarmless (map still_block) (IsLocked on heap named) (lock_if on heap named block) (lock_if on (map still_block heap) named (option_map still_block block))
+        → Alike IsHarmless (map still_block) (IsLocked on heap named) (lock_if on heap named block)
+        (lock_if on (map still_block heap) named (option_map still_block block))
     go None found = (refl, λ pos misuse. misuse)
     go (Some block) found =
         subst
-        (λ (presence : Presence). Alike IsHarmless (map still_block) (IsLocked on heap named) (lock_set on heap named block presence) (lock_set on (map still_block heap) named (still_block block) presence))
+        (λ (presence : Presence). Alike IsHarmless (map still_block) (IsLocked on heap named) (lock_set on heap named block presence)
+        (lock_set on (map still_block heap) named (still_block block) presence))
         (sym (block_at-plain heap plain named block found).is_present)
         (ap Ok (put_block-still heap named (record block { locked = on })), record { block = block; is_block = found; is_after = refl })
 
@@ -214,7 +228,8 @@ IsFreshUse state pointer = (value : Value) → lookup state.variables pointer �
 -- an expression whose pointers are fresh has the still value
 pub eval-alike : (state : State) (value : Expr) → Each (IsFreshUse state) (expr_uses value)
     → Alike IsHarmlessHalt still_value (λ got. Unit {0}) (eval state value) (eval (still state) value)
-eval-alike state (expr.Letter pos letter) fresh = alike_at_place _ _ pos _ _ (alike_weaken IsHarmless still_value _ _ _ _ (value_of-alike state letter) (λ value is_value. tt))
+eval-alike state (expr.Letter pos letter) fresh =
+    alike_at_place _ _ pos _ _ (alike_weaken IsHarmless still_value _ _ _ _ (value_of-alike state letter) (λ value is_value. tt))
 eval-alike state (expr.Load pos pointer) fresh =
     alike_then _ _ _ _ _ _ _ _ (alike_at_place _ _ pos _ _ (value_of-alike state pointer))
     (λ from is_value. alike_at_place _ _ pos _ _ (load_through-alike state.heap from (fresh.0 from is_value)))

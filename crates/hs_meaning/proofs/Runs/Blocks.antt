@@ -18,7 +18,8 @@ abbrev pub IsFoundAfter : ℕ → Block → ℕ → Block → Option Block → T
 IsFoundAfter place new other block found = ((other ≡ place) × (found ≡ Some new)) ⊎ ((other ≡ place → ⊥) × (found ≡ Some block))
 
 -- the same one number up
-found_after-suc : (place : ℕ) (new : Block) (other : ℕ) (block : Block) (found : Option Block) → IsFoundAfter place new other block found → IsFoundAfter (suc place) new (suc other) block found
+found_after-suc : (place : ℕ) (new : Block) (other : ℕ) (block : Block) (found : Option Block)
+    → IsFoundAfter place new other block found → IsFoundAfter (suc place) new (suc other) block found
 found_after-suc place new other block found (inl at) = inl (ap suc at.0, at.1)
 found_after-suc place new other block found (inr at) = inr (λ same. at.0 (cc), at.1)
 

@@ -70,14 +70,17 @@ pub record IsNext (variables : List Variable) (done : List Step) (state : State)
   pub is_plain : Each IsPlain next.heap
   pub others : (variable : ℕ) → assigns variable step ≡ false → lookup next.variables variable ≡ lookup state.variables variable
   pub blocks : (named : ℕ) (block : Block) → block_at state.heap named ≡ Some block → IsBlockAfter step block (block_at next.heap named)
-  pub locks : (variable named : ℕ) (block after : Block) → is_declared Handle variables variable ≡ true → assigns variable step ≡ false → lookup state.variables variable ≡ Some (handle named)
+  pub locks : (variable named : ℕ) (block after : Block) → is_declared Handle variables variable ≡ true → assigns variable step ≡ false
+      → lookup state.variables variable ≡ Some (handle named)
       → block_at state.heap named ≡ Some block → block_at next.heap named ≡ Some after
       → (is_locked_after variable done ≡ true → block.locked ≡ true) → is_locked_after variable (step ∷ done) ≡ true → after.locked ≡ true
   pub new_handle : (variable : ℕ) (value : Value) → assigns variable step ≡ true → is_declared Handle variables variable ≡ true
       → lookup next.variables variable ≡ Some value → IsHandleValue next.heap (is_locked_after variable (step ∷ done)) value
-  pub new_own : (variable other named : ℕ) → assigns variable step ≡ true → is_declared Handle variables variable ≡ true → is_declared Handle variables other ≡ true
+  pub new_own : (variable other named : ℕ) → assigns variable step ≡ true → is_declared Handle variables variable ≡ true
+      → is_declared Handle variables other ≡ true
       → lookup next.variables variable ≡ Some (handle named) → lookup state.variables other ≡ Some (handle named) → ⊥
-  pub new_pointer : (variable : ℕ) (value : Value) → assigns variable step ≡ true → is_declared Pointer variables variable ≡ true → lookup next.variables variable ≡ Some value
+  pub new_pointer : (variable : ℕ) (value : Value) → assigns variable step ≡ true → is_declared Pointer variables variable ≡ true
+      → lookup next.variables variable ≡ Some value
       → IsPointerValue variables (step ∷ done) next.variables next.heap variable value
 
 -- a variable has one kind
@@ -111,7 +114,8 @@ assigned_same (form.Store pos pointer value) one other is_one is_other = absurd 
 assigned_same (form.Putchar value) one other is_one is_other = absurd (true≢false (sym is_one))
 
 -- a step that does not concern the handle leaves what is said of its lock
-pub is_locked_after-other : (variable : ℕ) (step : Step) (done : List Step) → concerns variable step ≡ false → is_locked_after variable (step ∷ done) ≡ is_locked_after variable done
+pub is_locked_after-other : (variable : ℕ) (step : Step) (done : List Step) → concerns variable step ≡ false
+    → is_locked_after variable (step ∷ done) ≡ is_locked_after variable done
 is_locked_after-other variable step done other = rw other refl
 
 -- a handle that is locked along the steps has a locked block
@@ -132,13 +136,16 @@ pointer_kept variables done state step next pointer s kept is_next other before 
   is_known = derived_after-keep pointer step done other ∙ ap (kept_if done step) before.is_known;
   is_declared_handle = before.is_declared_handle;
   is_same = λ same. same_handle (and_parts before.derivation.is_same (not (assigns before.derivation.handle step)) same);
-  is_fresh = λ fresh. same_epoch (or_parts before.derivation.is_stale (calls_new_handle step && not (before.derivation.is_same && is_locked_after before.derivation.handle done)) fresh);
+  is_fresh = λ fresh.
+      same_epoch (or_parts before.derivation.is_stale
+      (calls_new_handle step && not (before.derivation.is_same && is_locked_after before.derivation.handle done)) fresh);
 }
   where
     block : IsBlockAfter step before.block (block_at next.heap s.block)
     block = is_next.blocks s.block before.block before.is_block
 
-    same_handle : (before.derivation.is_same ≡ true) × (not (assigns before.derivation.handle step) ≡ true) → lookup next.variables before.derivation.handle ≡ Some (handle s.block)
+    same_handle : (before.derivation.is_same ≡ true) × (not (assigns before.derivation.handle step) ≡ true)
+        → lookup next.variables before.derivation.handle ≡ Some (handle s.block)
     same_handle parts = is_next.others before.derivation.handle (not-true (assigns before.derivation.handle step) parts.1) ∙ before.is_same parts.0
 
     locked_now : (before.derivation.is_same ≡ true) × (is_locked_after before.derivation.handle done ≡ true) → before.block.locked ≡ true
@@ -146,15 +153,21 @@ pointer_kept variables done state step next pointer s kept is_next other before 
         handle_locked state.heap (is_locked_after before.derivation.handle done) s.block before.block
         (kept.handles before.derivation.handle (handle s.block) before.is_declared_handle (before.is_same parts.0)) before.is_block parts.1
 
-    locked_at_call : (calls_new_handle step ≡ false) ⊎ (not (before.derivation.is_same && is_locked_after before.derivation.handle done) ≡ false) → calls_new_handle step ≡ true → before.block.locked ≡ true
+    locked_at_call : (calls_new_handle step ≡ false)
+        ⊎ (not (before.derivation.is_same && is_locked_after before.derivation.handle done) ≡ false)
+        → calls_new_handle step ≡ true → before.block.locked ≡ true
     locked_at_call (inl silent) calls = absurd (true≢false (sym calls ∙ silent))
     locked_at_call (inr safe) calls =
-        locked_now (and_parts before.derivation.is_same (is_locked_after before.derivation.handle done) (not-false (before.derivation.is_same && is_locked_after before.derivation.handle done) safe))
+        locked_now (and_parts before.derivation.is_same (is_locked_after before.derivation.handle done)
+        (not-false (before.derivation.is_same && is_locked_after before.derivation.handle done) safe))
 
-    same_epoch : (before.derivation.is_stale ≡ false) × ((calls_new_handle step && not (before.derivation.is_same && is_locked_after before.derivation.handle done)) ≡ false) → s.epoch ≡ block.after.epoch
+    same_epoch : (before.derivation.is_stale ≡ false)
+        × ((calls_new_handle step && not (before.derivation.is_same && is_locked_after before.derivation.handle done)) ≡ false)
+        → s.epoch ≡ block.after.epoch
     same_epoch parts =
         before.is_fresh parts.0
-        ∙ sym (block.same_epoch (locked_at_call (and_cases (calls_new_handle step) (not (before.derivation.is_same && is_locked_after before.derivation.handle done)) parts.1)))
+        ∙ sym (block.same_epoch (locked_at_call
+        (and_cases (calls_new_handle step) (not (before.derivation.is_same && is_locked_after before.derivation.handle done)) parts.1)))
 
 -- a handle that the step does not assign goes on having its block
 handle_kept : (variables : List Variable) (done : List Step) (state : State) (step : Step) (next : State) (variable : ℕ) (value : Value)
@@ -178,7 +191,8 @@ pointer_value_kept : (variables : List Variable) (done : List Step) (state : Sta
     → IsKept variables done state → IsNext variables done state step next
     → assigns pointer step ≡ false → IsPointerValue variables done state.variables state.heap pointer value
     → IsPointerValue variables (step ∷ done) next.variables next.heap pointer value
-pointer_value_kept variables done state step next pointer (spot s) kept is_next other before = pointer_kept variables done state step next pointer s kept is_next other before
+pointer_value_kept variables done state step next pointer (spot s) kept is_next other before =
+    pointer_kept variables done state step next pointer s kept is_next other before
 pointer_value_kept variables done state step next pointer nil kept is_next other before = before
 pointer_value_kept variables done state step next pointer (handle named) kept is_next other before = before
 pointer_value_kept variables done state step next pointer (number n) kept is_next other before = before
@@ -189,22 +203,26 @@ pub kept_on : (variables : List Variable) (done : List Step) (state : State) (st
 kept_on variables done state step next kept is_next = record {
   is_plain = is_next.is_plain;
   handles = λ variable value declared found. handle_of variable value declared found (cases_Bool (assigns variable step));
-  is_own = λ variable other named is_one is_other one two. own variable other named is_one is_other one two (cases_Bool (assigns variable step)) (cases_Bool (assigns other step));
+  is_own = λ variable other named is_one is_other one two.
+      own variable other named is_one is_other one two (cases_Bool (assigns variable step)) (cases_Bool (assigns other step));
   pointers = λ variable value declared found. pointer variable value declared found (cases_Bool (assigns variable step));
 }
   where
-    handle_of : (variable : ℕ) (value : Value) → is_declared Handle variables variable ≡ true → lookup next.variables variable ≡ Some value → (assigns variable step ≡ true) ⊎ (assigns variable step ≡ false)
+    handle_of : (variable : ℕ) (value : Value) → is_declared Handle variables variable ≡ true
+        → lookup next.variables variable ≡ Some value → (assigns variable step ≡ true) ⊎ (assigns variable step ≡ false)
         → IsHandleValue next.heap (is_locked_after variable (step ∷ done)) value
     handle_of variable value declared found (inl assigned) = is_next.new_handle variable value assigned declared found
     handle_of variable value declared found (inr other) =
         handle_kept variables done state step next variable value kept is_next other declared (sym (is_next.others variable other) ∙ found)
         (kept.handles variable value declared (sym (is_next.others variable other) ∙ found))
 
-    pointer : (variable : ℕ) (value : Value) → is_declared Pointer variables variable ≡ true → lookup next.variables variable ≡ Some value → (assigns variable step ≡ true) ⊎ (assigns variable step ≡ false)
+    pointer : (variable : ℕ) (value : Value) → is_declared Pointer variables variable ≡ true
+        → lookup next.variables variable ≡ Some value → (assigns variable step ≡ true) ⊎ (assigns variable step ≡ false)
         → IsPointerValue variables (step ∷ done) next.variables next.heap variable value
     pointer variable value declared found (inl assigned) = is_next.new_pointer variable value assigned declared found
     pointer variable value declared found (inr other) =
-        pointer_value_kept variables done state step next variable value kept is_next other (kept.pointers variable value declared (sym (is_next.others variable other) ∙ found))
+        pointer_value_kept variables done state step next variable value kept is_next other
+        (kept.pointers variable value declared (sym (is_next.others variable other) ∙ found))
 
     own : (variable other named : ℕ) → is_declared Handle variables variable ≡ true → is_declared Handle variables other ≡ true
         → lookup next.variables variable ≡ Some (handle named) → lookup next.variables other ≡ Some (handle named)
@@ -228,4 +246,5 @@ fresh_from_kept variables done state pointer kept declared fresh value found = g
     go (number n) known = tt
     go (handle named) known = tt
     go (spot s) known = λ block is_block.
-        known.is_fresh (sym (ap is_stale_derivation known.is_known) ∙ fresh) ∙ ap (λ (b : Block). b.epoch) (same_Some known.block block (sym known.is_block ∙ is_block))
+        known.is_fresh (sym (ap is_stale_derivation known.is_known) ∙ fresh)
+        ∙ ap (λ (b : Block). b.epoch) (same_Some known.block block (sym known.is_block ∙ is_block))

@@ -40,7 +40,11 @@ lock_alike on variables done state pos locked declared kept =
     alike_then _ _ _ _ _ _ _ _ (alike_at_place _ _ pos _ _ (value_of-alike state locked))
     (λ value found.
     alike_then _ _ _ _ _ _ _ _ (alike_at_place _ _ pos _ _ (lock_through-alike on state.heap kept.is_plain value))
-    (λ heap set. (refl, kept_on variables done state (lock_form on pos locked) (record state { heap = heap }) kept (lock_next on variables done state pos locked value heap declared found set kept))))
+    (λ heap set. (
+      refl,
+      kept_on variables done state (lock_form on pos locked) (record state { heap = heap }) kept
+          (lock_next on variables done state pos locked value heap declared found set kept),
+    )))
 
 -- the shift of the still state is the still state of the shift
 shifted_by-still : (state : State) → Each IsPlain state.heap → shifted_by new_handle_powers (still state) ≡ still (shifted_by new_handle_powers state)
@@ -58,14 +62,17 @@ is_granted-still input state size =
     ap (λ (room : Bool). if list_any (λ refused. refused == state.allocations + 1) input.refused then false else room) (has_room-still state.heap size)
 
 -- an allocation in the still state is the still state of the allocation
-allocated_if-still : (granted : Bool) (state : State) (assigned_to size : ℕ) → allocated_if granted (still state) assigned_to size ≡ still (allocated_if granted state assigned_to size)
+allocated_if-still : (granted : Bool) (state : State) (assigned_to size : ℕ)
+    → allocated_if granted (still state) assigned_to size ≡ still (allocated_if granted state assigned_to size)
 allocated_if-still true state assigned_to size = rw (map-append still_block state.heap (new_block size ∷ []), length-map state.heap still_block) refl
 allocated_if-still false state assigned_to size = refl
 
 -- so is the allocation as the run decides it
-allocated-still : (input : Input) (state : State) (assigned_to size : ℕ) → allocated input (still state) assigned_to size ≡ still (allocated input state assigned_to size)
+allocated-still : (input : Input) (state : State) (assigned_to size : ℕ)
+    → allocated input (still state) assigned_to size ≡ still (allocated input state assigned_to size)
 allocated-still input state assigned_to size =
-    ap (λ (granted : Bool). allocated_if granted (still state) assigned_to size) (is_granted-still input state size) ∙ allocated_if-still (is_granted input state size) state assigned_to size
+    ap (λ (granted : Bool). allocated_if granted (still state) assigned_to size) (is_granted-still input state size)
+    ∙ allocated_if-still (is_granted input state size) state assigned_to size
 
 -- no pointer of the list is stale after the steps done
 abbrev AreNotStale : List Step → List ℕ → Type 0
@@ -86,7 +93,9 @@ step_alike : (input : Input) (variables : List Variable) (done : List Step) (sta
     → AreNotStale done (step_uses step) → AreAlike variables done step (after input state step) (after input (still state) step)
 unfolding lock_form
 step_alike input variables done state (form.NewHandle assigned_to size) kept fine safe = (
-  ap Ok (ap (λ (s : State). allocated input s assigned_to size) (shifted_by-still state kept.is_plain) ∙ allocated-still input (shifted_by new_handle_powers state) assigned_to size),
+  ap Ok
+      (ap (λ (s : State). allocated input s assigned_to size) (shifted_by-still state kept.is_plain)
+      ∙ allocated-still input (shifted_by new_handle_powers state) assigned_to size),
   kept_on variables done state (form.NewHandle assigned_to size) (allocated input (shifted_by new_handle_powers state) assigned_to size) kept
       (new_handle_next input variables done state assigned_to size (and_parts (is_declared Handle variables assigned_to) (nat_le size 32767) fine).0 kept),
 )
@@ -113,7 +122,8 @@ step_alike input variables done state (form.Set letter value) kept fine safe =
     alike_then _ _ _ _ _ _ _ _ (eval-alike state value (fresh_uses variables done state value kept parts.1 safe))
     (λ got known. (
       ap (λ (byte : ℕ). Ok (assigned (still state) letter (char_of byte))) (byte_of-still got),
-      kept_on variables done state (form.Set letter value) (assigned state letter (char_of (byte_of got))) kept (set_next variables done state letter value (char_of (byte_of got)) parts.0 kept),
+      kept_on variables done state (form.Set letter value) (assigned state letter (char_of (byte_of got))) kept
+          (set_next variables done state letter value (char_of (byte_of got)) parts.0 kept),
     ))
   where
     parts : (is_declared Letter variables letter ≡ true) × (is_fine_expr variables done value ≡ true)
@@ -122,7 +132,8 @@ step_alike input variables done state (form.Store pos pointer value) kept fine s
     alike_then _ _ _ _ _ _ _ _ (alike_at_place _ _ pos _ _ (value_of-alike state pointer))
     (λ to found.
     alike_then _ _ _ _ _ _ _ _ (eval-alike state value (fresh_uses variables done state value kept parts.1 safe.1))
-    (λ got known. stored to (byte_of got) (byte_of (still_value got)) (byte_of-still got) (fresh_from_kept variables done state pointer kept is_pointer safe.0 to found)))
+    (λ got known. stored to (byte_of got) (byte_of (still_value got)) (byte_of-still got)
+    (fresh_from_kept variables done state pointer kept is_pointer safe.0 to found)))
   where
     parts : ((is_declared Pointer variables pointer && was_assigned pointer done) ≡ true) × (is_fine_expr variables done value ≡ true)
     parts = and_parts (is_declared Pointer variables pointer && was_assigned pointer done) (is_fine_expr variables done value) fine
@@ -136,12 +147,17 @@ step_alike input variables done state (form.Store pos pointer value) kept fine s
         (at_place pos (store_through (map still_block state.heap) (still_value to) still_byte) >>= (λ heap. Ok (record (still state) { heap = heap })))
     stored to byte still_byte same fresh = rw same
         (alike_then _ _ _ _ _ _ _ _ (alike_at_place _ _ pos _ _ (store_through-alike state.heap to byte fresh))
-        (λ heap is_stored. (refl, kept_on variables done state (form.Store pos pointer value) (record state { heap = heap }) kept (store_next variables done state pos pointer value heap is_stored kept))))
+        (λ heap is_stored. (
+          refl,
+          kept_on variables done state (form.Store pos pointer value) (record state { heap = heap }) kept
+              (store_next variables done state pos pointer value heap is_stored kept),
+        )))
 step_alike input variables done state (form.Putchar value) kept fine safe =
     alike_then _ _ _ _ _ _ _ _ (eval-alike state value (fresh_uses variables done state value kept fine safe))
     (λ got known. (
       ap (λ (byte : ℕ). Ok (record (still state) { output = state.output ++ byte ∷ [] })) (byte_of-still got),
-      kept_on variables done state (form.Putchar value) (record state { output = state.output ++ byte_of got ∷ [] }) kept (putchar_next variables done state value (state.output ++ byte_of got ∷ []) kept),
+      kept_on variables done state (form.Putchar value) (record state { output = state.output ++ byte_of got ∷ [] }) kept
+          (putchar_next variables done state value (state.output ++ byte_of got ∷ []) kept),
     ))
 
 -- both runs end alike, and in no misuse
@@ -149,12 +165,14 @@ abbrev EndAlike : Ending → Ending → Type 0
 EndAlike ending still_ending = (ending ≡ still_ending) × (IsMisuse ending.outcome → ⊥)
 
 -- runs that go on alike from alike results end alike
-going_on-alike : (variables : List Variable) (done : List Step) (step : Step) (state : State) (x y : Result State Halt) (go : State → Ending) → AreAlike variables done step x y
+going_on-alike : (variables : List Variable) (done : List Step) (step : Step) (state : State) (x y : Result State Halt)
+    (go : State → Ending) → AreAlike variables done step x y
     → ((next : State) → IsKept variables (step ∷ done) next → EndAlike (go next) (go (still next)))
     → EndAlike (going_on state x go) (going_on (still state) y go)
 going_on-alike variables done step state (Ok next) y go alike ends =
     subst (λ (r : Result State Halt). EndAlike (go next) (going_on (still state) r go)) (sym alike.0) (ends next alike.1)
-going_on-alike variables done step state (Err halt) y go alike ends = (sym (ap (λ (r : Result State Halt). going_on (still state) r go) alike.0), alike.1 halt.pos)
+going_on-alike variables done step state (Err halt) y go alike ends =
+    (sym (ap (λ (r : Result State Halt). going_on (still state) r go) alike.0), alike.1 halt.pos)
 
 -- what each item of two lists has, each item of each of them has
 Each-append : {A : Type 0} (P : A → Type 0) (xs ys : List A) → Each P (xs ++ ys) → Each P xs × Each P ys
@@ -173,11 +191,13 @@ Each-from_count P (x ∷ xs) (inl (m, held, rest, same)) = absurd (suc-ne-zero m
 Each-from_count P (x ∷ xs) (inr (fails, rest)) = (fails, Each-from_count P xs rest)
 
 -- the runs of fine steps with no stale use end alike: by induction on the steps
-run_from-alike : (input : Input) (variables : List Variable) (done : List Step) (state : State) (steps : List Step) → IsKept variables done state → are_fine_steps variables done steps ≡ true
+run_from-alike : (input : Input) (variables : List Variable) (done : List Step) (state : State) (steps : List Step)
+    → IsKept variables done state → are_fine_steps variables done steps ≡ true
     → Each (λ use_of. IsStaleUse use_of → ⊥) (uses_after done steps) → EndAlike (run_from input state steps) (run_from input (still state) steps)
 run_from-alike input variables done state [] kept fine safe = (refl, λ misuse. misuse)
 run_from-alike input variables done state (step ∷ steps) kept fine safe =
-    going_on-alike variables done step state (after input state step) (after input (still state) step) (λ next. run_from input next steps) (step_alike input variables done state step kept parts.0 not_stale)
+    going_on-alike variables done step state (after input state step) (after input (still state) step) (λ next. run_from input next steps)
+    (step_alike input variables done state step kept parts.0 not_stale)
     (λ next kept_next. run_from-alike input variables (step ∷ done) next steps kept_next parts.1 safe_parts.1)
   where
     parts : (is_fine_step variables done step ≡ true) × (are_fine_steps variables (step ∷ done) steps ≡ true)
@@ -191,7 +211,8 @@ run_from-alike input variables done state (step ∷ steps) kept fine safe =
 
     not_stale : AreNotStale done (step_uses step)
     not_stale =
-        Each-map (λ use_of. IsStaleUse use_of → ⊥) (λ pointer. record { done = done; pointer = pointer }) (λ pointer. is_stale_after pointer done ≡ false) (step_uses step)
+        Each-map (λ use_of. IsStaleUse use_of → ⊥) (λ pointer. record { done = done; pointer = pointer })
+        (λ pointer. is_stale_after pointer done ≡ false) (step_uses step)
         (λ pointer fails. false_from_ne_true (is_stale_after pointer done) (λ stale. fails (IsStaleUse-from_along pointer done stale))) safe_parts.0
 
 -- at the start there is nothing to keep

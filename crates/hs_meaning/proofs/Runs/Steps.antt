@@ -56,7 +56,9 @@ other_kind : (variables : List Variable) (assigned_to variable : ℕ) (kind othe
     → (assigned_to == variable) ≡ true → is_declared other variables variable ≡ true → ⊥
 other_kind variables assigned_to variable kind other differ is_kind same is_other =
     true≢false
-    (sym (one_kind variables assigned_to kind other is_kind (subst (λ (v : ℕ). is_declared other variables v ≡ true) (sym (eqb-true assigned_to variable same)) is_other)) ∙ differ)
+    (sym (one_kind variables assigned_to kind other is_kind
+    (subst (λ (v : ℕ). is_declared other variables v ≡ true) (sym (eqb-true assigned_to variable same)) is_other))
+    ∙ differ)
 
 -- a step that assigns nothing has only blocks and locks to show
 heap_next : (variables : List Variable) (done : List Step) (state : State) (step : Step) (heap : List Block) (output : List ℕ)
@@ -206,7 +208,8 @@ pub lock_next : (on : Bool) (variables : List Variable) (done : List Step) (stat
     → IsNext variables done state (lock_form on pos locked) (record state { heap = heap })
 lock_next on variables done state pos locked nil heap declared found same kept =
     subst (λ (h : List Block). IsNext variables done state (lock_form on pos locked) (record state { heap = h })) (sym same)
-    (heap_next variables done state (lock_form on pos locked) state.heap state.output (lock_assigns on pos locked) kept.is_plain (blocks_same (lock_form on pos locked) state.heap)
+    (heap_next variables done state (lock_form on pos locked) state.heap state.output (lock_assigns on pos locked) kept.is_plain
+    (blocks_same (lock_form on pos locked) state.heap)
     (λ variable named block later is_handle is_held is_block is_later.
     locks_same (lock_form on pos locked) done variable block later (lock_concerns on pos locked variable (λ one. differ variable named one is_held))
     (same_lock (block_at state.heap named) block later is_block is_later)))
@@ -232,7 +235,8 @@ lock_next on variables done state pos locked (handle held) heap declared found s
     differ : (variable named : ℕ) → (named ≡ held → ⊥) → lookup state.variables variable ≡ Some (handle named) → locked ≡ variable → ⊥
     differ variable named other is_held one = other (handle-handle named held (sym is_held ∙ sym (ap (lookup state.variables) one) ∙ found))
 
-    still_locked : (variable named : ℕ) (block later : Block) → is_declared Handle variables variable ≡ true → lookup state.variables variable ≡ Some (handle named)
+    still_locked : (variable named : ℕ) (block later : Block) → is_declared Handle variables variable ≡ true
+        → lookup state.variables variable ≡ Some (handle named)
         → block_at (put_block state.heap held new) named ≡ Some later → (is_locked_after variable done ≡ true → block.locked ≡ true)
         → is_locked_after variable (lock_form on pos locked ∷ done) ≡ true → IsFoundAfter held new named block (block_at (put_block state.heap held new) named)
         → later.locked ≡ true
@@ -253,11 +257,13 @@ record IsCalledBlock (block : Block) (found : Option Block) : Type 0 where
   same_epoch : block.locked ≡ true → later.epoch ≡ block.epoch
 
 -- the handle is new, or NIL, and the blocks that were there are as the shift leaves them
-new_handle_kept : (variables : List Variable) (done : List Step) (state : State) (assigned_to size : ℕ) (value : Value) (heap : List Block) (schedule : List Decision) (allocations : ℕ)
+new_handle_kept : (variables : List Variable) (done : List Step) (state : State) (assigned_to size : ℕ) (value : Value)
+    (heap : List Block) (schedule : List Decision) (allocations : ℕ)
     → is_declared Handle variables assigned_to ≡ true → IsKept variables done state
     → Each IsPlain heap → ((named : ℕ) (block : Block) → block_at state.heap named ≡ Some block → IsCalledBlock block (block_at heap named))
     → IsHandleValue heap false value → ((named : ℕ) → value ≡ handle named → length state.heap < named)
-    → IsNext variables done state (form.NewHandle assigned_to size) (record { variables = (assigned_to, value) ∷ state.variables; heap = heap; schedule = schedule; allocations = allocations; output = state.output })
+    → IsNext variables done state (form.NewHandle assigned_to size)
+    (record { variables = (assigned_to, value) ∷ state.variables; heap = heap; schedule = schedule; allocations = allocations; output = state.output })
 new_handle_kept variables done state assigned_to size value heap schedule allocations declared kept plain called is_value fresh = record {
   is_plain = plain;
   others = λ variable other. lookup-other variable assigned_to value state.variables other;
@@ -268,16 +274,19 @@ new_handle_kept variables done state assigned_to size value heap schedule alloca
   };
   locks = λ variable named block later is_handle other is_held is_block is_later.
       locks_same (form.NewHandle assigned_to size) done variable block later (rw other refl)
-      (same_lock (block_at heap named) (called named block is_block).later later (called named block is_block).is_later is_later ∙ (called named block is_block).same_lock);
+      (same_lock (block_at heap named) (called named block is_block).later later (called named block is_block).is_later is_later
+      ∙ (called named block is_block).same_lock);
   new_handle = λ variable held is_assigned is_handle is_held.
-      subst (λ (v : Value). IsHandleValue heap (is_locked_after variable (form.NewHandle assigned_to size ∷ done)) v) (sym (lookup-assigned variable assigned_to value held state.variables is_assigned is_held))
+      subst (λ (v : Value). IsHandleValue heap (is_locked_after variable (form.NewHandle assigned_to size ∷ done)) v)
+      (sym (lookup-assigned variable assigned_to value held state.variables is_assigned is_held))
       (rw is_assigned is_value);
   new_own = λ variable other named is_assigned is_handle other_handle one two.
       too_large other named other_handle two (fresh named (sym (lookup-assigned variable assigned_to value (handle named) state.variables is_assigned one)));
   new_pointer = λ variable held is_assigned is_pointer. absurd (other_kind variables assigned_to variable Handle Pointer refl declared is_assigned is_pointer);
 }
   where
-    too_large : (other named : ℕ) → is_declared Handle variables other ≡ true → lookup state.variables other ≡ Some (handle named) → length state.heap < named → ⊥
+    too_large : (other named : ℕ) → is_declared Handle variables other ≡ true → lookup state.variables other ≡ Some (handle named)
+        → length state.heap < named → ⊥
     too_large other named other_handle found large =
         let known : IsHandleOf state.heap (is_locked_after other done) named = kept.handles other (handle named) other_handle found in
         let small : named ≤ length state.heap = block_at-within state.heap named known.block known.is_block in
@@ -289,7 +298,8 @@ shifted_block : (decision : Decision) (heap added : List Block) → Each IsPlain
 shifted_block decision heap added plain zero block found = absurd (none-some block found)
 shifted_block decision heap added plain (suc place) block found = go (slice_get-shift_from new_handle_powers decision 1 heap plain place block found)
   where
-    go : (later : Block) × (slice_get (shift new_handle_powers decision heap) place ≡ Some later) × IsShifted block later → IsCalledBlock block (slice_get (shift new_handle_powers decision heap ++ added) place)
+    go : (later : Block) × (slice_get (shift new_handle_powers decision heap) place ≡ Some later) × IsShifted block later
+        → IsCalledBlock block (slice_get (shift new_handle_powers decision heap ++ added) place)
     go (later, is_later, shifted_so) = record {
       later = later;
       is_later = slice_get-append (shift new_handle_powers decision heap) added place later is_later;
@@ -301,7 +311,11 @@ shifted_block decision heap added plain (suc place) block found = go (slice_get-
 abbrev pub allocated_if : Bool → State → ℕ → ℕ → State
 allocated_if granted state variable size =
     if granted
-    then record state { variables = (variable, handle (length state.heap + 1)) ∷ state.variables; heap = state.heap ++ new_block size ∷ []; allocations = state.allocations + 1 }
+    then record state {
+      variables = (variable, handle (length state.heap + 1)) ∷ state.variables;
+      heap = state.heap ++ new_block size ∷ [];
+      allocations = state.allocations + 1;
+    }
     else record state { variables = (variable, nil) ∷ state.variables; allocations = state.allocations + 1 }
 
 -- a call of NewHandle keeps all
@@ -319,15 +333,18 @@ new_handle_next input variables done state assigned_to size declared kept = go (
     same_length : length heap ≡ length state.heap
     same_length = length-shift_from new_handle_powers (next_decision state.schedule) 1 state.heap
 
-    go : (granted : Bool) → IsNext variables done state (form.NewHandle assigned_to size) (allocated_if granted (shifted_by new_handle_powers state) assigned_to size)
+    go : (granted : Bool) → IsNext variables done state (form.NewHandle assigned_to size)
+        (allocated_if granted (shifted_by new_handle_powers state) assigned_to size)
     go true =
-        new_handle_kept variables done state assigned_to size (handle (length heap + 1)) (heap ++ new_block size ∷ []) (later_decisions state.schedule) (state.allocations + 1) declared kept
+        new_handle_kept variables done state assigned_to size (handle (length heap + 1)) (heap ++ new_block size ∷ [])
+        (later_decisions state.schedule) (state.allocations + 1) declared kept
         (append-plain heap (new_block size ∷ []) plain (record { is_present = refl; is_kept = refl }, tt))
         (shifted_block (next_decision state.schedule) state.heap (new_block size ∷ []) kept.is_plain)
         (record { block = new_block size; is_block = block_at-last heap (new_block size); is_locked = λ locked. absurd (true≢false (sym locked)) })
         (λ named is_named. let same : length heap + 1 ≡ named = handle-handle (length heap + 1) named (ap Some is_named) in omega (arith, same_length))
     go false =
         new_handle_kept variables done state assigned_to size nil heap (later_decisions state.schedule) (state.allocations + 1) declared kept plain
-        (λ named block found. subst (λ (h : List Block). IsCalledBlock block (block_at h named)) (append-nil heap) (shifted_block (next_decision state.schedule) state.heap [] kept.is_plain named block found))
+        (λ named block found. subst (λ (h : List Block). IsCalledBlock block (block_at h named)) (append-nil heap)
+        (shifted_block (next_decision state.schedule) state.heap [] kept.is_plain named block found))
         tt
         (λ named is_named. absurd (nil-handle named (ap Some is_named)))

@@ -54,7 +54,8 @@ lookup-still [] variable = refl
 lookup-still (entry ∷ entries) variable = go (lookup-still entries variable) (entry.0 == variable)
   where
     go : lookup (map still_entry entries) variable ≡ option_map still_value (lookup entries variable) → (found : Bool)
-        → (if found then Some (still_value entry.1) else lookup (map still_entry entries) variable) ≡ option_map still_value (if found then Some entry.1 else lookup entries variable)
+        → (if found then Some (still_value entry.1) else lookup (map still_entry entries) variable)
+        ≡ option_map still_value (if found then Some entry.1 else lookup entries variable)
     go before true = refl
     go before false = before
 
@@ -64,13 +65,15 @@ block_at-still heap zero = refl
 block_at-still heap (suc place) = slice_get-map still_block heap place
 
 -- to put a block and then to still the heap is to put the still block
-pub put_block-still : (heap : List Block) (n : ℕ) (block : Block) → put_block (map still_block heap) n (still_block block) ≡ map still_block (put_block heap n block)
+pub put_block-still : (heap : List Block) (n : ℕ) (block : Block)
+    → put_block (map still_block heap) n (still_block block) ≡ map still_block (put_block heap n block)
 put_block-still heap zero block = refl
 put_block-still heap (suc place) block = sym (map-set still_block heap place block)
 
 -- a sum of what stilling keeps is kept
 fold-still : (heap : List Block) (before : ℕ)
-    → fold (λ total block. total + live_size block.presence (length block.cells)) before (map still_block heap) ≡ fold (λ total block. total + live_size block.presence (length block.cells)) before heap
+    → fold (λ total block. total + live_size block.presence (length block.cells)) before (map still_block heap)
+    ≡ fold (λ total block. total + live_size block.presence (length block.cells)) before heap
 fold-still [] before = refl
 fold-still (block ∷ blocks) before = fold-still blocks (before + live_size block.presence (length block.cells))
 
@@ -94,7 +97,8 @@ shifted-plain powers decision n block plain = rw not_purged (go (is_moved powers
 
     not_moved : block.locked ≡ true → is_moved powers decision n block ≡ false
     not_moved locked =
-        and_right ((powers.moves || powers.purges) && is_named decision.moves n) (is_loose block) (and_right (is_present block.presence) (not block.locked) (not_from_true block.locked locked))
+        and_right ((powers.moves || powers.purges) && is_named decision.moves n) (is_loose block)
+        (and_right (is_present block.presence) (not block.locked) (not_from_true block.locked locked))
 
     go : (moved : Bool) → is_moved powers decision n block ≡ moved → IsShifted block (if moved then record block { epoch = block.epoch + 1 } else block)
     go true is_moved_here = record {
@@ -113,7 +117,8 @@ shift_from-still powers decision n (block ∷ blocks) plain =
     rw ((shifted-plain powers decision n block plain.0).same_still, shift_from-still powers decision (suc n) blocks plain.1) refl
 
 -- the blocks of a shifted heap are plain
-pub shift_from-plain : (powers : Powers) (decision : Decision) (n : ℕ) (heap : List Block) → Each IsPlain heap → Each IsPlain (shift_from powers decision n heap)
+pub shift_from-plain : (powers : Powers) (decision : Decision) (n : ℕ) (heap : List Block) → Each IsPlain heap
+    → Each IsPlain (shift_from powers decision n heap)
 shift_from-plain powers decision n [] plain = tt
 shift_from-plain powers decision n (block ∷ blocks) plain =
     ((shifted-plain powers decision n block plain.0).is_plain, shift_from-plain powers decision (suc n) blocks plain.1)
@@ -124,12 +129,18 @@ length-shift_from powers decision n [] = refl
 length-shift_from powers decision n (block ∷ blocks) = ap suc (length-shift_from powers decision (suc n) blocks)
 
 -- each block is there after a shift, as the shift leaves it
-pub slice_get-shift_from : (powers : Powers) (decision : Decision) (n : ℕ) (heap : List Block) → Each IsPlain heap → (place : ℕ) (block : Block) → slice_get heap place ≡ Some block
+pub slice_get-shift_from : (powers : Powers) (decision : Decision) (n : ℕ) (heap : List Block) → Each IsPlain heap
+    → (place : ℕ) (block : Block) → slice_get heap place ≡ Some block
     → (after : Block) × (slice_get (shift_from powers decision n heap) place ≡ Some after) × IsShifted block after
 slice_get-shift_from powers decision n [] plain place block found = absurd (none-some block found)
-slice_get-shift_from powers decision n (first ∷ blocks) plain zero block found =
-    (shifted powers decision n first, refl, subst (λ (b : Block). IsShifted b (shifted powers decision n first)) (same_Some first block found) (shifted-plain powers decision n first plain.0))
-slice_get-shift_from powers decision n (first ∷ blocks) plain (suc place) block found = slice_get-shift_from powers decision (suc n) blocks plain.1 place block found
+slice_get-shift_from powers decision n (first ∷ blocks) plain zero block found = (
+  shifted powers decision n first,
+  refl,
+  subst (λ (b : Block). IsShifted b (shifted powers decision n first)) (same_Some first block found)
+      (shifted-plain powers decision n first plain.0),
+)
+slice_get-shift_from powers decision n (first ∷ blocks) plain (suc place) block found =
+    slice_get-shift_from powers decision (suc n) blocks plain.1 place block found
 
 -- where nothing is named, the shift changes nothing
 pub shift_from-nothing : (n : ℕ) (heap : List Block) → shift_from new_handle_powers (next_decision []) n heap ≡ heap

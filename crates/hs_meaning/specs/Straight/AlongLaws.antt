@@ -68,12 +68,15 @@ stale_kept pointer (step ∷ since) done last stale = go (derived_after pointer 
         → is_stale_after pointer (step ∷ (since ++ done)) ≡ true
     go None is_known still = absurd (true≢false (sym still))
     go (Some derivation) is_known still =
-        rw (others.0, is_known) (or_left derivation.is_stale (calls_new_handle step && not (derivation.is_same && is_locked_after derivation.handle (since ++ done))) still)
+        rw (others.0, is_known)
+        (or_left derivation.is_stale
+        (calls_new_handle step && not (derivation.is_same && is_locked_after derivation.handle (since ++ done))) still)
 
 -- a use that is stale by the rule is stale along the steps: after the call the pointer is stale, and it stays so
 pub along-from_IsStaleUse : (pointer : ℕ) (done : List Step) → IsStaleUse (record { done = done; pointer = pointer }) → is_stale_after pointer done ≡ true
 along-from_IsStaleUse pointer done use_of =
-    subst (λ (steps : List Step). is_stale_after pointer steps ≡ true) (sym use_of.is_done) (stale_kept pointer use_of.since (use_of.call ∷ rest) parts.0 at_call)
+    subst (λ (steps : List Step). is_stale_after pointer steps ≡ true) (sym use_of.is_done)
+    (stale_kept pointer use_of.since (use_of.call ∷ rest) parts.0 at_call)
   where
     rest : List Step
     rest = use_of.between ++ form.Derive use_of.pos pointer use_of.handle ∷ use_of.earlier
@@ -101,8 +104,10 @@ along-from_IsStaleUse pointer done use_of =
     at_call : is_stale_after pointer (use_of.call ∷ rest) ≡ true
     at_call =
         rw (others.0, derived.is_known)
-        (or_right derived.derivation.is_stale (calls_new_handle use_of.call && not (derived.derivation.is_same && is_locked_after derived.derivation.handle rest))
-        (and_from (calls_new_handle use_of.call) (not (derived.derivation.is_same && is_locked_after derived.derivation.handle rest)) use_of.calls (unsafe use_of.is_unsafe)))
+        (or_right derived.derivation.is_stale
+        (calls_new_handle use_of.call && not (derived.derivation.is_same && is_locked_after derived.derivation.handle rest))
+        (and_from (calls_new_handle use_of.call) (not (derived.derivation.is_same && is_locked_after derived.derivation.handle rest))
+        use_of.calls (unsafe use_of.is_unsafe)))
 
 -- where a derivation comes from
 record IsTraced (pointer : ℕ) (done : List Step) (derivation : Derivation) : Type 0 where
@@ -170,7 +175,8 @@ traced_on pointer step done derivation other trace = record {
     unsafe (inl changed) = inl (not-false (list_any (assigns derivation.handle) trace.between) (sym trace.is_same ∙ changed))
     unsafe (inr unlocked) = inr (subst (λ (steps : List Step). is_locked_after derivation.handle steps ≡ false) trace.is_done unlocked)
 
-    here : (calls_new_handle step ≡ true) × (not (derivation.is_same && is_locked_after derivation.handle done) ≡ true) → IsStaleUse (record { done = step ∷ done; pointer = pointer })
+    here : (calls_new_handle step ≡ true) × (not (derivation.is_same && is_locked_after derivation.handle done) ≡ true)
+        → IsStaleUse (record { done = step ∷ done; pointer = pointer })
     here call = record {
       pos = trace.pos;
       handle = derivation.handle;
@@ -181,7 +187,9 @@ traced_on pointer step done derivation other trace = record {
       is_done = ap (λ (steps : List Step). step ∷ steps) trace.is_done;
       is_last = or_from (assigns pointer step) (list_any (assigns pointer) trace.between) other trace.is_last;
       calls = call.0;
-      is_unsafe = unsafe (and_cases derivation.is_same (is_locked_after derivation.handle done) (not-true (derivation.is_same && is_locked_after derivation.handle done) call.1));
+      is_unsafe =
+          unsafe (and_cases derivation.is_same (is_locked_after derivation.handle done)
+          (not-true (derivation.is_same && is_locked_after derivation.handle done) call.1));
     }
 
     go : (derivation.is_stale ≡ true) ⊎ ((calls_new_handle step && not (derivation.is_same && is_locked_after derivation.handle done)) ≡ true)
@@ -197,14 +205,16 @@ traced pointer (step ∷ done) derivation known = at_step (λ before is_known. t
     Earlier : Type 0
     Earlier = (before : Derivation) → derived_after pointer done ≡ Some before → IsTraced pointer done before
 
-    at_known : Earlier → assigns pointer step ≡ false → (before : Option Derivation) → derived_after pointer done ≡ before → kept_if done step before ≡ Some derivation
+    at_known : Earlier → assigns pointer step ≡ false → (before : Option Derivation) → derived_after pointer done ≡ before
+        → kept_if done step before ≡ Some derivation
         → IsTraced pointer (step ∷ done) derivation
     at_known trace other None is_known kept = absurd (none-some derivation kept)
     at_known trace other (Some before) is_known kept =
         subst (λ (d : Derivation). IsTraced pointer (step ∷ done) d) (same_Some (kept_by done step before) derivation kept)
         (traced_on pointer step done before other (trace before is_known))
 
-    at_step : Earlier → (assigned : Bool) → assigns pointer step ≡ assigned → (if assigned then derived_by step else kept_if done step (derived_after pointer done)) ≡ Some derivation
+    at_step : Earlier → (assigned : Bool) → assigns pointer step ≡ assigned
+        → (if assigned then derived_by step else kept_if done step (derived_after pointer done)) ≡ Some derivation
         → IsTraced pointer (step ∷ done) derivation
     at_step trace true same is_known = traced_by pointer step done derivation same is_known
     at_step trace false other is_known = at_known trace other (derived_after pointer done) refl is_known
@@ -213,6 +223,7 @@ traced pointer (step ∷ done) derivation known = at_step (λ before is_known. t
 pub IsStaleUse-from_along : (pointer : ℕ) (done : List Step) → is_stale_after pointer done ≡ true → IsStaleUse (record { done = done; pointer = pointer })
 IsStaleUse-from_along pointer done stale = go (derived_after pointer done) refl stale
   where
-    go : (known : Option Derivation) → derived_after pointer done ≡ known → is_stale_derivation known ≡ true → IsStaleUse (record { done = done; pointer = pointer })
+    go : (known : Option Derivation) → derived_after pointer done ≡ known → is_stale_derivation known ≡ true
+        → IsStaleUse (record { done = done; pointer = pointer })
     go None is_known here = absurd (true≢false (sym here))
     go (Some derivation) is_known here = (traced pointer done derivation is_known).is_use here

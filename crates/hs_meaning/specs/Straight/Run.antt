@@ -134,7 +134,11 @@ is_granted input state size = if list_any (λ refused. refused == state.allocati
 abbrev pub allocated : Input → State → ℕ → ℕ → State
 allocated input state variable size =
     if is_granted input state size
-    then record state { variables = (variable, handle (length state.heap + 1)) ∷ state.variables; heap = state.heap ++ new_block size ∷ []; allocations = state.allocations + 1 }
+    then record state {
+      variables = (variable, handle (length state.heap + 1)) ∷ state.variables;
+      heap = state.heap ++ new_block size ∷ [];
+      allocations = state.allocations + 1;
+    }
     else record state { variables = (variable, nil) ∷ state.variables; allocations = state.allocations + 1 }
 
 -- HLock and HUnlock of a variable

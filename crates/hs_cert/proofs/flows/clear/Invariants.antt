@@ -3,4 +3,6 @@ use Rattle.hs_cut.specs.Networks.{among}
 use Rattle.hs_cert.proofs.flows.clear.Given as goal
 
 abbrev pub invariant-loop-vertex : goal.invariant-loop-vertex
-invariant-loop-vertex l = (vertex : ℕ) → get_or l.sums vertex (pos 0) ≡ cond (among (take l.vertex-index l.vertices) vertex) (pos 0) (get_or l.initial.sums vertex (pos 0))
+invariant-loop-vertex l =
+    (vertex : ℕ)
+    → get_or l.sums vertex (pos 0) ≡ cond (among (take l.vertex-index l.vertices) vertex) (pos 0) (get_or l.initial.sums vertex (pos 0))

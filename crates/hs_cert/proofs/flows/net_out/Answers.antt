@@ -21,5 +21,7 @@ loop-at-preserved c =
     let small : nat_abs out ≤ 2147483647 = out_over-size (marked c.args.marks.now) edge amount 2147483647 bounded in
     let low : nat_abs total ≤ c.loop-at.at * 2147483647 = c.loop-at.invariant.1 in
     let now : to_z w64 (of_z w64 (total +ℤ to_z w64 (of_z w64 c.out_over-total.result))) ≡ total +ℤ out = omega (arith, ints, is) in
-    let left = net_out_more (marked c.args.marks.now) c.args.edges.now c.args.flow.now c.loop-at.at (record { from = 0; to = 0; slot = false }) (pos 0) (omega arith) (omega arith) in
+    let left =
+    net_out_more (marked c.args.marks.now) c.args.edges.now c.args.flow.now c.loop-at.at (record { from = 0; to = 0; slot = false }) (pos 0)
+    (omega arith) (omega arith) in
     (rw now (total_more total out _ _ (rw (← left) c.loop-at.invariant.0)), rw now (total_small total out c.loop-at.at 2147483647 low small))

@@ -5,4 +5,6 @@ use Rattle.hs_cert.specs.Marks.{marked}
 use Rattle.hs_cert.proofs.flows.net_out.Given as goal
 
 abbrev pub invariant-loop-at : goal.invariant-loop-at
-invariant-loop-at l = (l.total +ℤ net_out (marked l.marks) (drop l.at l.edges) (drop l.at l.flow) ≡ net_out (marked l.marks) l.edges l.flow) × (nat_abs l.total ≤ l.at * 2147483647)
+invariant-loop-at l =
+    (l.total +ℤ net_out (marked l.marks) (drop l.at l.edges) (drop l.at l.flow) ≡ net_out (marked l.marks) l.edges l.flow)
+    × (nat_abs l.total ≤ l.at * 2147483647)

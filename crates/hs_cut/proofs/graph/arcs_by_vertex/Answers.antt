@@ -13,7 +13,9 @@ loop-index-preserved c =
     let below : c.loop-index.index < length edges = omega arith in
     record {
       each = omega (arith, c.in_ok-put_arc.ensures.each, c.in_ok-put_arc-2.ensures.each, c.loop-index.invariant.each);
-      graph = rw (sym c.items-edge-items.ensures) (arcs_at-more c.loop-index.rows.items c.put_arc.new.rows.items c.put_arc-in-loop-index.new.rows.items edges c.loop-index.index edge
-          below (get_or_default edges c.loop-index.index none edge below)
+      graph =
+          rw (sym c.items-edge-items.ensures)
+          (arcs_at-more c.loop-index.rows.items c.put_arc.new.rows.items c.put_arc-in-loop-index.new.rows.items edges c.loop-index.index
+          edge below (get_or_default edges c.loop-index.index none edge below)
           (rw c.items-edge-items.ensures c.loop-index.invariant.graph) c.in_ok-put_arc.ensures.put c.in_ok-put_arc-2.ensures.put);
     }

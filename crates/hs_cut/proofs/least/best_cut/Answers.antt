@@ -23,11 +23,13 @@ returns-clause-chosen c =
 -- the flow fits it
 pub returns-clause-fits : goal.returns-clause-fits
 returns-clause-fits c =
-    rw c.from_vec-3.ensures (Fits-reached c.args.network.now c.in_ok-rows.rows.items c.in_ok-full.full.flow.items c.in_ok-full.full.levels.items (among c.from_vec-2.result)
-    c.requires.numbered c.requires.countable c.in_ok-rows.ensures.graph (filled c) (reached c))
+    rw c.from_vec-3.ensures
+    (Fits-reached c.args.network.now c.in_ok-rows.rows.items c.in_ok-full.full.flow.items c.in_ok-full.full.levels.items
+    (among c.from_vec-2.result) c.requires.numbered c.requires.countable c.in_ok-rows.ensures.graph (filled c) (reached c))
 
 -- nothing stands in its way
 pub returns-clause-open : goal.returns-clause-open
 returns-clause-open c path =
     no_obstacle c.args.network.now (among c.from_vec-2.result) path
-    (IsCut-reached c.args.network.now c.in_ok-rows.rows.items c.in_ok-full.full.flow.items c.in_ok-full.full.levels.items (among c.from_vec-2.result) c.in_ok-rows.ensures.graph (filled c) (reached c))
+    (IsCut-reached c.args.network.now c.in_ok-rows.rows.items c.in_ok-full.full.flow.items c.in_ok-full.full.levels.items
+    (among c.from_vec-2.result) c.in_ok-rows.ensures.graph (filled c) (reached c))

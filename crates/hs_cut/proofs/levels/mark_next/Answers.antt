@@ -10,7 +10,10 @@ mark_row-requires c =
     let vertex = get_or c.args.frontier.now c.loop-vertex.vertex-index 0 in
     let known : vertex < length c.args.rows.now = c.requires.known c.loop-vertex.vertex-index 0 c.loop-vertex-test.true in
     let long : length c.args.rows.now ≡ length c.loop-vertex.levels = omega (arith, c.requires.long, c.loop-vertex.invariant.long) in
-    record { inside = inside-row c.args.rows.now vertex c.index-rows-vertex.result c.deref.result.now (length c.args.gates.now) (length c.loop-vertex.levels) c.requires.inside known c.index-rows-vertex.is c.deref.ensures.value long }
+    record {
+      inside = inside-row c.args.rows.now vertex c.index-rows-vertex.result c.deref.result.now (length c.args.gates.now)
+          (length c.loop-vertex.levels) c.requires.inside known c.index-rows-vertex.is c.deref.ensures.value long;
+    }
 
 -- one vertex more
 pub loop-vertex-preserved : goal.loop-vertex-preserved
@@ -19,6 +22,7 @@ loop-vertex-preserved c =
     let known : vertex < length c.args.rows.now = c.requires.known c.loop-vertex.vertex-index 0 c.loop-vertex-test.true in
     let found : next_to c.args.gates.now c.args.rows.now vertex ≡ targets c.args.gates.now c.deref.result.now =
     ap (targets c.args.gates.now) (arcs_from-row c.args.rows.now vertex c.index-rows-vertex.result known c.index-rows-vertex.is ∙ sym c.deref.ensures.value) in
-    IsMarked-next (next_to c.args.gates.now c.args.rows.now) c.args.level c.args.frontier.now c.loop-vertex.vertex-index (targets c.args.gates.now c.deref.result.now)
+    IsMarked-next (next_to c.args.gates.now c.args.rows.now) c.args.level c.args.frontier.now c.loop-vertex.vertex-index
+    (targets c.args.gates.now c.deref.result.now)
     c.args.levels.now c.args.next.now.items c.loop-vertex.levels c.loop-vertex.next.items c.mark_row.new.levels c.mark_row.new.next.items
     c.loop-vertex-test.true found c.loop-vertex.invariant c.in_ok-mark_row.ensures

@@ -11,7 +11,10 @@ pub least_step-requires : goal.least_step-requires
 least_step-requires c =
     let within : c.steps.vertex < length c.args.levels.now = level-within c.args.levels.now c.steps.vertex c.steps.level c.steps.invariant.at in
     let known : c.steps.vertex < length c.args.rows.now = omega (arith, c.requires.long) in
-    record { inside = inside-row c.args.rows.now c.steps.vertex c.index-rows-vertex.result c.as_slice-row.result.now (length c.args.gates.now) (length c.args.levels.now) c.requires.inside known c.index-rows-vertex.is c.as_slice-row.ensures.value (sym c.requires.long) }
+    record {
+      inside = inside-row c.args.rows.now c.steps.vertex c.index-rows-vertex.result c.as_slice-row.result.now (length c.args.gates.now)
+          (length c.args.levels.now) c.requires.inside known c.index-rows-vertex.is c.as_slice-row.ensures.value (sym c.requires.long);
+    }
 
 -- a vertex of the level below is a step away
 pub unreachable-requires : goal.unreachable-requires
@@ -19,7 +22,9 @@ unreachable-requires c =
     let within : c.steps.vertex < length c.args.levels.now = level-within c.args.levels.now c.steps.vertex c.steps.level c.steps.invariant.at in
     let known : c.steps.vertex < length c.args.rows.now = omega (arith, c.requires.long) in
     let found : next_to c.args.gates.now c.args.rows.now c.steps.vertex ≡ targets c.args.gates.now c.as_slice-row.result.now =
-    ap (targets c.args.gates.now) (arcs_from-row c.args.rows.now c.steps.vertex c.index-rows-vertex.result known c.index-rows-vertex.is ∙ sym c.as_slice-row.ensures.value) in
+    ap (targets c.args.gates.now)
+    (arcs_from-row c.args.rows.now c.steps.vertex c.index-rows-vertex.result known c.index-rows-vertex.is
+    ∙ sym c.as_slice-row.ensures.value) in
     let same : c.steps.level ≡ (c.steps.level - 1) + 1 = omega arith in
     let next = c.requires.below c.steps.vertex (c.steps.level - 1) (c.steps.invariant.at ∙ ap (λ n. Some n) same) in
     let is : IsAt c.args.levels.now (c.steps.level - 1) (targets c.args.gates.now c.as_slice-row.result.now) next.0 = rw (sym found) next.1 in
@@ -31,8 +36,16 @@ steps-preserved c =
     let within : c.steps.vertex < length c.args.levels.now = level-within c.args.levels.now c.steps.vertex c.steps.level c.steps.invariant.at in
     let known : c.steps.vertex < length c.args.rows.now = omega (arith, c.requires.long) in
     let found : next_to c.args.gates.now c.args.rows.now c.steps.vertex ≡ targets c.args.gates.now c.as_slice-row.result.now =
-    ap (targets c.args.gates.now) (arcs_from-row c.args.rows.now c.steps.vertex c.index-rows-vertex.result known c.index-rows-vertex.is ∙ sym c.as_slice-row.ensures.value) in
+    ap (targets c.args.gates.now)
+    (arcs_from-row c.args.rows.now c.steps.vertex c.index-rows-vertex.result known c.index-rows-vertex.is
+    ∙ sym c.as_slice-row.ensures.value) in
     let same : c.steps.level ≡ suc (c.steps.level - 1) = omega arith in
-    let least : IsLeastAt c.args.levels.now (c.steps.level - 1) (next_to c.args.gates.now c.args.rows.now c.steps.vertex) (Some c.in-Some.next) = rw found c.in-Some.ensures in
-    let down = subst (λ n. IsDescent c.args.gates.now c.args.rows.now c.args.levels.now c.args.first c.args.first_level c.steps.vertex n c.steps.path.items) same c.steps.invariant in
-    rw c.in_ok-push-2.ensures.items (IsDescent-step c.args.gates.now c.args.rows.now c.args.levels.now c.args.first c.args.first_level c.steps.vertex (c.steps.level - 1) c.steps.path.items c.in-Some.next down least)
+    let least : IsLeastAt c.args.levels.now (c.steps.level - 1) (next_to c.args.gates.now c.args.rows.now c.steps.vertex)
+    (Some c.in-Some.next) =
+    rw found c.in-Some.ensures in
+    let down =
+    subst (λ n. IsDescent c.args.gates.now c.args.rows.now c.args.levels.now c.args.first c.args.first_level c.steps.vertex n c.steps.path.items)
+    same c.steps.invariant in
+    rw c.in_ok-push-2.ensures.items
+    (IsDescent-step c.args.gates.now c.args.rows.now c.args.levels.now c.args.first c.args.first_level c.steps.vertex (c.steps.level - 1)
+    c.steps.path.items c.in-Some.next down least)

@@ -10,9 +10,11 @@ loop-vertex-preserved c =
     let vertex = get_or c.args.vertices.now c.loop-vertex.vertex-index 0 in
     elim c.if-eq.branch [
       | then-eq w ↦
-          IsLeastAt-then c.args.levels.now c.args.level c.args.vertices.now c.loop-vertex.vertex-index c.loop-vertex.least c.if-eq.least c.loop-vertex-test.true c.loop-vertex.invariant
+          IsLeastAt-then c.args.levels.now c.args.level c.args.vertices.now c.loop-vertex.vertex-index c.loop-vertex.least c.if-eq.least
+          c.loop-vertex-test.true c.loop-vertex.invariant
           (option_eq-true (level_at c.args.levels.now vertex) c.args.level (sym w.if-eq.ensures)) (w.least-is ∙ ap (λ n. Some n) w.lesser.ensures)
       | else-eq w ↦
-          IsLeastAt-else c.args.levels.now c.args.level c.args.vertices.now c.loop-vertex.vertex-index c.loop-vertex.least c.if-eq.least c.loop-vertex-test.true c.loop-vertex.invariant
+          IsLeastAt-else c.args.levels.now c.args.level c.args.vertices.now c.loop-vertex.vertex-index c.loop-vertex.least c.if-eq.least
+          c.loop-vertex-test.true c.loop-vertex.invariant
           (option_eq-false (level_at c.args.levels.now vertex) c.args.level (sym w.if-eq.ensures)) w.least-is
     ]

@@ -8,10 +8,12 @@ use Rattle.hs_cut.proofs.obstacle.least_level.Goals.{in-Some, in_default}
 pub loop-vertex-preserved : goal.loop-vertex-preserved
 loop-vertex-preserved c = elim c.match-levels-vertex.branch [
   | in-Some w ↦
-      IsLeastLevel-then c.args.levels.now c.args.vertices.now c.loop-vertex.vertex-index w.in-Some.level c.loop-vertex.least c.match-levels-vertex.least c.loop-vertex-test.true c.loop-vertex.invariant
+      IsLeastLevel-then c.args.levels.now c.args.vertices.now c.loop-vertex.vertex-index w.in-Some.level c.loop-vertex.least
+      c.match-levels-vertex.least c.loop-vertex-test.true c.loop-vertex.invariant
       w.in-Some.is (w.least-is ∙ ap (λ n. Some n) w.lesser.ensures)
   | in_default w ↦
-      IsLeastLevel-else c.args.levels.now c.args.vertices.now c.loop-vertex.vertex-index c.loop-vertex.least c.match-levels-vertex.least c.loop-vertex-test.true c.loop-vertex.invariant w.in_default.is w.least-is
+      IsLeastLevel-else c.args.levels.now c.args.vertices.now c.loop-vertex.vertex-index c.loop-vertex.least c.match-levels-vertex.least
+      c.loop-vertex-test.true c.loop-vertex.invariant w.in_default.is w.least-is
 ]
 
 -- all vertices were looked at

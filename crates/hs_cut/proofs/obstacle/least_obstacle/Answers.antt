@@ -19,8 +19,11 @@ pub returns-in_default-clause-open : goal.returns-in_default-clause-open
 returns-in_default-clause-open c =
     let gates = c.as_slice.ensures.value ∙ c.in_ok-gates.ensures ∙ ap (map uncut_gate) c.items.ensures in
     let all = rw (gates, c.items-2.ensures) at c.in_ok-levels.ensures in
-    let none : IsLeastLevel c.in_ok-levels.levels.items c.args.network.now.inside None = rw (sym c.as_slice-2.ensures.value, sym c.items-inside.ensures) c.in_default.ensures in
-    ((λ vertex. is_none (level_at c.in_ok-levels.levels.items vertex)), IsCut-unreached c.args.network.now c.args.rows.now c.in_ok-levels.levels.items c.requires.graph all none)
+    let none : IsLeastLevel c.in_ok-levels.levels.items c.args.network.now.inside None =
+    rw (sym c.as_slice-2.ensures.value, sym c.items-inside.ensures) c.in_default.ensures in (
+      (λ vertex. is_none (level_at c.in_ok-levels.levels.items vertex)),
+      IsCut-unreached c.args.network.now c.args.rows.now c.in_ok-levels.levels.items c.requires.graph all none,
+    )
 
 pub descent-requires-clause-inside : goal.descent-requires-clause-inside
 descent-requires-clause-inside c =
@@ -36,7 +39,8 @@ descent-requires-clause-below c =
     let gates = c.as_slice.ensures.value ∙ c.in_ok-gates.ensures ∙ ap (map uncut_gate) c.items.ensures in
     let all = rw (gates, c.items-2.ensures) at c.in_ok-levels.ensures in
     let back = c.as_slice-4.ensures.value ∙ c.in_ok-gates.ensures ∙ ap (map uncut_gate) c.items.ensures in
-    rw (c.as_slice-5.ensures.value, back) (below-level c.args.network.now.edges c.args.rows.now c.args.network.now.outside c.in_ok-levels.levels.items c.requires.graph all)
+    rw (c.as_slice-5.ensures.value, back)
+    (below-level c.args.network.now.edges c.args.rows.now c.args.network.now.outside c.in_ok-levels.levels.items c.requires.graph all)
 
 -- the way down is the least obstacle
 pub returns-clause-found : goal.returns-clause-found
@@ -45,7 +49,11 @@ returns-clause-found c =
     let all = rw (gates, c.items-2.ensures) at c.in_ok-levels.ensures in
     let back = c.as_slice-4.ensures.value ∙ c.in_ok-gates.ensures ∙ ap (map uncut_gate) c.items.ensures in
     let rest = c.in_ok-path.ensures.begins.0 in
-    let low : IsLeastLevel c.in_ok-levels.levels.items c.args.network.now.inside (Some c.in-Some.level) = rw (sym c.as_slice-2.ensures.value, sym c.items-inside.ensures) c.in-Some.ensures in
-    let least : IsLeastAt c.in_ok-levels.levels.items c.in-Some.level c.args.network.now.inside (Some c.in-Some-least_at.first) = rw (sym c.as_slice-3.ensures.value, sym c.items-inside.ensures) c.in-Some-least_at.ensures in
+    let low : IsLeastLevel c.in_ok-levels.levels.items c.args.network.now.inside (Some c.in-Some.level) =
+    rw (sym c.as_slice-2.ensures.value, sym c.items-inside.ensures) c.in-Some.ensures in
+    let least : IsLeastAt c.in_ok-levels.levels.items c.in-Some.level c.args.network.now.inside (Some c.in-Some-least_at.first) =
+    rw (sym c.as_slice-3.ensures.value, sym c.items-inside.ensures) c.in-Some-least_at.ensures in
     let down = rw (back, c.as_slice-5.ensures.value, c.in_ok-path.ensures.begins.1) at c.in_ok-path.ensures.descends in
-    rw c.in_ok-path.ensures.begins.1 (IsLeastObstacle-descent c.args.network.now c.args.rows.now c.in_ok-levels.levels.items c.in-Some.level c.in-Some-least_at.first rest c.requires.graph all low least down)
+    rw c.in_ok-path.ensures.begins.1
+    (IsLeastObstacle-descent c.args.network.now c.args.rows.now c.in_ok-levels.levels.items c.in-Some.level c.in-Some-least_at.first rest
+    c.requires.graph all low least down)

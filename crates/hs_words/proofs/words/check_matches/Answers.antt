@@ -32,5 +32,7 @@ returns-clause-faults c =
 
 pub returns-clause-matches : goal.returns-clause-matches
 returns-clause-matches c =
-    subst (λ (app : App). IfOk c.try_get_matches_from.result (λ matches. rows_of (found_of matches) ≡ matches_of app (map string_bytes c.args.words.now))) (built c)
+    subst (λ (app : App). IfOk c.try_get_matches_from.result
+    (λ matches. rows_of (found_of matches) ≡ matches_of app (map string_bytes c.args.words.now)))
+    (built c)
     (IfOk-weaker c.try_get_matches_from.result _ _ (λ matches is. (is (ap is_simple (built c) ∙ is_plain)).0) c.try_get_matches_from.ensures.matches)

@@ -15,7 +15,8 @@ texts_of values = map (λ value. value.now) values.now
 pub returns-in-Some : goal.returns-in-Some
 returns-in-Some c =
     let rows = values_are (found_of c.args.matches.now) (codes "FILE") c.get_raw.result texts_of c.get_raw.ensures in
-    let read : Some (texts_of c.in-Some.values) ≡ all_of (codes "FILE") (rows_of (found_of c.args.matches.now)) = ap (option_map texts_of) (sym c.in-Some.is) ∙ rows in
+    let read : Some (texts_of c.in-Some.values) ≡ all_of (codes "FILE") (rows_of (found_of c.args.matches.now)) =
+    ap (option_map texts_of) (sym c.in-Some.is) ∙ rows in
     IfOk-weaker c.copies.result _ _ (λ names is. is ∙ ap (λ (all : Option (List (List ℕ))). unwrap_or all []) read) c.copies.ensures
 
 pub returns-in-None : goal.returns-in-None
