@@ -31,7 +31,8 @@ report_of told words names reads before now NoMemory is_check is = tt
 -- the files were judged, and the line was put, or that of want of memory
 pub answered_by : {F : Type 0} (leads : F → List ℕ → ℕ → F → Type 0) (first final : F) (call : Call) (answer : Status) (names : List (List ℕ)) (report : Report)
     → IsCheck call.words names
-    → (reads : List (List ℕ)) × Leads leads first reads final × AreFirstReads call.told names reads × IsVerdict call.told names reads call.before call.now report
+    → (reads : List (List ℕ)) × Leads leads first reads final × AreFirstReads call.told names reads
+    × IsVerdict call.told names reads call.before call.now report
     → IsPutReport report call.old call.new answer → IsAnswered leads first final call answer
 answered_by leads first final call answer names report is_check judged (inl put) = record {
   reads = judged.0;
@@ -83,9 +84,11 @@ abbrev pub names_of : Command → List (List ℕ)
 names_of (Check names) = map string_bytes names.items
 
 -- a check that was asked for and judged
-pub obeyed : {F : Type 0} (leads : F → List ℕ → ℕ → F → Type 0) (first final : F) (call : Call) (answer : Status) (command : Command) (names : List (List ℕ)) (report : Report)
+pub obeyed : {F : Type 0} (leads : F → List ℕ → ℕ → F → Type 0) (first final : F) (call : Call) (answer : Status) (command : Command)
+    (names : List (List ℕ)) (report : Report)
     → IsCommand call.words (Ok command) → names ≡ names_of command
-    → (reads : List (List ℕ)) × Leads leads first reads final × AreFirstReads call.told names reads × IsVerdict call.told names reads call.before call.now report
+    → (reads : List (List ℕ)) × Leads leads first reads final × AreFirstReads call.told names reads
+    × IsVerdict call.told names reads call.before call.now report
     → IsPutReport report call.old call.new answer → IsAnswered leads first final call answer
 obeyed leads first final call answer (Check its) names report is_command same judged put =
     answered_by leads first final call answer names report (subst (IsCheck call.words) (sym same) is_command) judged put

@@ -34,7 +34,8 @@ pub data IsCause (report : Report) (answer : Status) (old new : Written) : Type 
 cause : (report : Report) (answer : Status) (old new : Written) → IsPutAs (text_of report) (status_of report) old new answer → IsCause report answer old new
 cause report answer old new done = go done.put done.is_put done.is_status
   where
-    go : (put : Result Unit Failed) → IsPut (text_of report) old.bytes new.bytes old.faults new.faults put → answer ≡ status_after (status_of report) put → IsCause report answer old new
+    go : (put : Result Unit Failed) → IsPut (text_of report) old.bytes new.bytes old.faults new.faults put
+        → answer ≡ status_after (status_of report) put → IsCause report answer old new
     go (Ok unit) is_put is_status = whole is_status
     go (Err failed) is_put is_status = cut is_status is_put.2
 
@@ -55,7 +56,8 @@ parsed : (source other : Source) → ◌≡◌ {A = Result Source ReadError} (Ok
 parsed source other same are = subst (λ (it : Source). AreParsed it.units) (same_source source other same) are
 
 -- a unit of them that is none of the grammar
-refused_at : (source other : Source) (pos : Pos) → ◌≡◌ {A = Result Source ReadError} (Ok source) (Ok other) → HasSyntaxAt source.units pos → HasSyntaxAt other.units pos
+refused_at : (source other : Source) (pos : Pos) → ◌≡◌ {A = Result Source ReadError} (Ok source) (Ok other)
+    → HasSyntaxAt source.units pos → HasSyntaxAt other.units pos
 refused_at source other pos same has = subst (λ (it : Source). HasSyntaxAt it.units pos) (same_source source other same) has
 
 -- or that nests too deeply
@@ -67,7 +69,8 @@ is_none : (source other : Source) (tree : Straight) → ◌≡◌ {A = Result So
 is_none source other tree same program none = subst (λ (it : Source). SpellsNone it) (same_source source other same) none program.0 tree program.1 program.2.0
 
 -- a refusal without a place is none with one
-no_place : (error other : ReadError) (place : Fault × Pos) → ◌≡◌ {A = Result Source ReadError} (Err error) (Err other) → placed_by error ≡ Some place → placed_by other ≡ None → ⊥
+no_place : (error other : ReadError) (place : Fault × Pos) → ◌≡◌ {A = Result Source ReadError} (Err error) (Err other)
+    → placed_by error ≡ Some place → placed_by other ≡ None → ⊥
 no_place error other place same placed none =
     let equal : error ≡ other = cc in absurd (cc (subst (λ (it : ReadError). placed_by it ≡ Some place) equal placed, none))
 
@@ -139,7 +142,8 @@ module _ (call : Call) (answer : Status) (reads : List (List ℕ)) where
   -- where a unit is none of the grammar, the answer refuses it
   syntax : (report : Report) (source : Source) (pos : Pos) → Agrees report (Ok source) → HasSyntaxAt source.units pos
       → answer ≡ status_of report → IsBut status.Refused answer
-  syntax Accepted source pos (other, same, units, program) has is_status = absurd (parsed-no_syntax other.units pos units (refused_at source other pos same has))
+  syntax Accepted source pos (other, same, units, program) has is_status =
+      absurd (parsed-no_syntax other.units pos units (refused_at source other pos same has))
   syntax (Hazards count) source pos (some, (other, same, units, program)) has is_status =
       absurd (parsed-no_syntax other.units pos units (refused_at source other pos same has))
   syntax (Refused refusal) source pos is has is_status = inl is_status
@@ -210,7 +214,8 @@ module _ (call : Call) (answer : Status) (reads : List (List ℕ)) where
 
   -- ---- what is so where a status came
 
-  hazards_only : (report : Report) → IsReport call.told call.words reads call.before call.now report → IsPutAs (text_of report) (status_of report) call.old call.new answer
+  hazards_only : (report : Report) → IsReport call.told call.words reads call.before call.now report
+      → IsPutAs (text_of report) (status_of report) call.old call.new answer
       → answer ≡ status.Hazards → answer ≡ status_of report → Checks call (IsRejected call)
   hazards_only (Hazards count) (names, is_check, (some, program)) put came is_status =
       (names, is_check, (count, some, program, subst (IsPutAs (text_of (Hazards count)) status.Hazards call.old call.new) came put))
@@ -237,7 +242,8 @@ module _ (call : Call) (answer : Status) (reads : List (List ℕ)) where
   refused_only (Limited limit) is_report came is_status = absurd (cc)
   refused_only NoMemory is_report came is_status = absurd (cc)
 
-  usage_only : (report : Report) → IsReport call.told call.words reads call.before call.now report → answer ≡ status.Usage → answer ≡ status_of report → IsNoCheck call.words
+  usage_only : (report : Report) → IsReport call.told call.words reads call.before call.now report → answer ≡ status.Usage
+      → answer ≡ status_of report → IsNoCheck call.words
   usage_only Usage is_report came is_status = is_report
   usage_only Accepted is_report came is_status = absurd (cc)
   usage_only (Hazards count) is_report came is_status = absurd (cc)
@@ -249,7 +255,8 @@ module _ (call : Call) (answer : Status) (reads : List (List ℕ)) where
   usage_only NoMemory is_report came is_status = absurd (cc)
 
   -- words that are no command get the usage line
-  usage : (report : Report) → IsReport call.told call.words reads call.before call.now report → IsNoCheck call.words → answer ≡ status_of report → IsBut status.Usage answer
+  usage : (report : Report) → IsReport call.told call.words reads call.before call.now report → IsNoCheck call.words
+      → answer ≡ status_of report → IsBut status.Usage answer
   usage Usage is_report none is_status = inl is_status
   usage NoMemory is_report none is_status = inr (inr is_status)
   usage Accepted (names, is_check, is) none is_status = absurd (no_check call.words names none is_check)
@@ -260,7 +267,8 @@ module _ (call : Call) (answer : Status) (reads : List (List ℕ)) where
   usage (Unread name) (names, is_check, is) none is_status = absurd (no_check call.words names none is_check)
   usage (Limited limit) (names, is_check, is) none is_status = absurd (no_check call.words names none is_check)
 
-  unread_only : (report : Report) → IsReport call.told call.words reads call.before call.now report → answer ≡ status.Unread → answer ≡ status_of report → Checks call (AreUnread call)
+  unread_only : (report : Report) → IsReport call.told call.words reads call.before call.now report → answer ≡ status.Unread
+      → answer ≡ status_of report → Checks call (AreUnread call)
   unread_only (Missing name) (names, is_check, is) came is_status = (names, is_check, (name, inl is))
   unread_only (Unread name) (names, is_check, is) came is_status = (names, is_check, (name, inr is))
   unread_only Accepted is_report came is_status = absurd (cc)
@@ -297,7 +305,8 @@ module _ (call : Call) (answer : Status) (reads : List (List ℕ)) where
   no_cut NoMemory came is_status = absurd (cc)
 
   -- where a status came that is not that of a write that failed, it is the report's
-  whole_put : (report : Report) (came : Status) → IsCause report answer call.old call.new → answer ≡ came → (came ≡ status.Unwritten → ⊥) → answer ≡ status_of report
+  whole_put : (report : Report) (came : Status) → IsCause report answer call.old call.new → answer ≡ came
+      → (came ≡ status.Unwritten → ⊥) → answer ≡ status_of report
   whole_put report came (cut unwritten fault) is apart = absurd (apart (sym is ∙ unwritten))
   whole_put report came (whole is_status) is apart = is_status
 
@@ -306,7 +315,8 @@ module _ (call : Call) (answer : Status) (reads : List (List ℕ)) where
   unwritten_only report (whole is_status) came = absurd (no_cut report came is_status)
 
   -- each status has its cause
-  pub causes_by : (report : Report) → IsReport call.told call.words reads call.before call.now report → IsPutAs (text_of report) (status_of report) call.old call.new answer
+  pub causes_by : (report : Report) → IsReport call.told call.words reads call.before call.now report
+      → IsPutAs (text_of report) (status_of report) call.old call.new answer
       → IsCause report answer call.old call.new → HasCauses call answer
   causes_by report is_report put caused = record {
     accepted = λ source tree asks are spells counted. but report status.Done caused
@@ -315,7 +325,8 @@ module _ (call : Call) (answer : Status) (reads : List (List ℕ)) where
     hazards = λ source tree count asks are spells counted some. but report status.Hazards caused (λ is_status.
         rw (above-zero count some) at (judged report source tree count (agrees call (Ok source) asks reads report is_report) are spells counted is_status));
     refused_only = λ came. refused_only report is_report came (whole_put report status.Refused caused came (λ is. absurd cc));
-    refused = λ error place asks placed. but report status.Refused caused (faulty report error place (agrees call (Err error) asks reads report is_report) placed);
+    refused = λ error place asks placed.
+        but report status.Refused caused (faulty report error place (agrees call (Err error) asks reads report is_report) placed);
     syntax = λ source pos asks has. but report status.Refused caused (syntax report source pos (agrees call (Ok source) asks reads report is_report) has);
     unbuilt = λ source asks are none. but report status.Refused caused (unbuilt report source (agrees call (Ok source) asks reads report is_report) are none);
     usage_only = λ came. usage_only report is_report came (whole_put report status.Usage caused came (λ is. absurd cc));
@@ -329,7 +340,8 @@ module _ (call : Call) (answer : Status) (reads : List (List ℕ)) where
   }
 
 -- a whole call
-pub headline_of : {F : Type 0} (leads : F → List ℕ → ℕ → F → Type 0) (first final : F) (call : Call) (answer : Status) → ((tree : Straight) → HasStaleUses tree 0 → IsSafe tree)
+pub headline_of : {F : Type 0} (leads : F → List ℕ → ℕ → F → Type 0) (first final : F) (call : Call) (answer : Status)
+    → ((tree : Straight) → HasStaleUses tree 0 → IsSafe tree)
     → IsAnswered leads first final call answer → Headline call answer
 headline_of leads first final call answer safe answered =
     go (cause answered.report answer call.old call.new answered.is_put) where

@@ -54,10 +54,13 @@ module _ (call : Call) (outcome : Result Source ReadError) (asks : Asks call out
       ∙ subst (λ (told : Option Listing). IfSome told (λ listing. preprocessed listing names ≡ Ok source)) asks.is_told read.0
 
   -- and so is a refusal
-  refused_as : (names : List (List ℕ)) (error : ReadError) → IsCheck call.words names → IsRefusedAs call.told names call.before call.now error → outcome ≡ Err error
+  refused_as : (names : List (List ℕ)) (error : ReadError) → IsCheck call.words names
+      → IsRefusedAs call.told names call.before call.now error → outcome ≡ Err error
   refused_as names error is_check refused =
       sym (gives names is_check)
-      ∙ subst (λ (told : Option Listing). IfSome told (λ listing. IsSteady call.before.faults call.now.faults → preprocessed listing names ≡ Err error)) asks.is_told refused.1 asks.is_steady
+      ∙ subst (λ (told : Option Listing). IfSome told
+      (λ listing. IsSteady call.before.faults call.now.faults → preprocessed listing names ≡ Err error))
+      asks.is_told refused.1 asks.is_steady
 
   -- no fault rose
   no_fault : HasRisen call.before.faults call.now.faults → ⊥

@@ -14,7 +14,8 @@ noted_none None = tt
 noted_none (Some names) = sym (append-nil names)
 
 -- one, and then more
-noted_more : (before mid now : Names) (name : List ℕ) (reads : List (List ℕ)) → IsNoted before name mid → AreNoted mid reads now → AreNoted before (name ∷ reads) now
+noted_more : (before mid now : Names) (name : List ℕ) (reads : List (List ℕ)) → IsNoted before name mid → AreNoted mid reads now
+    → AreNoted before (name ∷ reads) now
 noted_more before mid None name reads first later = tt
 noted_more before None (Some names) name reads first later = absurd later
 noted_more None (Some between) (Some names) name reads first later = absurd first
@@ -24,11 +25,14 @@ noted_more (Some earlier) (Some between) (Some names) name reads first later =
 module _ {N F R S : Type 0} (files : N → F) (reference : N → R) (noting : N → S) (names : N → Names) (leads : F → List ℕ → ℕ → F → Type 0) where
   -- a read through them
   abbrev pub LeadsThrough : N → List ℕ → ℕ → N → Type 0
-  LeadsThrough old name max new = (reference new ≡ reference old) × (noting new ≡ noting old) × leads (files old) name max (files new) × IsNoted (names old) name (names new)
+  LeadsThrough old name max new =
+      (reference new ≡ reference old) × (noting new ≡ noting old) × leads (files old) name max (files new)
+      × IsNoted (names old) name (names new)
 
   -- many of them
   pub leads_through : (first final : N) (reads : List (List ℕ)) → Leads LeadsThrough first reads final
-      → (reference final ≡ reference first) × (noting final ≡ noting first) × Leads leads (files first) reads (files final) × AreNoted (names first) reads (names final)
+      → (reference final ≡ reference first) × (noting final ≡ noting first) × Leads leads (files first) reads (files final)
+      × AreNoted (names first) reads (names final)
   leads_through first final [] is =
       (ap reference is, ap noting is, ap files is, subst (λ (it : N). AreNoted (names first) [] (names it)) (sym is) (noted_none (names first)))
   leads_through first final (name ∷ reads) step =

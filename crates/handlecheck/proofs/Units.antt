@@ -14,7 +14,8 @@ rest_is : (one other : List SourceToken) (rest behind : List (List SourceToken))
 rest_is one other rest behind same = cc
 
 -- a unit that stands among units of the grammar is one
-parsed_in : (before : List (List SourceToken)) (tokens : List SourceToken) (behind : List (List SourceToken)) → AreParsed (before ++ tokens ∷ behind) → IsParsed tokens
+parsed_in : (before : List (List SourceToken)) (tokens : List SourceToken) (behind : List (List SourceToken))
+    → AreParsed (before ++ tokens ∷ behind) → IsParsed tokens
 parsed_in [] tokens behind all = all.0
 parsed_in (first ∷ rest) tokens behind all = parsed_in rest tokens behind all.1
 
@@ -59,4 +60,5 @@ parsed-not_deep units = no_first (λ tokens. IsShallow tokens → ⊥) IsParsed 
 -- where the first that is none is refused at a place, it does not nest too deeply
 pub syntax-not_deep : (units : List (List SourceToken)) (pos : Pos) → HasSyntaxAt units pos → IsTooDeep units → ⊥
 syntax-not_deep units pos =
-    no_other (λ tokens. IsRefusedAt tokens pos) (λ tokens. IsShallow tokens → ⊥) (refused_is_none pos) deep_is_none (λ tokens refused deep. deep refused.0) units
+    no_other (λ tokens. IsRefusedAt tokens pos) (λ tokens. IsShallow tokens → ⊥) (refused_is_none pos) deep_is_none
+    (λ tokens refused deep. deep refused.0) units

@@ -73,7 +73,9 @@ HaveSyntax call names = (pos : Pos) × HaveSyntaxAt call.told names pos
 -- a file that is asked for is missing, or its read failed
 abbrev pub AreUnread : Call → List (List ℕ) → Type 0
 AreUnread call names =
-    (name : List ℕ) × (IsRefusedAs call.told names call.before call.now (reading.Missing name) ⊎ IsRefusedAs call.told names call.before call.now (reading.ReadFault name))
+    (name : List ℕ)
+    × (IsRefusedAs call.told names call.before call.now (reading.Missing name)
+    ⊎ IsRefusedAs call.told names call.before call.now (reading.ReadFault name))
 
 -- a quantity passed its limit in reading
 abbrev pub ArePast : Call → List (List ℕ) → Type 0

@@ -14,7 +14,8 @@ IsCountOf-stale_uses (use_of ∷ uses) = go (IsCountOf-stale_uses uses) (is_stal
     counted : stale_uses (use_of ∷ uses) ≡ (if is_stale_after use_of.pointer use_of.done then 1 else 0) + stale_uses uses
     counted = sum_by-cons (λ (u : Use). if is_stale_after u.pointer u.done then 1 else 0) use_of uses
 
-    go : IsCountOf IsStaleUse uses (stale_uses uses) → (stale : Bool) → is_stale_after use_of.pointer use_of.done ≡ stale → IsCountOf IsStaleUse (use_of ∷ uses) (stale_uses (use_of ∷ uses))
+    go : IsCountOf IsStaleUse uses (stale_uses uses) → (stale : Bool) → is_stale_after use_of.pointer use_of.done ≡ stale
+        → IsCountOf IsStaleUse (use_of ∷ uses) (stale_uses (use_of ∷ uses))
     go rest true is_stale = inl (stale_uses uses, IsStaleUse-from_along use_of.pointer use_of.done is_stale, rest, counted ∙ rw is_stale (omega arith))
     go rest false is_stale =
         inr (

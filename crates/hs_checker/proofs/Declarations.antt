@@ -113,7 +113,8 @@ kind_again Letter name pieces tokens is spelled =
     (tokens, rw here refl, spelled)
 
 -- a spelled declaration that may stand there is read again
-pub declaration_again : (earlier : List Variable) (variable : Variable) (pieces : List Piece) (tokens : List SourceToken) → is_fine_name earlier variable.name ≡ true
+pub declaration_again : (earlier : List Variable) (variable : Variable) (pieces : List Piece) (tokens : List SourceToken)
+    → is_fine_name earlier variable.name ≡ true
     → Spells (ended (declaration_spelling variable) ++ pieces) tokens → (rest : List SourceToken) × (declaration_at earlier tokens ≡ Some (variable, rest))
     × Spells pieces rest
 unfolding declaration_at

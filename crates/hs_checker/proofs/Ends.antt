@@ -54,10 +54,13 @@ opened_length tokens rest e = omega (arith, taken_length (map word opening) toke
 -- ---- the end
 
 -- the end is read to its last token just where it is spelled
-pub closing_is : (tokens rest : List SourceToken) (ends : Bool) → marks_at closing tokens ≡ Some rest → ends ≡ (length rest == 0) → IsTrue ends ↔ IsClosing tokens
+pub closing_is : (tokens rest : List SourceToken) (ends : Bool) → marks_at closing tokens ≡ Some rest → ends ≡ (length rest == 0)
+    → IsTrue ends ↔ IsClosing tokens
 closing_is tokens rest ends e is = (
   λ t. let nothing : rest ≡ [] = nil_from_length rest (eqb-true _ _ (sym is ∙ t)) in
-      let s : Spells (map word closing ++ []) tokens = marks_take closing tokens rest e [] (subst (λ (r : List SourceToken). Spells [] r) (sym nothing) tt) in s,
+      let s : Spells (map word closing ++ []) tokens =
+      marks_take closing tokens rest e [] (subst (λ (r : List SourceToken). Spells [] r) (sym nothing) tt) in
+      s,
   λ s. let again = marks_again closing [] tokens s in
       let same : again.0 ≡ rest = some_is again.0 rest (sym again.1 ∙ e) in
       is ∙ eq-eqb (length rest) 0 (sym (nothing_left rest (subst (λ (t : List SourceToken). Spells [] t) same again.2))),

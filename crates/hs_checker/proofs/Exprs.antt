@@ -49,7 +49,8 @@ word_value_takes variables token value e =
 abbrev IsExpr : List Variable → List SourceToken → (Expr × List SourceToken) → Type 0
 IsExpr variables tokens x = (pieces : List Piece) → Spells pieces x.1 → Spells (expr_spelling variables x.0 ++ pieces) tokens
 
-word_at_takes : (variables : List Variable) (tokens : List SourceToken) (x : Expr × List SourceToken) → word_at variables tokens ≡ Some x → IsExpr variables tokens x
+word_at_takes : (variables : List Variable) (tokens : List SourceToken) (x : Expr × List SourceToken)
+    → word_at variables tokens ≡ Some x → IsExpr variables tokens x
 unfolding word_at
 word_at_takes variables tokens x e =
     let a = bind_some (first_at tokens) (λ first. word_value variables first.0 >>= λ value. Some (value, first.1)) x e in
@@ -59,7 +60,8 @@ word_at_takes variables tokens x e =
     λ pieces s. word_value_takes variables a.0.0 b.0 b.1 tokens a.0.1 pieces a.1 s in
     subst (IsExpr variables tokens) (some_is made x b.2) taken
 
-load_takes : (variables : List Variable) (tokens : List SourceToken) (x : Expr × List SourceToken) → load_at variables tokens ≡ Some x → IsExpr variables tokens x
+load_takes : (variables : List Variable) (tokens : List SourceToken) (x : Expr × List SourceToken) → load_at variables tokens ≡ Some x
+    → IsExpr variables tokens x
 unfolding load_at
 load_takes variables tokens x e =
     let a = bind_some (mark_at (codes "*") tokens) (λ star. variable_at variables star.1 >>= λ pointer. Some (expr.Load star.0 pointer.0, pointer.1)) x e in
@@ -70,7 +72,8 @@ load_takes variables tokens x e =
     subst (IsExpr variables tokens) (some_is made x b.2) taken
 
 -- an expression that is read is spelled so
-pub expr_takes : (variables : List Variable) (tokens : List SourceToken) (x : Expr × List SourceToken) → expr_at variables tokens ≡ Some x → IsExpr variables tokens x
+pub expr_takes : (variables : List Variable) (tokens : List SourceToken) (x : Expr × List SourceToken)
+    → expr_at variables tokens ≡ Some x → IsExpr variables tokens x
 unfolding expr_at
 expr_takes variables tokens x e =
     elim (chosen (is_at (codes "*") tokens) (load_at variables tokens) (word_at variables tokens) (Some x) e) [
@@ -112,7 +115,8 @@ module _ (variables : List Variable) (named : are_fine_names [] variables ≡ tr
 
   -- a spelled expression that may stand there is read again
   pub expr_again : (done : List Step) (value : Expr) (pieces : List Piece) (tokens : List SourceToken) → is_fine_expr variables done value ≡ true
-      → Spells (expr_spelling variables value ++ pieces) tokens → (rest : List SourceToken) × (expr_at variables tokens ≡ Some (value, rest)) × Spells pieces rest
+      → Spells (expr_spelling variables value ++ pieces) tokens
+      → (rest : List SourceToken) × (expr_at variables tokens ≡ Some (value, rest)) × Spells pieces rest
   unfolding expr_at load_at
   expr_again done (expr.Letter pos letter) pieces tokens fine spelled =
       let is = (and_parts (is_declared Letter variables letter) (was_assigned letter done) fine).0 in

@@ -107,7 +107,8 @@ variable_takes variables tokens x pieces e after =
 -- a spelled name is read, and gives its number
 pub variable_again : (variables : List Variable) (kind : Kind) (number : ℕ) (pieces : List Piece) (tokens : List SourceToken)
     → are_fine_names [] variables ≡ true → is_declared kind variables number ≡ true
-    → Spells (word (name_of variables number) ∷ pieces) tokens → (rest : List SourceToken) × (variable_at variables tokens ≡ Some (number, rest)) × Spells pieces rest
+    → Spells (word (name_of variables number) ∷ pieces) tokens
+    → (rest : List SourceToken) × (variable_at variables tokens ≡ Some (number, rest)) × Spells pieces rest
 unfolding variable_at
 variable_again variables kind number pieces tokens fine is spelled =
     let there = declared kind (slice_get variables number) is in

@@ -36,10 +36,12 @@ taken_length front tokens rest takes =
     sym (spelled_length (front ++ pieces_of rest) tokens (takes (pieces_of rest) (spelled_so rest)))
     ∙ length-append front (pieces_of rest) ∙ ap (λ (n : ℕ). length front + n) (spelled_length (pieces_of rest) rest (spelled_so rest))
 
-module _ {A : Type 0} (spell : A → List Piece) (is_fine : List A → Bool) (begins : List SourceToken → Bool) (at : List A → List SourceToken → Option (A × List SourceToken)) where
+module _ {A : Type 0} (spell : A → List Piece) (is_fine : List A → Bool) (begins : List SourceToken → Bool)
+    (at : List A → List SourceToken → Option (A × List SourceToken)) where
   -- what the reader of one part is
   pub record IsReader : Type 0 where
-    pub fine : (done : List A) (tokens : List SourceToken) (x : A × List SourceToken) → is_fine done ≡ true → at done tokens ≡ Some x → is_fine (done ++ x.0 ∷ []) ≡ true
+    pub fine : (done : List A) (tokens : List SourceToken) (x : A × List SourceToken) → is_fine done ≡ true → at done tokens ≡ Some x
+        → is_fine (done ++ x.0 ∷ []) ≡ true
     pub takes : (done : List A) (tokens : List SourceToken) (x : A × List SourceToken) → at done tokens ≡ Some x → (pieces : List Piece) → Spells pieces x.1
         → Spells (spell x.0 ++ pieces) tokens
     pub again : (done : List A) (part : A) (later : List A) (pieces : List Piece) (tokens : List SourceToken) → is_fine (done ++ (part ∷ later)) ≡ true

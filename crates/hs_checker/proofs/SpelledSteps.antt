@@ -73,7 +73,8 @@ module _ (variables : List Variable) (named : are_fine_names [] variables ≡ tr
 
   -- an assignment is read again where what stands behind its `=` is
   assign_again : (kind : Kind) (number : ℕ) (form : Step) (behind pieces : List Piece) (tokens : List SourceToken) → is_declared kind variables number ≡ true
-      → ((sources : List SourceToken) → Spells behind sources → (rest : List SourceToken) × (source_at variables number sources ≡ Some (form, rest)) × Spells pieces rest)
+      → ((sources : List SourceToken) → Spells behind sources
+      → (rest : List SourceToken) × (source_at variables number sources ≡ Some (form, rest)) × Spells pieces rest)
       → Spells (word (name_of variables number) ∷ word (codes "=") ∷ behind) tokens
       → (rest : List SourceToken) × (form_at variables tokens ≡ Some (form, rest)) × Spells pieces rest
   unfolding form_at assign_at

@@ -31,17 +31,21 @@ is_lock_of-first handle false step rest = refl
 -- after one step more, that does not assign the pointer
 IsKnown-more : (handle pointer : ℕ) (done : List Step) (step : Step) (is_same is_stale is_locked : Bool) → assigns pointer step ≡ false
     → IsKnown handle pointer done is_same is_stale is_locked
-    → IsKnown handle pointer (step ∷ done) (is_same && not (assigns handle step)) (is_stale || (calls_new_handle step && not (is_same && is_locked))) (if concerns handle step then locks handle step else is_locked)
+    → IsKnown handle pointer (step ∷ done) (is_same && not (assigns handle step))
+    (is_stale || (calls_new_handle step && not (is_same && is_locked))) (if concerns handle step then locks handle step else is_locked)
 IsKnown-more handle pointer done step is_same is_stale is_locked other known = record {
   derived = rw (other, known.derived, known.locked) refl;
-  locked = is_lock_of-first handle (concerns handle step) step (find (concerns handle) done) ∙ ap (λ (b : Bool). if concerns handle step then locks handle step else b) known.locked;
+  locked =
+      is_lock_of-first handle (concerns handle step) step (find (concerns handle) done)
+      ∙ ap (λ (b : Bool). if concerns handle step then locks handle step else b) known.locked;
 }
 
 -- one step more of `since`
 reverse-more : (taken since : List Step) (i : ℕ) (d : Step) → i < length since
     → reverse (taken ++ take (i + 1) since) ≡ get_or since i d ∷ reverse (taken ++ take i since)
 reverse-more taken since i d below =
-    rw (take_more since i d below) (ap reverse (sym (append_assoc taken (take i since) (get_or since i d ∷ []))) ∙ reverse-push (taken ++ take i since) (get_or since i d))
+    rw (take_more since i d below)
+    (ap reverse (sym (append_assoc taken (take i since) (get_or since i d ∷ []))) ∙ reverse-push (taken ++ take i since) (get_or since i d))
 
 -- none of one step more
 pub none_more : (p : Step → Bool) (steps : List Step) (i : ℕ) (d : Step) → i < length steps → list_any p (take (i + 1) steps) ≡ false
@@ -87,7 +91,8 @@ IsLastBefore variable done i (Some place) =
 -- the step there assigns it
 pub IsLastBefore-found : (variable : ℕ) (done : List Step) (i : ℕ) (d : Step) → i < length done → assigns variable (get_or done i d) ≡ true
     → IsLastBefore variable done (i + 1) (Some i)
-IsLastBefore-found variable done i d below found = (omega arith, λ other. rw (get_or_default done i other d below) found, rw (drop_all (suc i) (take (i + 1) done) past) refl)
+IsLastBefore-found variable done i d below found =
+    (omega arith, λ other. rw (get_or_default done i other d below) found, rw (drop_all (suc i) (take (i + 1) done) past) refl)
   where
     past : length (take (i + 1) done) ≤ suc i
     past = rw (length-take-le (i + 1) done (omega arith)) (omega arith)
@@ -95,11 +100,14 @@ IsLastBefore-found variable done i d below found = (omega arith, λ other. rw (g
 -- the step there does not
 pub IsLastBefore-other : (variable : ℕ) (done : List Step) (i : ℕ) (d : Step) (last : Option ℕ) → i < length done
     → assigns variable (get_or done i d) ≡ false → IsLastBefore variable done i last → IsLastBefore variable done (i + 1) last
-IsLastBefore-other variable done i d None below other none = rw (take_more done i d below, list_any-append (assigns variable) (take i done) (get_or done i d ∷ []), none, other) refl
+IsLastBefore-other variable done i d None below other none =
+    rw (take_more done i d below, list_any-append (assigns variable) (take i done) (get_or done i d ∷ []), none, other) refl
 IsLastBefore-other variable done i d (Some place) below other last = (omega arith, last.1, none)
   where
     cut : drop (suc place) (take (i + 1) done) ≡ drop (suc place) (take i done) ++ get_or done i d ∷ []
-    cut = rw (take_more done i d below) (drop-append-le (suc place) (take i done) (get_or done i d ∷ []) (rw (length-take-le i done (omega arith)) (omega arith)))
+    cut =
+        rw (take_more done i d below)
+        (drop-append-le (suc place) (take i done) (get_or done i d ∷ []) (rw (length-take-le i done (omega arith)) (omega arith)))
 
     none : list_any (assigns variable) (drop (suc place) (take (i + 1) done)) ≡ false
     none = rw (cut, list_any-append (assigns variable) (drop (suc place) (take i done)) (get_or done i d ∷ []), last.2, other) refl
@@ -138,17 +146,22 @@ stale_at_end handle pointer taken since i is_same is_stale is_locked past none k
     whole = take_all i since past
 
     all : IsKnown handle pointer (reverse (taken ++ since)) is_same is_stale is_locked
-    all = subst (λ (steps : List Step). IsKnown handle pointer (reverse (taken ++ steps)) is_same is_stale is_locked) whole (known (subst (λ (steps : List Step). list_any (assigns pointer) steps ≡ false) (sym whole) none))
+    all =
+        subst (λ (steps : List Step). IsKnown handle pointer (reverse (taken ++ steps)) is_same is_stale is_locked) whole
+        (known (subst (λ (steps : List Step). list_any (assigns pointer) steps ≡ false) (sym whole) none))
 
 -- a pointer that no step assigns is not stale
 pub not_stale-never : (pointer : ℕ) (done : List Step) → list_any (assigns pointer) done ≡ false → false ≡ is_stale_after pointer (reverse done)
-not_stale-never pointer done none = rw (← append-nil (reverse done)) (rw (unknown_kept pointer (reverse done) [] (list_any-reverse (assigns pointer) done ∙ none) refl) refl)
+not_stale-never pointer done none =
+    rw (← append-nil (reverse done))
+    (rw (unknown_kept pointer (reverse done) [] (list_any-reverse (assigns pointer) done ∙ none) refl) refl)
 
 -- a list is cut before and behind a place
 cut_at : (done : List Step) (place : ℕ) (d : Step) → place < length done → done ≡ (take place done ++ get_or done place d ∷ []) ++ drop (place + 1) done
 cut_at done place d below =
     sym (take-append-drop place done)
-    ∙ ap (λ (rest : List Step). take place done ++ rest) (drop-cons done place d below ∙ ap (λ (i : ℕ). get_or done place d ∷ drop i done) (sym (add-one place)))
+    ∙ ap (λ (rest : List Step). take place done ++ rest)
+    (drop-cons done place d below ∙ ap (λ (i : ℕ). get_or done place d ∷ drop i done) (sym (add-one place)))
     ∙ sym (append_assoc (take place done) (get_or done place d ∷ []) (drop (place + 1) done))
 
 -- the newest first of a list that is cut behind a place
@@ -176,7 +189,8 @@ not_stale-other pointer done place d below found none other =
 
 -- one that it took from a handle is stale as `GoesStale` says
 pub stale-taken : (pointer handle : ℕ) (pos : Pos) (done before since : List Step) (place : ℕ) (d : Step) (assigned : ℕ) (answer : Bool) → place < length done
-    → get_or done place d ≡ form.Derive pos assigned handle → assigns pointer (get_or done place d) ≡ true → list_any (assigns pointer) (drop (suc place) done) ≡ false
+    → get_or done place d ≡ form.Derive pos assigned handle → assigns pointer (get_or done place d) ≡ true
+    → list_any (assigns pointer) (drop (suc place) done) ≡ false
     → before ≡ take (place + 1) done → since ≡ drop (place + 1) done → GoesStale handle before since answer
     → answer ≡ is_stale_after pointer (reverse done)
 stale-taken pointer handle pos done before since place d assigned answer below taken found none is_before is_since goes =

@@ -30,13 +30,15 @@ handle_takes variables tokens x pieces e after =
     let b = bind_some (variable_at variables a.0.1) (λ handle. mark_at (codes ")") handle.1 >>= λ right. Some (handle.0, right.1)) x a.2 in
     let d = bind_some (mark_at (codes ")") b.0.1) (λ right. Some (b.0.0, right.1)) x b.2 in
     let made : ℕ × List SourceToken = (b.0.0, d.0.1) in
-    let P : (ℕ × List SourceToken) → Type 0 = λ y. Spells pieces y.1 → Spells (word (codes "(") ∷ word (name_of variables y.0) ∷ word (codes ")") ∷ pieces) tokens in
+    let P : (ℕ × List SourceToken) → Type 0 =
+    λ y. Spells pieces y.1 → Spells (word (codes "(") ∷ word (name_of variables y.0) ∷ word (codes ")") ∷ pieces) tokens in
     let last : Spells pieces d.0.1 → Spells (word (codes ")") ∷ pieces) b.0.1 = λ s. word_takes (codes ")") b.0.1 d.0 pieces d.1 s in
     let name : Spells pieces d.0.1 → Spells (word (name_of variables b.0.0) ∷ word (codes ")") ∷ pieces) a.0.1 =
     λ s. variable_takes variables a.0.1 b.0 (word (codes ")") ∷ pieces) b.1 (last s) in
     subst P (some_is made x d.2) (λ s. word_takes (codes "(") tokens a.0 (word (name_of variables b.0.0) ∷ word (codes ")") ∷ pieces) a.1 (name s)) after
 
-lock_takes : (variables : List Variable) (tokens : List SourceToken) (x : Step × List SourceToken) → lock_at variables tokens ≡ Some x → IsForm variables tokens x
+lock_takes : (variables : List Variable) (tokens : List SourceToken) (x : Step × List SourceToken) → lock_at variables tokens ≡ Some x
+    → IsForm variables tokens x
 unfolding lock_at
 lock_takes variables tokens x e =
     let a = bind_some (mark_at (codes "HLock") tokens) (λ name. handle_at variables name.1 >>= λ handle. Some (step.HLock name.0 handle.0, handle.1)) x e in
@@ -47,7 +49,8 @@ lock_takes variables tokens x e =
     (handle_takes variables a.0.1 b.0 pieces b.1 s) in
     subst (IsForm variables tokens) (some_is made x b.2) taken
 
-unlock_takes : (variables : List Variable) (tokens : List SourceToken) (x : Step × List SourceToken) → unlock_at variables tokens ≡ Some x → IsForm variables tokens x
+unlock_takes : (variables : List Variable) (tokens : List SourceToken) (x : Step × List SourceToken)
+    → unlock_at variables tokens ≡ Some x → IsForm variables tokens x
 unfolding unlock_at
 unlock_takes variables tokens x e =
     let a = bind_some (mark_at (codes "HUnlock") tokens) (λ name. handle_at variables name.1 >>= λ handle. Some (step.HUnlock name.0 handle.0, handle.1)) x e in
@@ -58,7 +61,8 @@ unlock_takes variables tokens x e =
     (handle_takes variables a.0.1 b.0 pieces b.1 s) in
     subst (IsForm variables tokens) (some_is made x b.2) taken
 
-putchar_takes : (variables : List Variable) (tokens : List SourceToken) (x : Step × List SourceToken) → putchar_at variables tokens ≡ Some x → IsForm variables tokens x
+putchar_takes : (variables : List Variable) (tokens : List SourceToken) (x : Step × List SourceToken)
+    → putchar_at variables tokens ≡ Some x → IsForm variables tokens x
 unfolding putchar_at
 putchar_takes variables tokens x e =
     let a = bind_some (mark_at (codes "putchar") tokens)
@@ -78,7 +82,8 @@ putchar_takes variables tokens x e =
     (word_takes (codes "(") a.0.1 b.0 ((value ++ word (codes ")") ∷ []) ++ pieces) b.1 grouped) in
     subst (IsForm variables tokens) (some_is made x f.2) taken
 
-store_takes : (variables : List Variable) (tokens : List SourceToken) (x : Step × List SourceToken) → store_at variables tokens ≡ Some x → IsForm variables tokens x
+store_takes : (variables : List Variable) (tokens : List SourceToken) (x : Step × List SourceToken) → store_at variables tokens ≡ Some x
+    → IsForm variables tokens x
 unfolding store_at
 store_takes variables tokens x e =
     let a = bind_some (mark_at (codes "*") tokens)
@@ -163,7 +168,8 @@ source_takes variables number tokens x e =
       ]
     ]
 
-assign_takes : (variables : List Variable) (tokens : List SourceToken) (x : Step × List SourceToken) → assign_at variables tokens ≡ Some x → IsForm variables tokens x
+assign_takes : (variables : List Variable) (tokens : List SourceToken) (x : Step × List SourceToken)
+    → assign_at variables tokens ≡ Some x → IsForm variables tokens x
 unfolding assign_at
 assign_takes variables tokens x e =
     let a = bind_some (variable_at variables tokens) (λ target. mark_at (codes "=") target.1 >>= λ sign. source_at variables target.0 sign.1) x e in
@@ -172,7 +178,8 @@ assign_takes variables tokens x e =
     (λ behind spelled. variable_takes variables tokens a.0 (word (codes "=") ∷ behind) a.1 (word_takes (codes "=") a.0.1 b.0 behind b.1 spelled))
 
 -- a step that is read is spelled so: by its form
-pub form_takes : (variables : List Variable) (tokens : List SourceToken) (x : Step × List SourceToken) → form_at variables tokens ≡ Some x → IsForm variables tokens x
+pub form_takes : (variables : List Variable) (tokens : List SourceToken) (x : Step × List SourceToken)
+    → form_at variables tokens ≡ Some x → IsForm variables tokens x
 unfolding form_at
 form_takes variables tokens x e =
     let later = cond (is_at (codes "HLock") tokens) (lock_at variables tokens)

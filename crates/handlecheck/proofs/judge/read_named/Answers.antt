@@ -14,7 +14,8 @@ returns-clause-same_names g c =
 
 pub returns-clause-reads : goal.returns-clause-reads
 returns-clause-reads g c =
-    let through = leads_through (λ named. named.files.now) (λ named. named.files.ghost_name) (λ named. named.names.ghost_name) (λ named. named.names.now) g.F.Files.leads_to
+    let through = leads_through (λ named. named.files.now) (λ named. named.files.ghost_name) (λ named. named.names.ghost_name)
+    (λ named. named.names.now) g.F.Files.leads_to
     c.args.named.now c.read_program.new.files c.read_program.ensures.reads.reads c.read_program.ensures.reads.leads_on in (
       c.read_program.ensures.reads.reads,
       through.2,

@@ -23,8 +23,8 @@ returns-in-Err-Syntax c =
     let item : c.items.result.now ≡ get_or c.args.units.now c.units.tokens-index c.tokens-item.result = c.items.ensures ∙ c.tokens-item.is in
     let refused = c.in-Err-Syntax.ensures.syntax c.in-Err-Syntax.pos (ap Err c.in-Err-Syntax.field-0-is) in
     rw c.in-Err-Syntax.pos-is
-    (IsFirst-at (λ tokens. IsRefusedAt tokens c.in-Err-Syntax.pos) c.args.units.now c.units.tokens-index c.tokens-item.result c.units-test.true c.units.invariant
-    (subst (λ (tokens : List SourceToken). IsRefusedAt tokens c.in-Err-Syntax.pos) item refused))
+    (IsFirst-at (λ tokens. IsRefusedAt tokens c.in-Err-Syntax.pos) c.args.units.now c.units.tokens-index c.tokens-item.result
+    c.units-test.true c.units.invariant (subst (λ (tokens : List SourceToken). IsRefusedAt tokens c.in-Err-Syntax.pos) item refused))
 
 -- the tokens are a unit
 pub units-preserved : goal.units-preserved

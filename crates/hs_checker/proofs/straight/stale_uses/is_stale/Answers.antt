@@ -9,8 +9,10 @@ returns-in-None c = not_stale-never c.args.pointer c.args.done.now c.in-None.ens
 pub returns-in-Derive : goal.returns-in-Derive
 returns-in-Derive c =
     let found = c.in-Some.ensures in
-    stale-taken c.args.pointer c.in-Derive.handle c.in-Derive.pos c.args.done.now c.split_at.result.0.now c.split_at.result.1.now c.in-Some.place (form.NewHandle 0 0)
-    c.in-Derive.pointer c.went_stale.result found.0 c.in-Derive.is (found.1 (form.NewHandle 0 0)) found.2 c.split_at.ensures.front c.split_at.ensures.back c.went_stale.ensures
+    stale-taken c.args.pointer c.in-Derive.handle c.in-Derive.pos c.args.done.now c.split_at.result.0.now c.split_at.result.1.now
+    c.in-Some.place (form.NewHandle 0 0)
+    c.in-Derive.pointer c.went_stale.result found.0 c.in-Derive.is (found.1 (form.NewHandle 0 0)) found.2 c.split_at.ensures.front
+    c.split_at.ensures.back c.went_stale.ensures
 
 pub returns-in_default : goal.returns-in_default
 returns-in_default c =

@@ -7,6 +7,12 @@ use Rattle.hs_checker.proofs.straight.stale_uses.last_assignment.Goals.{then-ass
 pub loop-place-preserved : goal.loop-place-preserved
 loop-place-preserved c =
     elim c.if-assigns.branch [
-      | then-assigns w ↦ rw w.last-is (IsLastBefore-found c.args.variable c.args.done.now c.loop-place.place _ c.loop-place-test.true (sym c.assigns.ensures ∙ w.if-assigns.true))
-      | else-assigns w ↦ rw w.last-is (IsLastBefore-other c.args.variable c.args.done.now c.loop-place.place _ c.loop-place.last c.loop-place-test.true (sym c.assigns.ensures ∙ w.if-assigns.false) c.loop-place.invariant)
+      | then-assigns w ↦
+          rw w.last-is
+          (IsLastBefore-found c.args.variable c.args.done.now c.loop-place.place _ c.loop-place-test.true
+          (sym c.assigns.ensures ∙ w.if-assigns.true))
+      | else-assigns w ↦
+          rw w.last-is
+          (IsLastBefore-other c.args.variable c.args.done.now c.loop-place.place _ c.loop-place.last c.loop-place-test.true
+          (sym c.assigns.ensures ∙ w.if-assigns.false) c.loop-place.invariant)
     ]

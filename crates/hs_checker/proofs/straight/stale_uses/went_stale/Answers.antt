@@ -8,8 +8,8 @@ loop-step-init c pointer pos before is_taken none = rw c.is_locked-is_locked.ens
 pub loop-step-preserved : goal.loop-step-preserved
 loop-step-preserved c pointer pos before is_taken none =
     rw (c.is_same_then-is_same.ensures, c.is_stale_then-is_stale.ensures, c.is_locked_then-is_locked.ensures)
-    (IsKnown-step c.args.handle pointer c.args.taken.now c.args.since.now c.loop-step.step-index _ c.loop-step.is_same c.loop-step.is_stale c.loop-step.is_locked
-    c.loop-step-test.true none (c.loop-step.invariant pointer pos before is_taken))
+    (IsKnown-step c.args.handle pointer c.args.taken.now c.args.since.now c.loop-step.step-index _ c.loop-step.is_same c.loop-step.is_stale
+    c.loop-step.is_locked c.loop-step-test.true none (c.loop-step.invariant pointer pos before is_taken))
 
 pub returns : goal.returns
 returns c pointer pos before is_taken none =
