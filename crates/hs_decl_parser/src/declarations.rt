@@ -5,7 +5,7 @@ ghost use Rattle.hs_decl_parser.specs.Steps.{item_from, item_at, items_at, decla
 
 use crate::initialisers::start;
 use hs_expr_parser::{
-    ParseEnd, TypeNames, begins_specifiers, declarator, mark, mark_ahead, specifiers,
+    ParseEnd, TypeNames, begins_specifiers, declarator, mark, mark_ahead, specifiers, with,
 };
 use hs_syntax::{Decl, Declarator, Item, Specifier};
 use hs_tokens::SourceToken;
@@ -22,7 +22,7 @@ fn item_from<'a>(
     ensures read { Gives (λ x. (view_item x.0, x.1.now)) result (item_from known.now (view_declarator declarator) tokens.now) }
     ensures shorter { IfOk result (λ x. length x.1.now ≤ length tokens.now) }
 {
-    let (initialiser, rest) = start(alloc, known, tokens)?;
+    let (declarator, (initialiser, rest)) = with(declarator, start(alloc, known, tokens))?;
     Ok((
         Item {
             declarator,
@@ -81,9 +81,12 @@ pub(crate) fn declared<'a>(
         (declared_at known.now (map view_specifier specifiers.items) (view_declarator declarator) tokens.now) }
     ensures shorter { IfOk result (λ x. length x.1.now < length tokens.now) }
 {
-    let (start, behind) = item_from(alloc, known, declarator, tokens)?;
-    let (items, end) = items(alloc, known, start, behind)?;
-    let (_, rest) = mark(end, b";")?;
+    let (specifiers, (start, behind)) = with(
+        specifiers,
+        item_from(alloc, known, declarator, tokens),
+    )?;
+    let (specifiers, (items, end)) = with(specifiers, items(alloc, known, start, behind))?;
+    let ((specifiers, items), (_, rest)) = with((specifiers, items), mark(end, b";"))?;
     Ok((Decl { specifiers, items }, rest))
 }
 
@@ -107,7 +110,10 @@ fn declaration<'a>(
             rest,
         ));
     }
-    let (declarator, left) = declarator(alloc, known, false, behind)?;
+    let (specifiers, (declarator, left)) = with(
+        specifiers,
+        declarator(alloc, known, false, behind),
+    )?;
     declared(alloc, known, specifiers, declarator, left)
 }
 

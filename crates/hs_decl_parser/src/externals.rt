@@ -6,7 +6,7 @@ ghost use Rattle.hs_decl_parser.specs.Steps.{function_at, external_from, specifi
 use crate::declarations::declared;
 use crate::statements::block;
 use hs_expr_parser::{
-    ParseEnd, TypeNames, begins_specifiers, declarator, is_mark_ahead, mark_ahead, specifiers,
+    ParseEnd, TypeNames, begins_specifiers, declarator, is_mark_ahead, mark_ahead, specifiers, with,
 };
 use hs_syntax::{Decl, Declarator, External, Specifier};
 use hs_tokens::SourceToken;
@@ -25,7 +25,10 @@ fn function<'a>(
         (function_at known.now (map view_specifier specifiers.items) (view_declarator declarator) tokens.now) }
     ensures shorter { IfOk result (λ x. length x.1.now < length tokens.now) }
 {
-    let (body, rest) = block(alloc, known, tokens)?;
+    let ((specifiers, declarator), (body, rest)) = with(
+        (specifiers, declarator),
+        block(alloc, known, tokens),
+    )?;
     Ok((
         External::Function {
             specifiers,
@@ -76,7 +79,10 @@ fn specified<'a>(
             rest,
         ));
     }
-    let (declarator, left) = declarator(alloc, known, false, behind)?;
+    let (specifiers, (declarator, left)) = with(
+        specifiers,
+        declarator(alloc, known, false, behind),
+    )?;
     external_from(alloc, known, specifiers, declarator, left)
 }
 

@@ -3,7 +3,7 @@ ghost use Rattle.hs_syntax.specs.Views.{view_initialiser};
 ghost use Rattle.hs_expr_parser.specs.Given.{Gives};
 ghost use Rattle.hs_decl_parser.specs.Steps.{braces_at, initialiser_at, initialisers_at, start_at};
 
-use hs_expr_parser::{ParseEnd, TypeNames, assignment, is_mark_ahead, mark, mark_ahead};
+use hs_expr_parser::{ParseEnd, TypeNames, assignment, is_mark_ahead, mark, mark_ahead, with};
 use hs_syntax::{Initialiser, Place};
 use hs_tokens::SourceToken;
 use std::alloc::Global;
@@ -46,7 +46,7 @@ fn braces<'a>(
     ensures shorter { IfOk result (λ x. length x.1.now < length rest.now) }
 {
     let (list, close) = initialisers(alloc, known, rest)?;
-    let (_, left) = mark(close, b"}")?;
+    let (list, (_, left)) = with(list, mark(close, b"}"))?;
     Ok((
         Initialiser::List {
             at,

@@ -4,7 +4,7 @@ ghost use Rattle.hs_expr_parser.specs.Given.{Gives};
 ghost use Rattle.hs_decl_parser.specs.Steps.{label_at, labels_at};
 
 use crate::words::begins_label;
-use hs_expr_parser::{ParseEnd, TypeNames, conditional, first, is_keyword, mark, place_of};
+use hs_expr_parser::{ParseEnd, TypeNames, conditional, first, is_keyword, mark, place_of, with};
 use hs_syntax::Label;
 use hs_tokens::SourceToken;
 use std::alloc::Global;
@@ -23,7 +23,7 @@ fn label<'a>(
     let at = place_of(source);
     if is_keyword(source, b"case") {
         let (value, colon) = conditional(alloc, known, rest)?;
-        let (_, left) = mark(colon, b":")?;
+        let (value, (_, left)) = with(value, mark(colon, b":"))?;
         return Ok((Label::Case { at, value }, left));
     }
     let (_, left) = mark(rest, b":")?;

@@ -3,7 +3,7 @@ ghost use Rattle.hs_syntax.specs.Views.{view};
 ghost use Rattle.hs_expr_parser.specs.Given.{Gives};
 ghost use Rattle.hs_decl_parser.specs.Steps.{test_at, optional_at, controls_at};
 
-use hs_expr_parser::{ParseEnd, TypeNames, expression, mark, mark_ahead};
+use hs_expr_parser::{ParseEnd, TypeNames, expression, mark, mark_ahead, with};
 use hs_syntax::Expr;
 use hs_tokens::SourceToken;
 use std::alloc::Global;
@@ -28,7 +28,7 @@ pub(crate) fn test<'a>(
 {
     let (_, behind) = mark(tokens, b"(")?;
     let (e, close) = expression(alloc, known, behind)?;
-    let (_, rest) = mark(close, b")")?;
+    let (e, (_, rest)) = with(e, mark(close, b")"))?;
     Ok((e, rest))
 }
 
@@ -47,7 +47,7 @@ pub(crate) fn optional<'a>(
         return Ok((None, rest));
     }
     let (e, close) = expression(alloc, known, tokens)?;
-    let (_, rest) = mark(close, end)?;
+    let (e, (_, rest)) = with(e, mark(close, end))?;
     Ok((Some(e), rest))
 }
 
@@ -70,7 +70,7 @@ pub(crate) fn for_controls<'a>(
 {
     let (_, behind) = mark(tokens, b"(")?;
     let (first, second) = optional(alloc, known, behind, b";")?;
-    let (test, third) = optional(alloc, known, second, b";")?;
-    let (step, rest) = optional(alloc, known, third, b")")?;
+    let (first, (test, third)) = with(first, optional(alloc, known, second, b";"))?;
+    let ((first, test), (step, rest)) = with((first, test), optional(alloc, known, third, b")"))?;
     Ok((Controls { first, test, step }, rest))
 }

@@ -10,7 +10,7 @@ use crate::labels::labels;
 use crate::parts::{for_controls, optional, test};
 use crate::words::{StatementWord, statement_word_of};
 use hs_expr_parser::{
-    ParseEnd, TypeNames, expression, first, is_mark_ahead, is_punctuator, mark, place_of,
+    ParseEnd, TypeNames, expression, first, is_mark_ahead, is_punctuator, mark, place_of, with,
 };
 use hs_syntax::{Block, Labelled, Place, Stmt};
 use hs_tokens::SourceToken;
@@ -64,7 +64,7 @@ fn expression_statement<'a>(
     ensures shorter { IfOk result (λ x. length x.1.now < length tokens.now) }
 {
     let (e, end) = expression(alloc, known, tokens)?;
-    let (_, rest) = mark(end, b";")?;
+    let (e, (_, rest)) = with(e, mark(end, b";"))?;
     Ok((Stmt::Expr(e), rest))
 }
 
@@ -74,7 +74,7 @@ fn ended<'a>(it: Stmt, rest: &'a [SourceToken]) -> Result<(Stmt, &'a [SourceToke
     ensures read { Gives (λ x. (view_statement x.0, x.1.now)) result (ended_at (view_statement it) rest.now) }
     ensures shorter { IfOk result (λ x. length x.1.now < length rest.now) }
 {
-    let (_, left) = mark(rest, b";")?;
+    let (it, (_, left)) = with(it, mark(rest, b";"))?;
     Ok((it, left))
 }
 
@@ -142,15 +142,9 @@ fn while_statement<'a>(
     ensures shorter { IfOk result (λ x. length x.1.now < length rest.now) }
 {
     let (test, behind) = test(alloc, known, rest)?;
-    let (body, left) = statement(alloc, known, behind)?;
-    Ok((
-        Stmt::While {
-            at,
-            test,
-            body: Box::new(alloc, body)?,
-        },
-        left,
-    ))
+    let (test, (body, left)) = with(test, statement(alloc, known, behind))?;
+    let (test, body) = with(test, Box::new(alloc, body))?;
+    Ok((Stmt::While { at, test, body }, left))
 }
 
 /// Reads a `do` behind its word (X3.159-1989 3.6.5.2).
@@ -166,17 +160,11 @@ fn do_statement<'a>(
     ensures shorter { IfOk result (λ x. length x.1.now < length rest.now) }
 {
     let (body, behind) = statement(alloc, known, rest)?;
-    let (_, next) = keyword(behind, b"while")?;
-    let (test, end) = test(alloc, known, next)?;
-    let (_, left) = mark(end, b";")?;
-    Ok((
-        Stmt::Do {
-            at,
-            body: Box::new(alloc, body)?,
-            test,
-        },
-        left,
-    ))
+    let (body, (_, next)) = with(body, keyword(behind, b"while"))?;
+    let (body, (test, end)) = with(body, test(alloc, known, next))?;
+    let ((body, test), (_, left)) = with((body, test), mark(end, b";"))?;
+    let (test, body) = with(test, Box::new(alloc, body))?;
+    Ok((Stmt::Do { at, body, test }, left))
 }
 
 /// Reads a `for` behind its word (X3.159-1989 3.6.5.3).
@@ -192,14 +180,15 @@ fn for_statement<'a>(
     ensures shorter { IfOk result (λ x. length x.1.now < length rest.now) }
 {
     let (controls, behind) = for_controls(alloc, known, rest)?;
-    let (body, left) = statement(alloc, known, behind)?;
+    let (controls, (body, left)) = with(controls, statement(alloc, known, behind))?;
+    let (controls, body) = with(controls, Box::new(alloc, body))?;
     Ok((
         Stmt::For {
             at,
             first: controls.first,
             test: controls.test,
             step: controls.step,
-            body: Box::new(alloc, body)?,
+            body,
         },
         left,
     ))
@@ -218,7 +207,7 @@ fn switch_statement<'a>(
     ensures shorter { IfOk result (λ x. length x.1.now < length rest.now) }
 {
     let (value, behind) = test(alloc, known, rest)?;
-    let (body, left) = block(alloc, known, behind)?;
+    let (value, (body, left)) = with(value, block(alloc, known, behind))?;
     Ok((Stmt::Switch { at, value, body }, left))
 }
 
@@ -250,8 +239,11 @@ fn inner<'a>(
     ensures shorter { IfOk result (λ x. length x.1.now < length rest.now) }
 {
     let (declarations, behind) = declarations(alloc, known, rest)?;
-    let (statements, end) = statements(alloc, known, behind)?;
-    let (closing, left) = mark(end, b"}")?;
+    let (declarations, (statements, end)) = with(declarations, statements(alloc, known, behind))?;
+    let ((declarations, statements), (closing, left)) = with(
+        (declarations, statements),
+        mark(end, b"}"),
+    )?;
     Ok((
         Block {
             opening,
@@ -275,7 +267,7 @@ fn labelled<'a>(
     ensures shorter { IfOk result (λ x. length x.1.now < length tokens.now) }
 {
     let (labels, behind) = labels(alloc, known, tokens)?;
-    let (statement, rest) = statement(alloc, known, behind)?;
+    let (labels, (statement, rest)) = with(labels, statement(alloc, known, behind))?;
     Ok((Labelled { labels, statement }, rest))
 }
 

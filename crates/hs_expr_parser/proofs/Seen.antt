@@ -35,7 +35,8 @@ constants_seen = view_constants-row
 pub parameters_seen : (v : Vec Parameter Global) → view_parameters (hidden-the_row-Parameter-1 v) ≡ parameters_from (map view_parameter v.items)
 parameters_seen = view_parameters-row
 
-pub boxed_type_seen : (it : TypeName) → tree.typed_as (view_specifiers (hidden-the_row-Specifier-0 it.specifiers)) (view_declarator it.declarator) ≡ view_type it
+pub boxed_type_seen : (it : TypeName) → tree.typed_as (view_specifiers (hidden-the_row-Specifier-0 it.specifiers)) (view_declarator it.declarator)
+    ≡ view_type it
 boxed_type_seen = boxed_type
 
 pub member_seen : (specifiers : Vec Specifier Global) (declarators : Vec Declarator Global)
@@ -46,7 +47,8 @@ member_seen specifiers declarators =
     ∙ ap (λ its. one_member its (declarators_from (map view_declarator declarators.items))) (specification_of-from specifiers.items)
 
 -- the expression of left operands, of which there is one
-pub sequence_seen : (v : Vec Left Global) (right : Expression) → (v.items ≡ [] → ⊥) → tree.comma (view_lefts (hidden-the_row-Left-3 v)) right ≡ joined (map view_left v.items) right
+pub sequence_seen : (v : Vec Left Global) (right : Expression) → (v.items ≡ [] → ⊥)
+    → tree.comma (view_lefts (hidden-the_row-Left-3 v)) right ≡ joined (map view_left v.items) right
 sequence_seen v right some = ap (λ its. tree.comma its right) (view_lefts-row v) ∙ by_items v.items some
   where
     by_items : (its : List Left) → (its ≡ [] → ⊥) → tree.comma (lefts_from (map view_left its)) right ≡ joined (map view_left its) right

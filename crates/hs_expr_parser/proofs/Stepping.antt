@@ -29,7 +29,8 @@ use Rattle.hs_expr_parser.specs.Laws.Wholly.{round}
 
 -- ---- expressions
 
-pub expression_step : (known : Known) (tokens : List SourceToken) → expression_at known tokens ≡ (assignment_at known tokens >>= (λ e. commas_at known [] e.0 e.1))
+pub expression_step : (known : Known) (tokens : List SourceToken)
+    → expression_at known tokens ≡ (assignment_at known tokens >>= (λ e. commas_at known [] e.0 e.1))
 unfolding expression_at assignment_at commas_at
 expression_step known tokens = refl
 
@@ -37,7 +38,8 @@ pub another_step : (known : Known) (tokens : List SourceToken)
     → another_at known tokens ≡ (mark_at (codes ",") tokens >>= (λ comma. assignment_at known comma.1 >>= (λ e. Some ((comma.0, e.0), e.1))))
 unfolding another_at assignment_at
 another_step known tokens =
-    let more : Shorter → Place × List SourceToken → Read (Place × Expression) = λ table comma. table goal.assignment comma.1 >>= (λ e. Some ((comma.0, e.0), e.1)) in
+    let more : Shorter → Place × List SourceToken → Read (Place × Expression) =
+    λ table comma. table goal.assignment comma.1 >>= (λ e. Some ((comma.0, e.0), e.1)) in
     λ i. mark_at (codes ",") tokens >>= more (round known i)
 
 commas_step : (known : Known) (lefts : List OneLeft) (right : Expression) (tokens : List SourceToken)
@@ -45,10 +47,12 @@ commas_step : (known : Known) (lefts : List OneLeft) (right : Expression) (token
     ≡ going_on (another_at known tokens) (λ it rest. commas_at known (lefts ++ one_left right it.0 ∷ []) it.1 rest) (Some (joined lefts right, tokens))
 unfolding commas_at another_at
 commas_step known lefts right tokens =
-    λ i. going_on (another_rule (reading known) tokens) (λ it rest. round known i (goal.commas (lefts ++ one_left right it.0 ∷ []) it.1) rest) (Some (joined lefts right, tokens))
+    λ i. going_on (another_rule (reading known) tokens) (λ it rest. round known i (goal.commas (lefts ++ one_left right it.0 ∷ []) it.1) rest)
+    (Some (joined lefts right, tokens))
 
 -- one more comma, or none
-pub commas_more : (known : Known) (lefts : List OneLeft) (right : Expression) (tokens : List SourceToken) (at : Place) (next : Expression) (rest : List SourceToken)
+pub commas_more : (known : Known) (lefts : List OneLeft) (right : Expression) (tokens : List SourceToken) (at : Place) (next : Expression)
+    (rest : List SourceToken)
     → another_at known tokens ≡ Some ((at, next), rest) → commas_at known lefts right tokens ≡ commas_at known (lefts ++ one_left right at ∷ []) next rest
 commas_more known lefts right tokens at next rest is =
     commas_step known lefts right tokens
@@ -100,7 +104,8 @@ pub branches_step : (known : Known) (tokens : List SourceToken)
 unfolding branches_at expression_at conditional_at
 branches_step known tokens = λ i. branches_rule (round known i) tokens
 
-pub binary_step : (known : Known) (least : ℕ) (tokens : List SourceToken) → binary_at known least tokens ≡ (cast_at known tokens >>= (λ e. climb_at known least 10 e.0 e.1))
+pub binary_step : (known : Known) (least : ℕ) (tokens : List SourceToken)
+    → binary_at known least tokens ≡ (cast_at known tokens >>= (λ e. climb_at known least 10 e.0 e.1))
 unfolding binary_at cast_at climb_at
 binary_step known least tokens = refl
 
@@ -119,13 +124,15 @@ pub climb_more : (known : Known) (least most : ℕ) (left : Expression) (tokens 
     → climb_at known least most left tokens ≡ climb_at known least (level_of it.operator) (tree.binary left it.operator it.at it.right) rest
 climb_more known least most left tokens it rest is =
     climb_step known least most left tokens
-    ∙ ap (λ found. going_on found (λ it rest. climb_at known least (level_of it.operator) (tree.binary left it.operator it.at it.right) rest) (Some (left, tokens))) is
+    ∙ ap (λ found. going_on found (λ it rest. climb_at known least (level_of it.operator) (tree.binary left it.operator it.at it.right) rest)
+    (Some (left, tokens))) is
 
 pub climb_end : (known : Known) (least most : ℕ) (left : Expression) (tokens : List SourceToken)
     → infix_at known least most tokens ≡ None → climb_at known least most left tokens ≡ Some (left, tokens)
 climb_end known least most left tokens is =
     climb_step known least most left tokens
-    ∙ ap (λ found. going_on found (λ it rest. climb_at known least (level_of it.operator) (tree.binary left it.operator it.at it.right) rest) (Some (left, tokens))) is
+    ∙ ap (λ found. going_on found (λ it rest. climb_at known least (level_of it.operator) (tree.binary left it.operator it.at it.right) rest)
+    (Some (left, tokens))) is
 
 pub infix_nothing : (known : Known) (least most : ℕ) → infix_at known least most [] ≡ None
 unfolding infix_at
@@ -334,7 +341,8 @@ unfolding specifiers_at
 specifiers_nothing known typed earlier = refl
 
 -- what follows specifiers so far, where one more begins
-specifiers_step : (known : Known) (typed : Bool) (earlier : List Specified) (source : SourceToken) (rest : List SourceToken) → begins_specifier known typed source ≡ true
+specifiers_step : (known : Known) (typed : Bool) (earlier : List Specified) (source : SourceToken) (rest : List SourceToken)
+    → begins_specifier known typed source ≡ true
     → specifiers_at known typed earlier (source ∷ rest)
     ≡ (specifier_at known source rest >>= (λ it. specifiers_at known (typed || is_type it.0) (earlier ++ it.0 ∷ []) it.1))
 unfolding specifiers_at specifier_at
@@ -343,7 +351,8 @@ specifiers_step known typed earlier source rest is =
     λ table it. table (goal.specifiers (typed || is_type it.0) (earlier ++ it.0 ∷ [])) it.1 in
     rw is (λ i. specifier_rule known (reading known) source rest >>= more (round known i))
 
-pub specifiers_more : (known : Known) (typed : Bool) (earlier : List Specified) (source : SourceToken) (rest : List SourceToken) (it : Specified) (left : List SourceToken)
+pub specifiers_more : (known : Known) (typed : Bool) (earlier : List Specified) (source : SourceToken) (rest : List SourceToken) (it : Specified)
+    (left : List SourceToken)
     → begins_specifier known typed source ≡ true → specifier_at known source rest ≡ Some (it, left)
     → specifiers_at known typed earlier (source ∷ rest) ≡ specifiers_at known (typed || is_type it) (earlier ++ it ∷ []) left
 specifiers_more known typed earlier source rest it left begins is =
@@ -381,21 +390,24 @@ pub specifier_basic : (known : Known) (source : SourceToken) (rest : List Source
 unfolding specifier_at
 specifier_basic known source rest it one two is = λ i. specifier_by known (reading known) (one i) (two i) (is i) source rest
 
-pub specifier_struct : (known : Known) (source : SourceToken) (rest : List SourceToken) → storage_of source ≡ None → dropped_of source ≡ None → basic_of source ≡ None
+pub specifier_struct : (known : Known) (source : SourceToken) (rest : List SourceToken) → storage_of source ≡ None → dropped_of source ≡ None
+    → basic_of source ≡ None
     → is_keyword (codes "struct") source ≡ true
     → specifier_at known source rest ≡ struct_at known (place_of source) (tag_at rest).0 (tag_at rest).1
 unfolding specifier_at struct_at
 specifier_struct known source rest one two three is =
     (λ i. specifier_by known (reading known) (one i) (two i) (three i) source rest) ∙ rw is refl
 
-pub specifier_enum : (known : Known) (source : SourceToken) (rest : List SourceToken) → storage_of source ≡ None → dropped_of source ≡ None → basic_of source ≡ None
+pub specifier_enum : (known : Known) (source : SourceToken) (rest : List SourceToken) → storage_of source ≡ None → dropped_of source ≡ None
+    → basic_of source ≡ None
     → is_keyword (codes "struct") source ≡ false → is_keyword (codes "enum") source ≡ true
     → specifier_at known source rest ≡ enum_at known (place_of source) (tag_at rest).0 (tag_at rest).1
 unfolding specifier_at enum_at
 specifier_enum known source rest one two three other is =
     (λ i. specifier_by known (reading known) (one i) (two i) (three i) source rest) ∙ rw other (rw is refl)
 
-pub specifier_named : (known : Known) (source : SourceToken) (rest : List SourceToken) → storage_of source ≡ None → dropped_of source ≡ None → basic_of source ≡ None
+pub specifier_named : (known : Known) (source : SourceToken) (rest : List SourceToken) → storage_of source ≡ None → dropped_of source ≡ None
+    → basic_of source ≡ None
     → is_keyword (codes "struct") source ≡ false → is_keyword (codes "enum") source ≡ false
     → specifier_at known source rest ≡ (if is_type_name known source.token.text then Some (tree.named (word_of source), rest) else None)
 unfolding specifier_at
@@ -403,7 +415,8 @@ specifier_named known source rest one two three other another =
     (λ i. specifier_by known (reading known) (one i) (two i) (three i) source rest) ∙ rw other (rw another refl)
 
 -- the first token is the mark, or is not
-ahead_some : (text : List ℕ) (tokens : List SourceToken) (at : Place) (rest : List SourceToken) → mark_at text tokens ≡ Some (at, rest) → is_mark_ahead text tokens ≡ true
+ahead_some : (text : List ℕ) (tokens : List SourceToken) (at : Place) (rest : List SourceToken) → mark_at text tokens ≡ Some (at, rest)
+    → is_mark_ahead text tokens ≡ true
 ahead_some text [] at rest is = absurd cc
 ahead_some text (source ∷ others) at rest is =
     elim (cases_Bool (is_punctuator text source)) [
@@ -432,8 +445,10 @@ pub struct_body : (known : Known) (at : Place) (tag : Option Word) (rest : List 
 unfolding struct_at members_at
 struct_body known at tag rest brace behind is =
     let more : Shorter → Place × List SourceToken → Read Specified =
-    λ table mark. table (goal.members []) mark.1 >>= (λ its. mark_at (codes "}") its.1 >>= (λ close. Some (tree.struct_body at tag mark.0 (members_from its.0), close.1))) in
-    rw (ahead_some (codes "{") rest brace behind is) ((λ i. mark_at (codes "{") rest >>= more (round known i)) ∙ ap (λ found. found >>= more (rule known (reading known))) is)
+    λ table mark. table (goal.members []) mark.1 >>=
+    (λ its. mark_at (codes "}") its.1 >>= (λ close. Some (tree.struct_body at tag mark.0 (members_from its.0), close.1))) in
+    rw (ahead_some (codes "{") rest brace behind is)
+    ((λ i. mark_at (codes "{") rest >>= more (round known i)) ∙ ap (λ found. found >>= more (rule known (reading known))) is)
 
 pub struct_tag : (known : Known) (at : Place) (tag : Option Word) (rest : List SourceToken) → mark_at (codes "{") rest ≡ None
     → struct_at known at tag rest ≡ tagged (tree.struct_tag at) tag rest
@@ -443,13 +458,15 @@ struct_tag known at tag rest is = rw (ahead_none (codes "{") rest is) refl
 pub enum_body : (known : Known) (at : Place) (tag : Option Word) (rest : List SourceToken) (brace : Place) (behind : List SourceToken)
     → mark_at (codes "{") rest ≡ Some (brace, behind)
     → enum_at known at tag rest
-    ≡ (constants_at known [] behind >>= (λ its. mark_at (codes "}") its.1 >>= (λ close. Some (tree.enum_body at tag brace (constants_from its.0.0) its.0.1, close.1))))
+    ≡ (constants_at known [] behind >>= (λ its.
+    mark_at (codes "}") its.1 >>= (λ close. Some (tree.enum_body at tag brace (constants_from its.0.0) its.0.1, close.1))))
 unfolding enum_at constants_at
 enum_body known at tag rest brace behind is =
     let more : Shorter → Place × List SourceToken → Read Specified =
     λ table mark. table (goal.constants []) mark.1
     >>= (λ its. mark_at (codes "}") its.1 >>= (λ close. Some (tree.enum_body at tag mark.0 (constants_from its.0.0) its.0.1, close.1))) in
-    rw (ahead_some (codes "{") rest brace behind is) ((λ i. mark_at (codes "{") rest >>= more (round known i)) ∙ ap (λ found. found >>= more (rule known (reading known))) is)
+    rw (ahead_some (codes "{") rest brace behind is)
+    ((λ i. mark_at (codes "{") rest >>= more (round known i)) ∙ ap (λ found. found >>= more (rule known (reading known))) is)
 
 pub enum_tag : (known : Known) (at : Place) (tag : Option Word) (rest : List SourceToken) → mark_at (codes "{") rest ≡ None
     → enum_at known at tag rest ≡ tagged (tree.enum_tag at) tag rest
@@ -604,41 +621,53 @@ parameter_step known tokens = refl
 
 -- ---- lists: one more entry, one that fails, and none
 
-pub arguments_goes : (known : Known) (its : List Expression) (rest : List SourceToken) (comma : Place) (next : List SourceToken) (e : Expression) (left : List SourceToken)
-    → mark_at (codes ",") rest ≡ Some (comma, next) → assignment_at known next ≡ Some (e, left) → arguments_on known its rest ≡ arguments_on known (its ++ e ∷ []) left
+pub arguments_goes : (known : Known) (its : List Expression) (rest : List SourceToken) (comma : Place) (next : List SourceToken) (e : Expression)
+    (left : List SourceToken)
+    → mark_at (codes ",") rest ≡ Some (comma, next) → assignment_at known next ≡ Some (e, left)
+    → arguments_on known its rest ≡ arguments_on known (its ++ e ∷ []) left
 arguments_goes known its rest comma next e left is read =
     let more : Expression × List SourceToken → Read (List Expression) = λ it. arguments_on known (its ++ it.0 ∷ []) it.1 in
-    ap (λ found. going_on found (λ comma others. arguments_at known its others) (Some (its, rest))) is ∙ arguments_step known its next ∙ ap (λ found. found >>= more) read
+    ap (λ found. going_on found (λ comma others. arguments_at known its others) (Some (its, rest))) is ∙ arguments_step known its next
+    ∙ ap (λ found. found >>= more) read
 
 pub arguments_fails : (known : Known) (its : List Expression) (rest : List SourceToken) (comma : Place) (next : List SourceToken)
     → mark_at (codes ",") rest ≡ Some (comma, next) → assignment_at known next ≡ None → arguments_on known its rest ≡ None
 arguments_fails known its rest comma next is read =
     let more : Expression × List SourceToken → Read (List Expression) = λ it. arguments_on known (its ++ it.0 ∷ []) it.1 in
-    ap (λ found. going_on found (λ comma others. arguments_at known its others) (Some (its, rest))) is ∙ arguments_step known its next ∙ ap (λ found. found >>= more) read
+    ap (λ found. going_on found (λ comma others. arguments_at known its others) (Some (its, rest))) is ∙ arguments_step known its next
+    ∙ ap (λ found. found >>= more) read
 
-pub declarators_goes : (known : Known) (its : List Declared) (rest : List SourceToken) (comma : Place) (next : List SourceToken) (it : Declared) (left : List SourceToken)
-    → mark_at (codes ",") rest ≡ Some (comma, next) → declarator_at known false next ≡ Some (it, left) → declarators_on known its rest ≡ declarators_on known (its ++ it ∷ []) left
+pub declarators_goes : (known : Known) (its : List Declared) (rest : List SourceToken) (comma : Place) (next : List SourceToken) (it : Declared)
+    (left : List SourceToken)
+    → mark_at (codes ",") rest ≡ Some (comma, next) → declarator_at known false next ≡ Some (it, left)
+    → declarators_on known its rest ≡ declarators_on known (its ++ it ∷ []) left
 declarators_goes known its rest comma next it left is read =
     let more : Declared × List SourceToken → Read (List Declared) = λ it. declarators_on known (its ++ it.0 ∷ []) it.1 in
-    ap (λ found. going_on found (λ comma others. declarators_at known its others) (Some (its, rest))) is ∙ declarators_step known its next ∙ ap (λ found. found >>= more) read
+    ap (λ found. going_on found (λ comma others. declarators_at known its others) (Some (its, rest))) is ∙ declarators_step known its next
+    ∙ ap (λ found. found >>= more) read
 
 pub declarators_fails : (known : Known) (its : List Declared) (rest : List SourceToken) (comma : Place) (next : List SourceToken)
     → mark_at (codes ",") rest ≡ Some (comma, next) → declarator_at known false next ≡ None → declarators_on known its rest ≡ None
 declarators_fails known its rest comma next is read =
     let more : Declared × List SourceToken → Read (List Declared) = λ it. declarators_on known (its ++ it.0 ∷ []) it.1 in
-    ap (λ found. going_on found (λ comma others. declarators_at known its others) (Some (its, rest))) is ∙ declarators_step known its next ∙ ap (λ found. found >>= more) read
+    ap (λ found. going_on found (λ comma others. declarators_at known its others) (Some (its, rest))) is ∙ declarators_step known its next
+    ∙ ap (λ found. found >>= more) read
 
-pub parameters_goes : (known : Known) (its : List OneParameter) (rest : List SourceToken) (comma : Place) (next : List SourceToken) (it : OneParameter) (left : List SourceToken)
-    → mark_at (codes ",") rest ≡ Some (comma, next) → parameter_at known next ≡ Some (it, left) → parameters_on known its rest ≡ parameters_on known (its ++ it ∷ []) left
+pub parameters_goes : (known : Known) (its : List OneParameter) (rest : List SourceToken) (comma : Place) (next : List SourceToken)
+    (it : OneParameter) (left : List SourceToken)
+    → mark_at (codes ",") rest ≡ Some (comma, next) → parameter_at known next ≡ Some (it, left)
+    → parameters_on known its rest ≡ parameters_on known (its ++ it ∷ []) left
 parameters_goes known its rest comma next it left is read =
     let more : OneParameter × List SourceToken → Read (List OneParameter) = λ it. parameters_on known (its ++ it.0 ∷ []) it.1 in
-    ap (λ found. going_on found (λ comma others. parameters_at known its others) (Some (its, rest))) is ∙ parameters_step known its next ∙ ap (λ found. found >>= more) read
+    ap (λ found. going_on found (λ comma others. parameters_at known its others) (Some (its, rest))) is ∙ parameters_step known its next
+    ∙ ap (λ found. found >>= more) read
 
 pub parameters_fails : (known : Known) (its : List OneParameter) (rest : List SourceToken) (comma : Place) (next : List SourceToken)
     → mark_at (codes ",") rest ≡ Some (comma, next) → parameter_at known next ≡ None → parameters_on known its rest ≡ None
 parameters_fails known its rest comma next is read =
     let more : OneParameter × List SourceToken → Read (List OneParameter) = λ it. parameters_on known (its ++ it.0 ∷ []) it.1 in
-    ap (λ found. going_on found (λ comma others. parameters_at known its others) (Some (its, rest))) is ∙ parameters_step known its next ∙ ap (λ found. found >>= more) read
+    ap (λ found. going_on found (λ comma others. parameters_at known its others) (Some (its, rest))) is ∙ parameters_step known its next
+    ∙ ap (λ found. found >>= more) read
 
 pub members_goes : (known : Known) (its : List OneMember) (rest : List SourceToken) (it : OneMember) (left : List SourceToken)
     → is_mark_ahead (codes "}") rest ≡ false → member_at known rest ≡ Some (it, left) → members_on known its rest ≡ members_on known (its ++ it ∷ []) left
@@ -656,10 +685,12 @@ members_fails known its rest is read =
 constants_behind : (known : Known) (its : List OneConstant) (rest : List SourceToken) (comma : Place) (next : List SourceToken)
     → mark_at (codes ",") rest ≡ Some (comma, next) → is_mark_ahead (codes "}") next ≡ false → constants_on known its rest ≡ constants_at known its next
 constants_behind known its rest comma next is other =
-    ap (λ found. going_on found (λ comma others. if is_mark_ahead (codes "}") others then Some ((its, true), others) else constants_at known its others) (Some ((its, false), rest))) is
+    ap (λ found. going_on found (λ comma others.
+    if is_mark_ahead (codes "}") others then Some ((its, true), others) else constants_at known its others) (Some ((its, false), rest))) is
     ∙ ap (λ test. if test then Some ((its, true), next) else constants_at known its next) other
 
-pub constants_goes : (known : Known) (its : List OneConstant) (rest : List SourceToken) (comma : Place) (next : List SourceToken) (it : OneConstant) (left : List SourceToken)
+pub constants_goes : (known : Known) (its : List OneConstant) (rest : List SourceToken) (comma : Place) (next : List SourceToken) (it : OneConstant)
+    (left : List SourceToken)
     → mark_at (codes ",") rest ≡ Some (comma, next) → is_mark_ahead (codes "}") next ≡ false → constant_at known next ≡ Some (it, left)
     → constants_on known its rest ≡ constants_on known (its ++ it ∷ []) left
 constants_goes known its rest comma next it left is other read =
@@ -667,12 +698,14 @@ constants_goes known its rest comma next it left is other read =
     constants_behind known its rest comma next is other ∙ constants_step known its next ∙ ap (λ found. found >>= more) read
 
 pub constants_fails : (known : Known) (its : List OneConstant) (rest : List SourceToken) (comma : Place) (next : List SourceToken)
-    → mark_at (codes ",") rest ≡ Some (comma, next) → is_mark_ahead (codes "}") next ≡ false → constant_at known next ≡ None → constants_on known its rest ≡ None
+    → mark_at (codes ",") rest ≡ Some (comma, next) → is_mark_ahead (codes "}") next ≡ false → constant_at known next ≡ None
+    → constants_on known its rest ≡ None
 constants_fails known its rest comma next is other read =
     let more : OneConstant × List SourceToken → Read (List OneConstant × Bool) = λ it. constants_on known (its ++ it.0 ∷ []) it.1 in
     constants_behind known its rest comma next is other ∙ constants_step known its next ∙ ap (λ found. found >>= more) read
 
-pub some_arguments_none : (known : Known) (tokens : List SourceToken) → is_mark_ahead (codes ")") tokens ≡ true → some_arguments_at known tokens ≡ Some ([], tokens)
+pub some_arguments_none : (known : Known) (tokens : List SourceToken) → is_mark_ahead (codes ")") tokens ≡ true
+    → some_arguments_at known tokens ≡ Some ([], tokens)
 unfolding some_arguments_at
 some_arguments_none known tokens is = rw is refl
 
@@ -706,15 +739,19 @@ struct_closed at tag brace its = mark_at (codes "}") its.1 >>= (λ close. Some (
 
 pub struct_list_none : (known : Known) (at : Place) (tag : Option Word) (rest : List SourceToken) (brace : Place) (behind : List SourceToken)
     → mark_at (codes "{") rest ≡ Some (brace, behind) → members_at known [] behind ≡ None → struct_at known at tag rest ≡ None
-struct_list_none known at tag rest brace behind is none = struct_body known at tag rest brace behind is ∙ ap (λ found. found >>= struct_closed at tag brace) none
+struct_list_none known at tag rest brace behind is none = struct_body known at tag rest brace behind is
+    ∙ ap (λ found. found >>= struct_closed at tag brace) none
 
-pub struct_close_none : (known : Known) (at : Place) (tag : Option Word) (rest : List SourceToken) (brace : Place) (behind : List SourceToken) (its : List OneMember) (close : List SourceToken)
-    → mark_at (codes "{") rest ≡ Some (brace, behind) → members_at known [] behind ≡ Some (its, close) → mark_at (codes "}") close ≡ None → struct_at known at tag rest ≡ None
+pub struct_close_none : (known : Known) (at : Place) (tag : Option Word) (rest : List SourceToken) (brace : Place) (behind : List SourceToken)
+    (its : List OneMember) (close : List SourceToken)
+    → mark_at (codes "{") rest ≡ Some (brace, behind) → members_at known [] behind ≡ Some (its, close) → mark_at (codes "}") close ≡ None
+    → struct_at known at tag rest ≡ None
 struct_close_none known at tag rest brace behind its close is read none =
     let made : Place × List SourceToken → Read Specified = λ mark. Some (tree.struct_body at tag brace (members_from its), mark.1) in
     struct_body known at tag rest brace behind is ∙ ap (λ found. found >>= struct_closed at tag brace) read ∙ ap (λ found. found >>= made) none
 
-pub struct_whole : (known : Known) (at : Place) (tag : Option Word) (rest : List SourceToken) (brace : Place) (behind : List SourceToken) (its : List OneMember) (close : List SourceToken)
+pub struct_whole : (known : Known) (at : Place) (tag : Option Word) (rest : List SourceToken) (brace : Place) (behind : List SourceToken)
+    (its : List OneMember) (close : List SourceToken)
     (there : Place) (left : List SourceToken) → mark_at (codes "{") rest ≡ Some (brace, behind) → members_at known [] behind ≡ Some (its, close)
     → mark_at (codes "}") close ≡ Some (there, left) → struct_at known at tag rest ≡ Some (tree.struct_body at tag brace (members_from its), left)
 struct_whole known at tag rest brace behind its close there left is read closed =
@@ -728,13 +765,16 @@ pub enum_list_none : (known : Known) (at : Place) (tag : Option Word) (rest : Li
     → mark_at (codes "{") rest ≡ Some (brace, behind) → constants_at known [] behind ≡ None → enum_at known at tag rest ≡ None
 enum_list_none known at tag rest brace behind is none = enum_body known at tag rest brace behind is ∙ ap (λ found. found >>= enum_closed at tag brace) none
 
-pub enum_close_none : (known : Known) (at : Place) (tag : Option Word) (rest : List SourceToken) (brace : Place) (behind : List SourceToken) (its : List OneConstant × Bool) (close : List SourceToken)
-    → mark_at (codes "{") rest ≡ Some (brace, behind) → constants_at known [] behind ≡ Some (its, close) → mark_at (codes "}") close ≡ None → enum_at known at tag rest ≡ None
+pub enum_close_none : (known : Known) (at : Place) (tag : Option Word) (rest : List SourceToken) (brace : Place) (behind : List SourceToken)
+    (its : List OneConstant × Bool) (close : List SourceToken)
+    → mark_at (codes "{") rest ≡ Some (brace, behind) → constants_at known [] behind ≡ Some (its, close) → mark_at (codes "}") close ≡ None
+    → enum_at known at tag rest ≡ None
 enum_close_none known at tag rest brace behind its close is read none =
     let made : Place × List SourceToken → Read Specified = λ mark. Some (tree.enum_body at tag brace (constants_from its.0) its.1, mark.1) in
     enum_body known at tag rest brace behind is ∙ ap (λ found. found >>= enum_closed at tag brace) read ∙ ap (λ found. found >>= made) none
 
-pub enum_whole : (known : Known) (at : Place) (tag : Option Word) (rest : List SourceToken) (brace : Place) (behind : List SourceToken) (its : List OneConstant × Bool) (close : List SourceToken)
+pub enum_whole : (known : Known) (at : Place) (tag : Option Word) (rest : List SourceToken) (brace : Place) (behind : List SourceToken)
+    (its : List OneConstant × Bool) (close : List SourceToken)
     (there : Place) (left : List SourceToken) → mark_at (codes "{") rest ≡ Some (brace, behind) → constants_at known [] behind ≡ Some (its, close)
     → mark_at (codes "}") close ≡ Some (there, left) → enum_at known at tag rest ≡ Some (tree.enum_body at tag brace (constants_from its.0) its.1, left)
 enum_whole known at tag rest brace behind its close there left is read closed =
@@ -746,9 +786,11 @@ prefixed operator at e = Some (tree.prefix operator at e.0, e.1)
 
 pub unary_prefix_none : (known : Known) (source : SourceToken) (rest : List SourceToken) (operator : PrefixOperator) → prefix_of source ≡ Some operator
     → operand_of known operator rest ≡ None → unary_at known (source ∷ rest) ≡ None
-unary_prefix_none known source rest operator is none = unary_prefix known source rest operator is ∙ ap (λ found. found >>= prefixed operator (place_of source)) none
+unary_prefix_none known source rest operator is none = unary_prefix known source rest operator is
+    ∙ ap (λ found. found >>= prefixed operator (place_of source)) none
 
 pub unary_prefix_some : (known : Known) (source : SourceToken) (rest : List SourceToken) (operator : PrefixOperator) (e : Expression) (left : List SourceToken)
     → prefix_of source ≡ Some operator → operand_of known operator rest ≡ Some (e, left)
     → unary_at known (source ∷ rest) ≡ Some (tree.prefix operator (place_of source) e, left)
-unary_prefix_some known source rest operator e left is read = unary_prefix known source rest operator is ∙ ap (λ found. found >>= prefixed operator (place_of source)) read
+unary_prefix_some known source rest operator e left is read =
+    unary_prefix known source rest operator is ∙ ap (λ found. found >>= prefixed operator (place_of source)) read

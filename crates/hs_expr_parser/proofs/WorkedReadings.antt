@@ -158,7 +158,8 @@ unfolding reading keywords specifier_words
 size_of_value = refl
 
 -- `a ? b : c ? d : e` and `a = b = c` group to the right
-branches : read (a ∷ query ∷ b ∷ colon ∷ c ∷ query ∷ d ∷ colon ∷ e ∷ []) ≡ Some (tree.conditional a_read nowhere b_read (tree.conditional c_read nowhere d_read e_read), [])
+branches : read (a ∷ query ∷ b ∷ colon ∷ c ∷ query ∷ d ∷ colon ∷ e ∷ [])
+    ≡ Some (tree.conditional a_read nowhere b_read (tree.conditional c_read nowhere d_read e_read), [])
 unfolding reading keywords specifier_words
 branches = refl
 
@@ -167,7 +168,8 @@ unfolding reading keywords specifier_words
 assigns = refl
 
 -- `&*a`, a cast behind them, and adjacent literals
-prefixes : read_with_T (amp ∷ star ∷ open_ ∷ type ∷ close_ ∷ a ∷ []) ≡ Some (tree.prefix Address nowhere (tree.prefix Dereference nowhere (tree.cast nowhere type_T a_read)), [])
+prefixes : read_with_T (amp ∷ star ∷ open_ ∷ type ∷ close_ ∷ a ∷ [])
+    ≡ Some (tree.prefix Address nowhere (tree.prefix Dereference nowhere (tree.cast nowhere type_T a_read)), [])
 unfolding reading keywords specifier_words
 prefixes = refl
 
@@ -176,7 +178,8 @@ unfolding reading keywords specifier_words
 literals = refl
 
 -- arguments `a(b, c)`, and a comma `a, b`
-calls : read (a ∷ open_ ∷ b ∷ comma ∷ c ∷ close_ ∷ []) ≡ Some (tree.call a_read (tree.more_expressions b_read (tree.more_expressions c_read tree.no_expressions)), [])
+calls : read (a ∷ open_ ∷ b ∷ comma ∷ c ∷ close_ ∷ [])
+    ≡ Some (tree.call a_read (tree.more_expressions b_read (tree.more_expressions c_read tree.no_expressions)), [])
 unfolding reading keywords specifier_words
 calls = refl
 

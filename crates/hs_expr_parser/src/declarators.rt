@@ -9,6 +9,7 @@ use crate::ahead::{
     word_of,
 };
 use crate::expressions::conditional;
+use crate::held::with;
 use crate::named::is_empty;
 use crate::parse_end::ParseEnd;
 use crate::type_names::TypeNames;
@@ -76,7 +77,7 @@ fn inside<'a>(
     ensures shorter { IfOk result (λ x. length x.1.now ≤ length rest.now) }
 {
     let (it, close) = declarator(alloc, known, inner, rest)?;
-    let (_, left) = mark(close, b")")?;
+    let (it, (_, left)) = with(it, mark(close, b")"))?;
     if is_empty(&it) {
         return Err(ParseEnd::NotExpr);
     }
@@ -125,18 +126,14 @@ fn array_length<'a>(
     ensures read { Gives (λ x. (view_direct x.0, x.1.now)) result (length_at known.now (view_direct base) rest.now) }
     ensures shorter { IfOk result (λ x. length x.1.now < length rest.now) }
 {
+    let base = Box::new(alloc, base)?;
     if let Some((_, left)) = mark_ahead(rest, b"]") {
-        return Ok((Direct::Array(Box::new(alloc, base)?), left));
+        return Ok((Direct::Array(base), left));
     }
-    let (length, close) = conditional(alloc, known, rest)?;
-    let (_, left) = mark(close, b"]")?;
-    Ok((
-        Direct::Sized {
-            base: Box::new(alloc, base)?,
-            length: Box::new(alloc, length)?,
-        },
-        left,
-    ))
+    let (base, (length, close)) = with(base, conditional(alloc, known, rest))?;
+    let ((base, length), (_, left)) = with((base, length), mark(close, b"]"))?;
+    let (base, length) = with(base, Box::new(alloc, length))?;
+    Ok((Direct::Sized { base, length }, left))
 }
 
 /// Reads a list of parameters behind the `(`: none, `void` alone, or some (X3.159-1989 3.5.4.3).
@@ -169,15 +166,10 @@ fn parameter_list<'a>(
             left,
         ));
     }
-    let (parameters, close) = parameters(alloc, known, rest)?;
-    let (_, left) = mark(close, b")")?;
-    Ok((
-        Direct::Function {
-            base: Box::new(alloc, base)?,
-            parameters,
-        },
-        left,
-    ))
+    let (base, (parameters, close)) = with(base, parameters(alloc, known, rest))?;
+    let ((base, parameters), (_, left)) = with((base, parameters), mark(close, b")"))?;
+    let (parameters, base) = with(parameters, Box::new(alloc, base))?;
+    Ok((Direct::Function { base, parameters }, left))
 }
 
 /// Reads declarators with commas between them (X3.159-1989 3.5).
@@ -238,7 +230,10 @@ fn parameter<'a>(
     ensures shorter { IfOk result (λ x. length x.1.now < length tokens.now) }
 {
     let (specifiers, behind) = specifiers(alloc, known, tokens)?;
-    let (declarator, rest) = declarator(alloc, known, true, behind)?;
+    let (specifiers, (declarator, rest)) = with(
+        specifiers,
+        declarator(alloc, known, true, behind),
+    )?;
     Ok((
         Parameter {
             specifiers,

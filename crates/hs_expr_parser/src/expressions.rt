@@ -6,6 +6,7 @@ ghost use Rattle.hs_expr_parser.specs.Reading.{joined};
 ghost use Rattle.hs_expr_parser.specs.Steps.{expression_at, another_at, assignment_at, value_at, conditional_at, branches_at, binary_at, infix_at};
 
 use crate::ahead::{first, found, mark, place_of};
+use crate::held::{boxed_three, boxed_two, with};
 use crate::operators::{assign_of, binary_of};
 use crate::parse_end::ParseEnd;
 use crate::rank::is_unary;
@@ -110,15 +111,17 @@ pub fn assignment<'a>(
     if !is_unary(&target) {
         return Ok((target, rest));
     }
-    let Some(((operator, at, value), left)) = found(value(alloc, known, rest))? else {
+    let (target, assigned) = with(target, found(value(alloc, known, rest)))?;
+    let Some(((operator, at, value), left)) = assigned else {
         return Ok((target, rest));
     };
+    let (target, value) = boxed_two(alloc, target, value)?;
     Ok((
         Expr::Assign {
-            target: Box::new(alloc, target)?,
+            target,
             operator,
             at,
-            value: Box::new(alloc, value)?,
+            value,
         },
         left,
     ))
@@ -158,15 +161,17 @@ pub fn conditional<'a>(
     ensures shorter { IfOk result (λ x. length x.1.now < length tokens.now) }
 {
     let (test, rest) = binary(alloc, known, 1, tokens)?;
-    let Some(((at, then, otherwise), left)) = found(branches(alloc, known, rest))? else {
+    let (test, follow) = with(test, found(branches(alloc, known, rest)))?;
+    let Some(((at, then, otherwise), left)) = follow else {
         return Ok((test, rest));
     };
+    let (test, then, otherwise) = boxed_three(alloc, test, then, otherwise)?;
     Ok((
         Expr::Conditional {
-            test: Box::new(alloc, test)?,
+            test,
             at,
-            then: Box::new(alloc, then)?,
-            otherwise: Box::new(alloc, otherwise)?,
+            then,
+            otherwise,
         },
         left,
     ))
@@ -186,8 +191,8 @@ fn branches<'a>(
 {
     let (at, behind) = mark(tokens, b"?")?;
     let (then, colon) = expression(alloc, known, behind)?;
-    let (_, last) = mark(colon, b":")?;
-    let (otherwise, rest) = conditional(alloc, known, last)?;
+    let (then, (_, last)) = with(then, mark(colon, b":"))?;
+    let (then, (otherwise, rest)) = with(then, conditional(alloc, known, last))?;
     Ok(((at, then, otherwise), rest))
 }
 

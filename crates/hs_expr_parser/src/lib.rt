@@ -5,6 +5,7 @@
 mod ahead;
 mod declarators;
 mod expressions;
+mod held;
 mod laws;
 mod longest;
 mod named;
@@ -22,6 +23,7 @@ pub use ahead::{
 };
 pub use declarators::declarator;
 pub use expressions::{assignment, conditional, expression};
+pub use held::with;
 pub use laws::{
     expressions_are_unambiguous, nothing_is_read_where_none_starts, reading_is_the_longest,
     what_is_read_is_an_expression,

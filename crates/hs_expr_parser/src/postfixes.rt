@@ -11,6 +11,7 @@ use crate::ahead::{
     first, is_mark_ahead, is_punctuator, literals, mark, mark_ahead, name, place_of, word_of,
 };
 use crate::expressions::{assignment, expression};
+use crate::held::with;
 use crate::operators::{access_of, postfix_of};
 use crate::parse_end::ParseEnd;
 use crate::type_names::TypeNames;
@@ -71,7 +72,7 @@ pub(crate) fn postfix<'a>(
 fn with_suffix(alloc: Global, base: Expr, suffix: Suffix) -> Result<Expr, NoMemory>
     ensures { IfOk result (λ e. view e ≡ applied suffix (view base)) }
 {
-    let base = Box::new(alloc, base)?;
+    let (suffix, base) = with(suffix, Box::new(alloc, base))?;
     Ok(match suffix {
         Suffix::Index { at, index } => Expr::Index {
             base,
@@ -113,12 +114,12 @@ fn next_suffix<'a>(
     let at = place_of(source);
     if is_punctuator(source, b"[") {
         let (index, close) = expression(alloc, known, behind)?;
-        let (_, rest) = mark(close, b"]")?;
+        let (index, (_, rest)) = with(index, mark(close, b"]"))?;
         return Ok((Suffix::Index { at, index }, rest));
     }
     if is_punctuator(source, b"(") {
         let (arguments, close) = arguments(alloc, known, behind)?;
-        let (_, rest) = mark(close, b")")?;
+        let (arguments, (_, rest)) = with(arguments, mark(close, b")"))?;
         return Ok((Suffix::Call(arguments), rest));
     }
     if let Some(access) = access_of(source) {
@@ -178,7 +179,7 @@ fn parens<'a>(
     ensures shorter { IfOk result (λ x. length x.1.now < length rest.now) }
 {
     let (inner, behind) = expression(alloc, known, rest)?;
-    let (_, left) = mark(behind, b")")?;
+    let (inner, (_, left)) = with(inner, mark(behind, b")"))?;
     Ok((
         Expr::Parens {
             at,

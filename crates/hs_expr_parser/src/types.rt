@@ -10,6 +10,7 @@ use crate::ahead::{
 };
 use crate::declarators::{declarator, declarators};
 use crate::expressions::conditional;
+use crate::held::with;
 use crate::named::is_named;
 use crate::operators::{basic_of, dropped_of, storage_of};
 use crate::parse_end::ParseEnd;
@@ -31,7 +32,10 @@ pub(crate) fn type_name<'a>(
     ensures shorter { IfOk result (λ x. length x.1.now < length tokens.now) }
 {
     let (specifiers, behind) = specifiers(alloc, known, tokens)?;
-    let (declarator, rest) = declarator(alloc, known, true, behind)?;
+    let (specifiers, (declarator, rest)) = with(
+        specifiers,
+        declarator(alloc, known, true, behind),
+    )?;
     if is_named(&declarator) {
         return Err(ParseEnd::NotExpr);
     }
@@ -188,8 +192,8 @@ fn member<'a>(
     ensures shorter { IfOk result (λ x. length x.1.now < length tokens.now) }
 {
     let (specifiers, behind) = specifiers(alloc, known, tokens)?;
-    let (declarators, end) = declarators(alloc, known, behind)?;
-    let (_, rest) = mark(end, b";")?;
+    let (specifiers, (declarators, end)) = with(specifiers, declarators(alloc, known, behind))?;
+    let ((specifiers, declarators), (_, rest)) = with((specifiers, declarators), mark(end, b";"))?;
     Ok((
         Member {
             specifiers,

@@ -5,6 +5,7 @@ ghost use Rattle.hs_expr_parser.specs.Given.{Gives};
 ghost use Rattle.hs_expr_parser.specs.Steps.{cast_at, type_in_parens_at, unary_at, operand_of, sizeof_at};
 
 use crate::ahead::{begins_type, first, is_keyword, mark, place_of};
+use crate::held::{boxed_two, with};
 use crate::operators::prefix_of;
 use crate::parse_end::ParseEnd;
 use crate::postfixes::postfix;
@@ -29,12 +30,13 @@ pub(crate) fn cast<'a>(
         return unary(alloc, known, tokens);
     }
     let ((at, type_name), behind) = type_in_parens(alloc, known, tokens)?;
-    let (operand, rest) = cast(alloc, known, behind)?;
+    let (type_name, (operand, rest)) = with(type_name, cast(alloc, known, behind))?;
+    let (type_name, operand) = boxed_two(alloc, type_name, operand)?;
     Ok((
         Expr::Cast {
             at,
-            type_name: Box::new(alloc, type_name)?,
-            operand: Box::new(alloc, operand)?,
+            type_name,
+            operand,
         },
         rest,
     ))
@@ -53,7 +55,7 @@ fn type_in_parens<'a>(
 {
     let (at, behind) = mark(tokens, b"(")?;
     let (it, close) = type_name(alloc, known, behind)?;
-    let (_, rest) = mark(close, b")")?;
+    let (it, (_, rest)) = with(it, mark(close, b")"))?;
     Ok(((at, it), rest))
 }
 

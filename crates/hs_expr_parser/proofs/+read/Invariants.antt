@@ -114,13 +114,15 @@ abbrev pub decreases-declarators::parameter_list : goal.decreases-declarators::p
 decreases-declarators::parameter_list l = 16 * length l.rest.now + 4
 
 abbrev pub invariant-expressions::expression-commas : goal.invariant-expressions::expression-commas
-invariant-expressions::expression-commas l = (commas_at l.known (map view_left l.lefts.items) (view l.right) l.rest ≡ expression_at l.known l.fn.tokens) × (length l.rest < length l.fn.tokens)
+invariant-expressions::expression-commas l =
+    (commas_at l.known (map view_left l.lefts.items) (view l.right) l.rest ≡ expression_at l.known l.fn.tokens) × (length l.rest < length l.fn.tokens)
 
 abbrev pub decreases-expressions::expression-commas : goal.decreases-expressions::expression-commas
 decreases-expressions::expression-commas l = length l.rest
 
 abbrev pub invariant-expressions::binary-operators : goal.invariant-expressions::binary-operators
-invariant-expressions::binary-operators l = (climb_at l.known l.least l.most (view l.left) l.rest ≡ binary_at l.known l.least l.fn.tokens) × (length l.rest < length l.fn.tokens)
+invariant-expressions::binary-operators l = (climb_at l.known l.least l.most (view l.left) l.rest ≡ binary_at l.known l.least l.fn.tokens)
+    × (length l.rest < length l.fn.tokens)
 
 abbrev pub decreases-expressions::binary-operators : goal.decreases-expressions::binary-operators
 decreases-expressions::binary-operators l = length l.rest
@@ -132,43 +134,50 @@ abbrev pub decreases-postfixes::postfix-suffixes : goal.decreases-postfixes::pos
 decreases-postfixes::postfix-suffixes l = length l.rest
 
 abbrev pub invariant-postfixes::arguments-arguments : goal.invariant-postfixes::arguments-arguments
-invariant-postfixes::arguments-arguments l = (arguments_on l.known (map view l.its.items) l.rest ≡ some_arguments_at l.known l.fn.tokens) × (length l.rest < length l.fn.tokens)
+invariant-postfixes::arguments-arguments l = (arguments_on l.known (map view l.its.items) l.rest ≡ some_arguments_at l.known l.fn.tokens)
+    × (length l.rest < length l.fn.tokens)
 
 abbrev pub decreases-postfixes::arguments-arguments : goal.decreases-postfixes::arguments-arguments
 decreases-postfixes::arguments-arguments l = length l.rest
 
 abbrev pub invariant-types::specifiers-specifiers : goal.invariant-types::specifiers-specifiers
-invariant-types::specifiers-specifiers l = (specifiers_at l.known l.typed (map view_specifier l.its.items) l.rest ≡ some_specifiers_at l.known l.fn.tokens) × (length l.rest < length l.fn.tokens)
+invariant-types::specifiers-specifiers l =
+    (specifiers_at l.known l.typed (map view_specifier l.its.items) l.rest ≡ some_specifiers_at l.known l.fn.tokens) × (length l.rest < length l.fn.tokens)
 
 abbrev pub decreases-types::specifiers-specifiers : goal.decreases-types::specifiers-specifiers
 decreases-types::specifiers-specifiers l = length l.rest
 
 abbrev pub invariant-types::members-members : goal.invariant-types::members-members
-invariant-types::members-members l = (members_on l.known (map view_member l.its.items) l.rest ≡ members_at l.known [] l.fn.tokens) × (length l.rest < length l.fn.tokens)
+invariant-types::members-members l = (members_on l.known (map view_member l.its.items) l.rest ≡ members_at l.known [] l.fn.tokens)
+    × (length l.rest < length l.fn.tokens)
 
 abbrev pub decreases-types::members-members : goal.decreases-types::members-members
 decreases-types::members-members l = length l.rest
 
 abbrev pub invariant-types::constants-constants : goal.invariant-types::constants-constants
-invariant-types::constants-constants l = (constants_on l.known (map view_constant l.its.items) l.rest ≡ constants_at l.known [] l.fn.tokens) × (length l.rest < length l.fn.tokens)
+invariant-types::constants-constants l = (constants_on l.known (map view_constant l.its.items) l.rest ≡ constants_at l.known [] l.fn.tokens)
+    × (length l.rest < length l.fn.tokens)
 
 abbrev pub decreases-types::constants-constants : goal.decreases-types::constants-constants
 decreases-types::constants-constants l = length l.rest
 
 abbrev pub invariant-declarators::declarators-declarators : goal.invariant-declarators::declarators-declarators
-invariant-declarators::declarators-declarators l = (declarators_on l.known (map view_declarator l.its.items) l.rest ≡ declarators_at l.known [] l.fn.tokens) × (length l.rest ≤ length l.fn.tokens)
+invariant-declarators::declarators-declarators l =
+    (declarators_on l.known (map view_declarator l.its.items) l.rest ≡ declarators_at l.known [] l.fn.tokens) × (length l.rest ≤ length l.fn.tokens)
 
 abbrev pub decreases-declarators::declarators-declarators : goal.decreases-declarators::declarators-declarators
 decreases-declarators::declarators-declarators l = length l.rest
 
 abbrev pub invariant-declarators::parameters-parameters : goal.invariant-declarators::parameters-parameters
-invariant-declarators::parameters-parameters l = (parameters_on l.known (map view_parameter l.its.items) l.rest ≡ parameters_at l.known [] l.fn.tokens) × (length l.rest < length l.fn.tokens)
+invariant-declarators::parameters-parameters l =
+    (parameters_on l.known (map view_parameter l.its.items) l.rest ≡ parameters_at l.known [] l.fn.tokens) × (length l.rest < length l.fn.tokens)
 
 abbrev pub decreases-declarators::parameters-parameters : goal.decreases-declarators::parameters-parameters
 decreases-declarators::parameters-parameters l = length l.rest
 
 abbrev pub invariant-declarators::directs-directs : goal.invariant-declarators::directs-directs
-invariant-declarators::directs-directs l = (directs_at l.known (view_direct l.direct) l.rest ≡ directs_at l.known (view_direct l.fn.base) l.fn.tokens) × (length l.rest ≤ length l.fn.tokens)
+invariant-declarators::directs-directs l = (directs_at l.known (view_direct l.direct) l.rest ≡ directs_at l.known (view_direct l.fn.base) l.fn.tokens)
+    × (length l.rest ≤ length l.fn.tokens)
 
 abbrev pub decreases-declarators::directs-directs : goal.decreases-declarators::directs-directs
 decreases-declarators::directs-directs l = length l.rest

@@ -33,5 +33,6 @@ returns-clause-longest c = λ n other longer most fits.
 
 pub returns-clause-only : goal.returns-clause-only
 returns-clause-only c = λ other fits.
-    let found = found_from c.args.typedefs.now c.args.tokens.now c.args.at (view c.in_ok-e.e) c.in_ok-e.rest.now c.requires.0 (sym (ap (expression_at c.args.typedefs.now) (slice_is c.args.tokens.now c.args.at)) ∙ c.in_ok-e.ensures.read) in
+    let found = found_from c.args.typedefs.now c.args.tokens.now c.args.at (view c.in_ok-e.e) c.in_ok-e.rest.now c.requires.0
+    (sym (ap (expression_at c.args.typedefs.now) (slice_is c.args.tokens.now c.args.at)) ∙ c.in_ok-e.ensures.read) in
     only_from c.args.typedefs.now c.args.tokens.now c.args.at _ (view c.in_ok-e.e) other found.2 fits
