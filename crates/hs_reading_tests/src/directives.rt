@@ -528,39 +528,57 @@ fn counted(alloc: Global, numbers: &[u16]) -> Result<String, AllocError> {
     Ok(words)
 }
 
-// Own: a unit begins without macros (X3.159-1989 2.1.1.1), and files are numbered in the order of first reads, over all units. Each
-// row is the roots, the units, the names of the files, the roots' numbers, and those of the included files, which are ascending.
-#[test]
-fn units_share_files_and_no_macros(rt: HostRuntime) -> Result<(), Fail> {
-    let alloc = rt.alloc();
-    let texts = [
-        ("a.c", "#define X 1\n#include \"x.h\"\nX"),
-        ("b.c", "X\n#include \"x.h\"\n#if 0\n#include \"n\"\n#endif"),
-        ("x.h", "X h"),
-        ("c.c", "#include \"a.c\"\n#include \"a.c\"\n"),
-        ("d.c", "#include \"b.c\"\n"),
-    ];
-    let rows: [(&[&str], &str, &str, &str, &str); 7] = [
-        (&[], "", "", "", ""),
-        (&["a.c"], "1 h 1", "a.c x.h", "0", "1"),
-        (&["a.c", "b.c"], "1 h 1 | X X h", "a.c x.h b.c", "0 2", "1"),
-        (&["a.c", "a.c"], "1 h 1 | 1 h 1", "a.c x.h", "0 0", "1"),
-        (&["x.h", "a.c"], "X h | 1 h 1", "x.h a.c", "0 1", "0"),
-        (&["c.c"], "1 h 1 1 h 1", "c.c a.c x.h", "0", "1 2"),
-        (&["x.h", "d.c"], "X h | X X h", "x.h d.c b.c", "0 1", "0 2"),
-    ];
-    for (roots, words, names, numbers, included) in rows {
-        let mut files = files_of(alloc, &texts, Vec::new(alloc))?;
+/// A source in words, with semicolons between: the units, the names of the files, the roots' numbers, and those of the included files.
+fn summary(alloc: Global, source: &Source) -> Result<String, AllocError> {
+    let words = spelled(alloc, source)?;
+    let names = listed(alloc, source.names.items())?;
+    let roots = counted(alloc, source.roots.items())?;
+    let included = counted(alloc, source.included.items())?;
+    format!(in alloc; "{words}; {names}; {roots}; {included}")
+}
+
+/// The roots, among these files, have the summary next to them, and as many units as there are roots.
+fn have_summaries(
+    rt: &impl Abort,
+    alloc: Global,
+    texts: Texts<'_>,
+    rows: &[(&[&str], &str)],
+) -> Result<(), Fail> {
+    for (roots, words) in rows {
+        let mut files = files_of(alloc, texts, Vec::new(alloc))?;
         let Ok(source) = read(alloc, &mut files, roots)? else {
             return Err(Fail::from("the roots are read"));
         };
-        assert_eq!(rt; spelled(alloc, &source)?.as_str(), words);
-        assert_eq!(rt; listed(alloc, source.names.items())?.as_str(), names);
-        assert_eq!(rt; counted(alloc, source.roots.items())?.as_str(), numbers);
-        assert_eq!(rt; counted(alloc, source.included.items())?.as_str(), included);
+        assert_eq!(rt; summary(alloc, &source)?.as_str(), *words);
         assert_eq!(rt; source.units.items().len(), roots.len());
     }
     Ok(())
+}
+
+// Own: a unit begins without macros (X3.159-1989 2.1.1.1), and files are numbered in the order of first reads, over all units. The
+// numbers of the included files are ascending.
+#[test]
+fn units_share_files_and_no_macros(rt: HostRuntime) -> Result<(), Fail> {
+    have_summaries(
+        &rt,
+        rt.alloc(),
+        &[
+            ("a.c", "#define X 1\n#include \"x.h\"\nX"),
+            ("b.c", "X\n#include \"x.h\"\n#if 0\n#include \"n\"\n#endif"),
+            ("x.h", "X h"),
+            ("c.c", "#include \"a.c\"\n#include \"a.c\"\n"),
+            ("d.c", "#include \"b.c\"\n"),
+        ],
+        &[
+            (&[], "; ; ; "),
+            (&["a.c"], "1 h 1; a.c x.h; 0; 1"),
+            (&["a.c", "b.c"], "1 h 1 | X X h; a.c x.h b.c; 0 2; 1"),
+            (&["a.c", "a.c"], "1 h 1 | 1 h 1; a.c x.h; 0 0; 1"),
+            (&["x.h", "a.c"], "X h | 1 h 1; x.h a.c; 0 1; 0"),
+            (&["c.c"], "1 h 1 1 h 1; c.c a.c x.h; 0; 1 2"),
+            (&["x.h", "d.c"], "X h | X X h; x.h d.c b.c; 0 1; 0 2"),
+        ],
+    )
 }
 
 /// The changes of macros in a unit in words, a bar after each unit but the last.
