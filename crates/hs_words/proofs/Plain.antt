@@ -2,6 +2,7 @@
 use Rattle.std.proofs.Common.{◌≡◌, ◌≤◌, ℕ, suc, Bool, true, false, List, [], ◌∷◌, ◌++◌, length, Some, None, refl, sym, ap, ap₂, ◌∙◌, arith, append_assoc, append-nil}
 use Rattle.std.specs.Prelude.{is_some, unwrap_or, codes, ◌==◌, nat_lt, ◌||◌}
 use Rattle.std.proofs.Common.{le-ltb}
+use Rattle.std.proofs.lemmas.Bool.{or_parts}
 use Rattle.std.proofs.lemmas.Bool.Decides.{nat_tests}
 use Rattle.std.specs.List.{fold, list_any}
 use Rattle.std.specs.Str.{bytes_eq}
@@ -69,18 +70,13 @@ no_fault names word plain =
     ∙ ap (λ (kinds : Kinds). or_else kinds (step_fault shape 1 (reads names) value)) (no_flag names word plain)
     ∙ taken names
 
--- none of two
-neither : (one other : Bool) → (one || other) ≡ false → (one ≡ false) × (other ≡ false)
-neither true other none = absurd cc
-neither false other none = (refl, none)
-
 -- the walk over the names
 walk_reads : (names words : List Text) → list_any begins_with_hyphen words ≡ false
     → (fold (walked shape.rules []) (stands names) words ≡ stands (names ++ words)) × (walk_fault shape [] (stands names) words ≡ [])
 unfolding walk_fault
 walk_reads names [] plain = (ap stands (sym (append-nil names)), refl)
 walk_reads names (word ∷ words) plain =
-    let each = neither (begins_with_hyphen word) (list_any begins_with_hyphen words) plain in
+    let each = or_parts (begins_with_hyphen word) (list_any begins_with_hyphen words) plain in
     let later = walk_reads (names ++ word ∷ []) words each.1 in (
       ap (λ (it : Walk). fold (walked shape.rules []) it words) (one_more names word each.0) ∙ later.0 ∙ ap stands (append_assoc names (word ∷ []) words),
       ap (λ (kinds : Kinds). or_else kinds (walk_fault shape [] (walked shape.rules [] (stands names) word) words)) (no_fault names word each.0)
