@@ -18,7 +18,7 @@ use std::{env, io};
 /// The most rows, and the most vertices.
 const MOST: u32 = 1_000_000;
 
-/// Puts a slot between the vertices, where the second is one.
+/// Puts a slot between the vertices, if the second is one.
 fn put_slot(edges: &mut Vec<CutEdge>, from: u32, to: u32, vertices: u32) -> Result<(), NoMemory>
     requires from { from < vertices }
     requires below { All (λ edge. (edge.from < vertices) × (edge.to < vertices)) edges.old.items }
@@ -36,7 +36,7 @@ fn put_slot(edges: &mut Vec<CutEdge>, from: u32, to: u32, vertices: u32) -> Resu
 }
 
 /// The slots of a strip whose vertices stand in columns of so many rows: from each to the next in its column and to the one
-/// beside it in the next column.
+/// next to it in the next column.
 fn slots(alloc: Global, rows: u32, vertices: u32) -> Result<Vec<CutEdge>, NoMemory>
     requires rows { (0 < rows) × (rows ≤ 1000000) }
     requires vertices { vertices ≤ 1000000 }

@@ -26,7 +26,7 @@ fn type_t(alloc: Global) -> Result<TypeNames, NoMemory>
     TypeNames::new(alloc).with(alloc, b"T")
 }
 
-/// The tokens of the text, or nothing where it is too long or refused.
+/// The tokens of the text, or nothing if it is too long or refused.
 fn tokens_of(alloc: Global, text: &[u8]) -> Option<Vec<SourceToken>>
     ensures { IfSome result (λ tokens. scan_of 0 4000000 text.now ≡ Ok (map (λ source. source.token) tokens.items)) }
 {

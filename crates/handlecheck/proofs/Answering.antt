@@ -28,7 +28,7 @@ report_of told words names reads before now (Unread name) is_check is = (names, 
 report_of told words names reads before now (Limited limit) is_check is = (names, is_check, is)
 report_of told words names reads before now NoMemory is_check is = tt
 
--- the files were judged, and the line was put, or that of want of memory
+-- the files were judged, and the line was put, or the line that memory ran out
 pub answered_by : {F : Type 0} (leads : F → List ℕ → ℕ → F → Type 0) (first final : F) (call : Call) (answer : Status) (names : List (List ℕ)) (report : Report)
     → IsCheck call.words names
     → (reads : List (List ℕ)) × Leads leads first reads final × AreFirstReads call.told names reads

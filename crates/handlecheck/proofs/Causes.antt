@@ -55,7 +55,7 @@ spelled source other tree same spells = subst (λ (it : Source). Spells it tree)
 parsed : (source other : Source) → ◌≡◌ {A = Result Source ReadError} (Ok source) (Ok other) → AreParsed source.units → AreParsed other.units
 parsed source other same are = subst (λ (it : Source). AreParsed it.units) (same_source source other same) are
 
--- a unit of them that is none of the grammar
+-- a unit of them that is not in the grammar
 refused_at : (source other : Source) (pos : Pos) → ◌≡◌ {A = Result Source ReadError} (Ok source) (Ok other)
     → HasSyntaxAt source.units pos → HasSyntaxAt other.units pos
 refused_at source other pos same has = subst (λ (it : Source). HasSyntaxAt it.units pos) (same_source source other same) has
@@ -103,7 +103,7 @@ module _ (call : Call) (answer : Status) (reads : List (List ℕ)) where
 
   -- ---- where a status must come
 
-  -- where a program is asked for, the answer is that of its count
+  -- if a program is asked for, the answer is that of its count
   judged : (report : Report) (source : Source) (tree : Straight) (count : ℕ) → Agrees report (Ok source) → AreParsed source.units → Spells source tree
       → HasStaleUses tree count → answer ≡ status_of report → IsBut (if count == 0 then status.Done else status.Hazards) answer
   judged Accepted source tree count (other, same, units, (program, is_program, counted')) are spells counted is_status =
@@ -125,7 +125,7 @@ module _ (call : Call) (answer : Status) (reads : List (List ℕ)) where
       absurd (parsed-not_deep other.units (parsed source other same are) deep)
   judged NoMemory source tree count is are spells counted is_status = inr (inr is_status)
 
-  -- where reading refuses at a place, so does the answer
+  -- if reading refuses at a place, so does the answer
   faulty : (report : Report) (error : ReadError) (place : Fault × Pos) → Agrees report (Err error) → placed_by error ≡ Some place
       → answer ≡ status_of report → IsBut status.Refused answer
   faulty Accepted error place (source, same, units, program) placed is_status = absurd cc
@@ -139,7 +139,7 @@ module _ (call : Call) (answer : Status) (reads : List (List ℕ)) where
   faulty (Limited limit) error place (inr (source, same, deep)) placed is_status = absurd cc
   faulty NoMemory error place is placed is_status = inr (inr is_status)
 
-  -- where a unit is none of the grammar, the answer refuses it
+  -- if a unit is not in the grammar, the answer refuses it
   syntax : (report : Report) (source : Source) (pos : Pos) → Agrees report (Ok source) → HasSyntaxAt source.units pos
       → answer ≡ status_of report → IsBut status.Refused answer
   syntax Accepted source pos (other, same, units, program) has is_status =
@@ -156,7 +156,7 @@ module _ (call : Call) (answer : Status) (reads : List (List ℕ)) where
       absurd (syntax-not_deep other.units pos (refused_at source other pos same has) deep)
   syntax NoMemory source pos is has is_status = inr (inr is_status)
 
-  -- where the files are no program, they are refused
+  -- if the files are no program, they are refused
   unbuilt : (report : Report) (source : Source) → Agrees report (Ok source) → AreParsed source.units → SpellsNone source
       → answer ≡ status_of report → IsBut status.Refused answer
   unbuilt Accepted source (other, same, units, (program, is_program, counted)) are none is_status = absurd (is_none source other program same is_program none)
@@ -171,7 +171,7 @@ module _ (call : Call) (answer : Status) (reads : List (List ℕ)) where
   unbuilt (Limited limit) source (inr (other, same, deep)) are none is_status = absurd (parsed-not_deep other.units (parsed source other same are) deep)
   unbuilt NoMemory source is are none is_status = inr (inr is_status)
 
-  -- where a file is missing, the answer says so
+  -- if a file is missing, the answer says so
   missing : (report : Report) (name : List ℕ) → Agrees report (Err (reading.Missing name)) → answer ≡ status_of report → IsBut status.Unread answer
   missing Accepted name (source, same, units, program) is_status = absurd cc
   missing (Hazards count) name (some, (source, same, units, program)) is_status = absurd cc
@@ -185,7 +185,7 @@ module _ (call : Call) (answer : Status) (reads : List (List ℕ)) where
   missing (Limited limit) name (inr (source, same, deep)) is_status = absurd cc
   missing NoMemory name is is_status = inr (inr is_status)
 
-  -- where a limit is passed, the answer says so
+  -- if a limit is passed, the answer says so
   past : (report : Report) (limit : Limit) → Agrees report (Err (reading.Limit limit)) → answer ≡ status_of report → IsBut status.Limited answer
   past Accepted limit (source, same, units, program) is_status = absurd cc
   past (Hazards count) limit (some, (source, same, units, program)) is_status = absurd cc
@@ -198,7 +198,7 @@ module _ (call : Call) (answer : Status) (reads : List (List ℕ)) where
   past (Limited other) limit is is_status = inl is_status
   past NoMemory limit is is_status = inr (inr is_status)
 
-  -- where a unit nests too deeply, too
+  -- if a unit nests too deeply, too
   deep : (report : Report) (source : Source) → Agrees report (Ok source) → IsTooDeep source.units → answer ≡ status_of report → IsBut status.Limited answer
   deep Accepted source (other, same, units, program) is is_status = absurd (parsed-not_deep other.units units (too_deep source other same is))
   deep (Hazards count) source (some, (other, same, units, program)) is is_status = absurd (parsed-not_deep other.units units (too_deep source other same is))
@@ -304,7 +304,7 @@ module _ (call : Call) (answer : Status) (reads : List (List ℕ)) where
   no_cut (Limited limit) came is_status = absurd (cc)
   no_cut NoMemory came is_status = absurd (cc)
 
-  -- where a status came that is not that of a write that failed, it is the report's
+  -- if a status came that is not that of a write that failed, it is the report's
   whole_put : (report : Report) (came : Status) → IsCause report answer call.old call.new → answer ≡ came
       → (came ≡ status.Unwritten → ⊥) → answer ≡ status_of report
   whole_put report came (cut unwritten fault) is apart = absurd (apart (sym is ∙ unwritten))
@@ -354,7 +354,7 @@ pub causes_of : {F : Type 0} (leads : F → List ℕ → ℕ → F → Type 0) (
 causes_of leads first final call answer answered =
     causes_by call answer answered.reads answered.report answered.is_report answered.is_put (cause answered.report answer call.old call.new answered.is_put)
 
--- where the words are no command, nothing is read
+-- if the words are no command, nothing is read
 pub nothing_read : {F : Type 0} (leads : F → List ℕ → ℕ → F → Type 0) (first final : F) (call : Call) (answer : Status)
     → IsAnswered leads first final call answer → IsNoCheck call.words → final ≡ first
 nothing_read leads first final call answer answered none = go answered.asked where

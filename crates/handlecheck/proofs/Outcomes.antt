@@ -1,4 +1,4 @@
--- What a report that is right says of the outcome of reading, where the listing is told and no fault rose.
+-- What a report that is right says of the outcome of reading, if the listing is known and no fault rose.
 use Rattle.std.proofs.Common.{◌≡◌, ◌⊎◌, ℕ, suc, ◌<◌, List, [], ◌∷◌, sym, subst, ap, ◌∙◌, inl, inr, arith, Option, Some, Result, Ok, Err}
 use Rattle.std.specs.Prelude.{IfSome}
 use Rattle.hs_base.specs.Count.{HasRisen, IsSteady}

@@ -1,10 +1,10 @@
--- Reads through named files are reads of the files behind them, and their names are noted in order.
+-- Reads through named files are reads of the files after them, and their names are noted in order.
 use Rattle.std.proofs.Common.{◌≡◌, ℕ, List, [], ◌∷◌, ◌++◌, Some, None, sym, ap, subst, ◌∙◌, append-nil, append_assoc}
 use Rattle.std.specs.Prelude.{IfSome, IsSomeAnd}
 use Rattle.hs_directives.specs.Reads.{Leads}
 use Rattle.handlecheck.specs.Names.{Names, IsNoted}
 
--- where the names are there, these stand behind those before
+-- if the names are there, these follow those before
 abbrev pub AreNoted : Names → List (List ℕ) → Names → Type 0
 AreNoted before reads now = IfSome now (λ names. IsSomeAnd before (λ earlier. names ≡ earlier ++ reads))
 
@@ -43,7 +43,7 @@ module _ {N F R S : Type 0} (files : N → F) (reference : N → R) (noting : N 
         noted_more (names first) (names step.0) (names final) name reads step.1.3 later.3,
       )
 
--- where none was noted before, they are the names that were read
+-- if none was noted before, they are the names that were read
 pub from_none : (before now : Names) (reads : List (List ℕ)) → before ≡ Some [] → AreNoted before reads now → IfSome now (λ names. names ≡ reads)
 from_none before None reads none noted = tt
 from_none None (Some names) reads none noted = absurd noted

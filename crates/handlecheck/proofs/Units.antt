@@ -1,4 +1,4 @@
--- Units of the grammar have none that is none of it, and the first that is none is so in one way.
+-- Units of the grammar have none that is not in it, and the first that is wrong is so in one way.
 use Rattle.std.proofs.Common.{◌≡◌, List, [], ◌∷◌, ◌++◌, sym, subst, ◌∙◌}
 use Rattle.hs_base.specs.declared.pos.Pos.{Pos}
 use Rattle.hs_tokens.specs.declared.token.SourceToken.{SourceToken}
@@ -24,7 +24,7 @@ module _ (P Q : List SourceToken → Type 0) (no_p : (tokens : List SourceToken)
   no_first : (units : List (List SourceToken)) → AreParsed units → IsFirst units P → ⊥
   no_first units all first = no_p first.tokens (parsed_in first.before first.tokens first.behind (subst AreParsed first.whole all)) first.is
 
-  -- the first that is none of the grammar is the same one
+  -- the first that is not in the grammar is the same one
   module _ (no_q : (tokens : List SourceToken) → IsParsed tokens → Q tokens → ⊥) (apart : (tokens : List SourceToken) → P tokens → Q tokens → ⊥) where
     one_first : (before front : List (List SourceToken)) (one other : List SourceToken) (behind rest : List (List SourceToken))
         → before ++ one ∷ behind ≡ front ++ other ∷ rest → AreParsed before → AreParsed front → P one → Q other → ⊥
@@ -41,15 +41,15 @@ module _ (P Q : List SourceToken → Type 0) (no_p : (tokens : List SourceToken)
         one_first first.before other.before first.tokens other.tokens first.behind other.behind (sym first.whole ∙ other.whole)
         first.parsed other.parsed first.is other.is
 
--- a unit that is refused at a place is none
+-- a unit that is refused at a place is not one
 refused_is_none : (pos : Pos) (tokens : List SourceToken) → IsParsed tokens → IsRefusedAt tokens pos → ⊥
 refused_is_none pos tokens parsed refused = refused.2 parsed.1.0 parsed.1.1
 
--- a unit that nests too deeply is none
+-- a unit that nests too deeply is not one
 deep_is_none : (tokens : List SourceToken) → IsParsed tokens → (IsShallow tokens → ⊥) → ⊥
 deep_is_none tokens parsed deep = deep parsed.0
 
--- where all units are of the grammar, none is refused at a place
+-- if all units are of the grammar, none is refused at a place
 pub parsed-no_syntax : (units : List (List SourceToken)) (pos : Pos) → AreParsed units → HasSyntaxAt units pos → ⊥
 parsed-no_syntax units pos = no_first (λ tokens. IsRefusedAt tokens pos) IsParsed (refused_is_none pos) units
 
@@ -57,7 +57,7 @@ parsed-no_syntax units pos = no_first (λ tokens. IsRefusedAt tokens pos) IsPars
 pub parsed-not_deep : (units : List (List SourceToken)) → AreParsed units → IsTooDeep units → ⊥
 parsed-not_deep units = no_first (λ tokens. IsShallow tokens → ⊥) IsParsed deep_is_none units
 
--- where the first that is none is refused at a place, it does not nest too deeply
+-- if the first that is wrong is refused at a place, it does not nest too deeply
 pub syntax-not_deep : (units : List (List SourceToken)) (pos : Pos) → HasSyntaxAt units pos → IsTooDeep units → ⊥
 syntax-not_deep units pos =
     no_other (λ tokens. IsRefusedAt tokens pos) (λ tokens. IsShallow tokens → ⊥) (refused_is_none pos) deep_is_none

@@ -1,5 +1,5 @@
 -- The causes of each status of the program, and the headline. Own to this project.
---     Asks call outcome           the words ask for files that are told, and reading gives this outcome
+--     Asks call outcome           the words ask for files that are known, and reading gives this outcome
 --     Headline call answer        an accepted program is safe
 --     HasCauses call answer       when each status comes, and when it must come
 use Rattle.std.specs.Prelude.{◌≡◌, ◌⊎◌, ℕ, ◌<◌, List, [], ◌∷◌, Option, Some, Result, Ok, Err}
@@ -25,7 +25,7 @@ use Rattle.handlecheck.specs.declared.report.Report.TheVariants.{Hazards}
 use Rattle.handlecheck.specs.declared.status.Status.{Status}
 use Rattle.handlecheck.specs.declared.status.Status.TheVariants as status
 
--- The words ask for the check of files, the listing is told, reading these files gives this outcome, and no fault rose in the call.
+-- The words ask for the check of files, the listing is known, reading these files gives this outcome, and no fault rose in the call.
 pub record Asks (call : Call) (outcome : Result Source ReadError) : Type 0 where
   pub files : Listing
   pub names : List (List ℕ)
@@ -38,7 +38,7 @@ pub record Asks (call : Call) (outcome : Result Source ReadError) : Type 0 where
 abbrev pub Spells : Source → Straight → Type 0
 Spells source tree = (tokens : List SourceToken) × (source.units ≡ tokens ∷ []) × IsStraight tokens tree
 
--- the answer is this status, but for a write fault and for want of memory
+-- the answer is this status, unless the write failed or memory ran out
 abbrev pub IsBut : Status → Status → Type 0
 IsBut wanted answer = (answer ≡ wanted) ⊎ (answer ≡ status.Unwritten) ⊎ (answer ≡ status.NoMemory)
 
@@ -66,7 +66,7 @@ abbrev pub AreFaulty : Call → List (List ℕ) → Type 0
 AreFaulty call names =
     (error : ReadError) × ((place : Fault × Pos) × (placed_by error ≡ Some place)) × IsRefusedAs call.told names call.before call.now error
 
--- a unit is none of the grammar, at a place
+-- a unit is not in the grammar, at a place
 abbrev pub HaveSyntax : Call → List (List ℕ) → Type 0
 HaveSyntax call names = (pos : Pos) × HaveSyntaxAt call.told names pos
 
@@ -82,7 +82,7 @@ abbrev pub ArePast : Call → List (List ℕ) → Type 0
 ArePast call names = (limit : Limit) × IsRefusedAs call.told names call.before call.now (reading.Limit limit)
 
 -- The causes of each status. A field with `only` in its name says what is so where the status came; its fellow says where
--- it must come, but for a write fault and want of memory.
+-- it must come, unless the write failed or memory ran out.
 pub record HasCauses (call : Call) (answer : Status) : Type 0 where
   -- Done
   pub accepted : (source : Source) (tree : Straight) → Asks call (Ok source) → AreParsed source.units → Spells source tree → HasStaleUses tree 0
@@ -91,7 +91,7 @@ pub record HasCauses (call : Call) (answer : Status) : Type 0 where
   pub hazards_only : answer ≡ status.Hazards → Checks call (IsRejected call)
   pub hazards : (source : Source) (tree : Straight) (count : ℕ) → Asks call (Ok source) → AreParsed source.units → Spells source tree
       → HasStaleUses tree count → 0 < count → IsBut status.Hazards answer
-  -- Refused: reading refuses at a place, or a unit is none of the grammar, or the files are no straight program
+  -- Refused: reading refuses at a place, or a unit is not in the grammar, or the files are no straight program
   pub refused_only : answer ≡ status.Refused → Checks call (λ names. AreFaulty call names ⊎ HaveSyntax call names ⊎ AreUnbuilt call.told names)
   pub refused : (error : ReadError) (place : Fault × Pos) → Asks call (Err error) → placed_by error ≡ Some place → IsBut status.Refused answer
   pub syntax : (source : Source) (pos : Pos) → Asks call (Ok source) → HasSyntaxAt source.units pos → IsBut status.Refused answer

@@ -1,6 +1,6 @@
 -- What a source is refused for: the number and the word of each fault, and where reading found it. Own to this project.
 --     number_of fault, word_of fault      how a line names it
---     placed_by error                     the fault of a refusal, and its place, where the refusal has one
+--     placed_by error                     the fault of a refusal, and its place, if the refusal has one
 use Rattle.std.specs.Prelude.{ℕ, List, codes, Option, Some, None}
 use Rattle.hs_base.specs.declared.pos.Pos.{Pos}
 use Rattle.hs_directives.specs.declared.error.ReadError.{ReadError}

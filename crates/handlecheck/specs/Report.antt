@@ -75,15 +75,15 @@ HasProgramOf n told names =
 abbrev pub AreUnbuilt : Option Listing → List (List ℕ) → Type 0
 AreUnbuilt told names = (source : Source) × IsReadAs told names source × AreParsed source.units × SpellsNone source
 
--- the named files are read, and of the first unit that is none of the grammar this is the place
+-- the named files are read, and of the first unit that is not in the grammar this is the place
 abbrev pub HaveSyntaxAt : Option Listing → List (List ℕ) → Pos → Type 0
 HaveSyntaxAt told names pos = (source : Source) × IsReadAs told names source × HasSyntaxAt source.units pos
 
--- the named files are read, and the first unit that is none of the grammar nests too deeply
+-- the named files are read, and the first unit that is not in the grammar nests too deeply
 abbrev pub AreTooDeep : Option Listing → List (List ℕ) → Type 0
 AreTooDeep told names = (source : Source) × IsReadAs told names source × IsTooDeep source.units
 
--- The files are read, and a unit is none of the grammar. The name is that of the file whose number the place has.
+-- The files are read, and a unit is not in the grammar. The name is that of the file whose number the place has.
 abbrev pub IsSyntaxOf : Option Listing → List (List ℕ) → List (List ℕ) → Refusal → Type 0
 IsSyntaxOf told names reads refusal =
     (refusal.fault ≡ Syntax) × HaveSyntaxAt told names refusal.pos × (slice_get reads refusal.pos.file ≡ Some refusal.file)
@@ -95,14 +95,14 @@ IsRefusalOf told names reads before now refusal =
     (error : ReadError) × (placed_by error ≡ Some (refusal.fault, refusal.pos)) × IsRefusedAs told names before now error
     × (slice_get reads refusal.pos.file ≡ Some refusal.file)
 
--- What a report says of the named files. The listing and the counts are those of the files: what is told, and how many misses and
+-- What a report says of the named files. The listing and the counts are those of the files: what is known, and how many misses and
 -- faults there were before the call and are now. The reads are those of the call, in their order.
 abbrev pub IsVerdict : Option Listing → List (List ℕ) → List (List ℕ) → Counts → Counts → Report → Type 0
 -- they are one straight program, which has no stale use
 IsVerdict told names reads before now Accepted = HasProgramOf 0 told names
 -- they are one, which has so many stale uses
 IsVerdict told names reads before now (Hazards count) = (0 < count) × HasProgramOf count told names
--- reading refuses them, at a place; or a unit is none of the grammar
+-- reading refuses them, at a place; or a unit is not in the grammar
 IsVerdict told names reads before now (Refused refusal) =
     IsRefusalOf told names reads before now refusal ⊎ IsSyntaxOf told names reads refusal
 -- they are read, their units are of the grammar, and they are no straight program
@@ -114,7 +114,7 @@ IsVerdict told names reads before now (Unread name) = IsRefusedAs told names bef
 -- a quantity passed its limit: in reading, or the nesting of a unit
 IsVerdict told names reads before now (Limited limit) =
     IsRefusedAs told names before now (reading.Limit limit) ⊎ (AreTooDeep told names × (limit ≡ depth))
--- want of memory: the one free answer
+-- memory ran out: the one answer that may always come
 IsVerdict told names reads before now NoMemory = Unit {0}
 -- no answer on files
 IsVerdict told names reads before now Usage = ⊥
@@ -125,11 +125,11 @@ IsReport told words reads before now Usage = IsNoCheck words
 IsReport told words reads before now NoMemory = Unit {0}
 IsReport told words reads before now report = (names : List (List ℕ)) × IsCheck words names × IsVerdict told names reads before now report
 
--- the names that were noted are these, where there was memory for them
+-- the names that were noted are these, if there was memory for them
 abbrev pub AreNoted : Names → List (List ℕ) → Type 0
 AreNoted noted reads = IfSome noted (λ names. names ≡ reads)
 
--- a refusal with this fault at this place, in the file that has the place's number; or want of memory
+-- a refusal with this fault at this place, in the file that has the place's number; or that memory ran out
 abbrev pub IsFaultAt : Names → Fault → Pos → Report → Type 0
 IsFaultAt noted fault pos (Refused refusal) =
     (refusal.fault ≡ fault) × (refusal.pos ≡ pos) × IsSomeAnd noted (λ names. slice_get names pos.file ≡ Some refusal.file)
@@ -152,7 +152,7 @@ IsReportOf noted result report =
 abbrev pub AreAsked : Option Listing → List (List ℕ) → List (List ℕ) → Type 0
 AreAsked told words reads = (reads ≡ []) ⊎ ((names : List (List ℕ)) × IsCheck words names × AreFirstReads told names reads)
 
--- what is told of a sink, and its count of faults
+-- what is known of a sink, and its count of faults
 pub record Written : Type 0 where
   pub bytes : Option (List ℕ)
   pub faults : ℕ
@@ -168,7 +168,7 @@ pub record IsPutAs (text : List ℕ) (wanted : Status) (before now : Written) (a
   pub is_put : IsPut text before.bytes now.bytes before.faults now.faults put
   pub is_status : answer ≡ status_after wanted put
 
--- the line of the report was put, or that of want of memory
+-- the line of the report was put, or the line that memory ran out
 abbrev pub IsPutReport : Report → Written → Written → Status → Type 0
 IsPutReport report before now answer =
     IsPutAs (text_of report) (status_of report) before now answer ⊎ IsPutAs (text_of NoMemory) status.NoMemory before now answer

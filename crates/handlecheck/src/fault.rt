@@ -7,7 +7,7 @@ use hs_directives::{MacroKind, ReadError, ScanKind};
 /// What a source is refused for. `docs/READING.md` and `docs/SYNTAX.md` say when each comes, and where it stands.
 #[derive(Clone, Copy, Debug, PartialEq, Eq)]
 pub enum Fault {
-    /// A byte that begins no token, or an escape that is none (X3.159-1989 3.1, 3.1.3.4).
+    /// A byte that begins no token, or a malformed escape (X3.159-1989 3.1, 3.1.3.4).
     BadByte,
     /// A comment that the file leaves open (3.1.9).
     OpenComment,
@@ -25,7 +25,7 @@ pub enum Fault {
     IncludeDepth,
     /// A condition that is no constant expression, or divides by 0 (3.8.1).
     BadCondition,
-    /// Tokens that are no translation unit: at the external declaration that is none (3.5 to 3.7).
+    /// Tokens that are not a translation unit: at the first external declaration that is wrong (3.5 to 3.7).
     Syntax,
 }
 
@@ -67,7 +67,7 @@ impl Fault {
     }
 }
 
-/// The fault that a refusal of reading is, and its place, where it has one.
+/// The fault that a refusal of reading is, and its place, if it has one.
 pub(crate) fn placed_by(error: &ReadError) -> Option<(Fault, Pos)>
     ensures { result ≡ placed_by error.now }
 {

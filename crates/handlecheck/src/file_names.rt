@@ -5,7 +5,7 @@ use hs_base::Bytes;
 use std::alloc::{AllocError, Global};
 use std::marker::Model;
 
-/// The names of the files that were read, in the order of reads, where there was memory for them all.
+/// The names of the files that were read, in the order of reads, if there was memory for them all.
 #[derive(Drop)]
 pub(crate) struct FileNames {
     alloc: Global,
@@ -34,7 +34,7 @@ impl FileNames {
         }
     }
 
-    /// The name of that number, from 0, where it is there.
+    /// The name of that number, from 0, if it is there.
     pub(crate) fn get(&self, number: u16) -> Option<&Bytes>
         ensures some { IfSome result (λ name. IsSomeAnd self.now (λ names. slice_get names number ≡ Some name.now)) }
         ensures none { IfNone result (IfSome self.now (λ names. slice_get names number ≡ None)) }
@@ -46,7 +46,7 @@ impl FileNames {
         }
     }
 
-    /// Notes one more name. Where memory is refused, the names are no more whole.
+    /// Notes one more name. If memory is refused, the names are no more whole.
     pub(crate) fn note(&mut self, name: &str) -> Result<(), AllocError>
         ensures noted { IsNoted self.old name.now self.new }
         ensures kept { OnOk result (IfSome self.old (λ names. self.new ≡ Some (names ++ name.now ∷ []))) }

@@ -7,7 +7,7 @@ use std::io::{ErrorKind, Read};
 use std::{fs, io};
 
 /// The files of the system, by path. They tell nothing of names and bytes: what a real file holds is not proved.
-/// A file that is not found is a miss; any other error but want of memory is a fault.
+/// A file that is not found is a miss; any other error is a fault, except that memory ran out.
 #[derive(Drop)]
 pub struct HostFiles<R: fs::Files + Drop> {
     system: R,
@@ -59,7 +59,7 @@ fn read_front<T: Read + Drop>(from: T, max: usize, into: &mut Vec<u8>) -> io::Re
     Ok(())
 }
 
-/// What was read, where it is not more than `max` bytes.
+/// What was read, if it is not more than `max` bytes.
 fn fitted(into: &mut Vec<u8>, max: usize) -> Result<(), FileEnd>
     ensures fits { OnOk result ((length into.old.items ≤ max) × (into.new.items ≡ into.old.items)) }
     ensures long { OnErr result ((max < length into.old.items) × (into.new.items ≡ [])) }

@@ -31,7 +31,7 @@ impl<W: Write + Drop> Sink for HostSink<W> {
     fn put(&mut self, piece: &[u8]) -> Result<(), Failed>
         ensures means { IsPut piece.now None None self.old.faults self.new.faults result }
         ensures quiet { OnOk result (self.new.faults ≡ self.old.faults) }
-        // Where the writer tells what it holds, the piece was appended.
+        // If the writer tells what it holds, the piece was appended.
         ensures written { OnOk result (Appends (W.contents self.old.writer) (W.contents self.new.writer) piece.now) }
     {
         let written = self.writer.write_all(piece);

@@ -23,7 +23,7 @@ pub enum Report {
     Accepted,
     /// They are one, which has so many stale uses.
     Hazards(u64),
-    /// Reading refuses the files, at a place, or a unit is none of the grammar.
+    /// Reading refuses the files, at a place, or a unit is not in the grammar.
     Refused(Refusal),
     /// The files are read, and are no straight program.
     Unbuilt,

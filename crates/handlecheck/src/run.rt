@@ -13,7 +13,7 @@ use hs_meaning::straight::safe_without_stale_uses;
 use hs_words::{Command, WordsError, command_of};
 use std::alloc::Global;
 
-/// Puts the text. The answer is the status, or Unwritten where the put failed.
+/// Puts the text. The answer is the status, or Unwritten if the put failed.
 fn put<O: Sink>(out: &mut O, text: &[u8], status: Status) -> Status
     ensures { IsPutAs text.now status (record { bytes = O.written out.old; faults = O.faults out.old }) (record { bytes = O.written out.new; faults = O.faults out.new }) result }
 {
@@ -23,7 +23,7 @@ fn put<O: Sink>(out: &mut O, text: &[u8], status: Status) -> Status
     }
 }
 
-/// Says that there is no memory, where there was none for the words.
+/// Says that there is no memory, if there was none for the words.
 pub(crate) fn refuse_memory<O: Sink>(out: &mut O) -> Status
     ensures { IsPutAs (text_of Report.NoMemory) Status.NoMemory (record { bytes = O.written out.old; faults = O.faults out.old })
         (record { bytes = O.written out.new; faults = O.faults out.new }) result }
@@ -98,13 +98,13 @@ fn answer<F: Files, O: Sink>(alloc: Global, words: &[String], files: &mut F, out
 /// Does all that the program does: reads the words, the files that they name with their headers, judges them, and puts one line.
 ///
 /// The words are those after the program's name. The status says what the line says: `specs/Report.antt` has the meaning
-/// of each, and `specs/Causes.antt` when it comes. Where the files tell their listing, the clauses speak of the bytes of the
-/// files. Want of memory may come in place of any status, and a write fault too.
+/// of each, and `specs/Causes.antt` when it comes. If the files tell their listing, the clauses speak of the bytes of the
+/// files. Any status may give way to a lack of memory or to a failed write.
 pub fn run<F: Files, O: Sink>(alloc: Global, words: &[String], files: &mut F, out: &mut O) -> Status
     ensures listing_stays { F.listing files.new ≡ F.listing files.old }
     ensures counts_stay_up { NeverFall (F.counts files.old) (F.counts files.new) }
 
-    // Where the words are no command, no file is read.
+    // If the words are no command, no file is read.
     ensures no_read { IsNoCheck (map string_bytes words.now) → files.new ≡ files.old }
 
     // The files that the words name and their headers were read, each once, in the order of its number, and no other; and a
@@ -128,7 +128,7 @@ pub fn run<F: Files, O: Sink>(alloc: Global, words: &[String], files: &mut F, ou
       new = record { bytes = O.written out.new; faults = O.faults out.new };
     }) result }
 
-    // Each status comes where its cause is, and only there.
+    // Each status comes if its cause is, and only there.
     ensures causes { HasCauses (record {
       told = F.listing files.old;
       words = map string_bytes words.now;

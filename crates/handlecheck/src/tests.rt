@@ -144,7 +144,7 @@ fn other_programs_are_unbuilt(rt: HostRuntime) -> Result<(), Fail> {
     Ok(())
 }
 
-// X3.159-1989 3.7: a unit that is none of the grammar is refused at its first external declaration that is none.
+// X3.159-1989 3.7: a unit that is not in the grammar is refused at its first external declaration that is wrong.
 #[test]
 fn units_are_refused_where_they_go_wrong(rt: HostRuntime) -> Result<(), Fail> {
     let alloc = rt.alloc();
@@ -289,7 +289,7 @@ fn files_that_give_no_bytes_are_named(rt: HostRuntime) -> Result<(), Fail> {
     Ok(())
 }
 
-// What `clap` takes are names, also behind `--`; other words get the usage line, as a request for help does.
+// What `clap` takes are names, also after `--`; other words get the usage line, as a request for help does.
 #[test]
 fn words_are_read_by_clap(rt: HostRuntime) -> Result<(), Fail> {
     let alloc = rt.alloc();
@@ -410,7 +410,7 @@ fn a_write_fault_leaves_a_front_of_the_line(rt: HostRuntime) -> Result<(), Fail>
     Ok(())
 }
 
-// A real file, one that is not there, and a folder in place of a file.
+// A real file, one that is not there, and a folder instead of a file.
 #[test]
 fn host_files_read_the_system(rt: HostRuntime) -> Result<(), Fail> {
     let alloc = rt.alloc();
@@ -433,7 +433,7 @@ fn host_files_read_the_system(rt: HostRuntime) -> Result<(), Fail> {
     Ok(())
 }
 
-/// A writer that takes so many bytes, and then fails; its flush fails where it is told to.
+/// A writer that takes so many bytes, and then fails; its flush fails when it is set to.
 #[derive(Drop)]
 struct Narrow {
     room: usize,

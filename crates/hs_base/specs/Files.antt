@@ -40,5 +40,5 @@ IsRead told name max before now into (Err Failed) = (into ≡ []) × HasRisen be
 -- the file has more bytes
 IsRead told name max before now into (Err TooLong) =
     (into ≡ []) × IfSome told (λ files. (bytes : List ℕ) × (file_of files name ≡ Some bytes) × (max < length bytes))
--- want of memory
+-- that memory ran out
 IsRead told name max before now into (Err NoMemory) = into ≡ []

@@ -32,7 +32,7 @@ abbrev pub AnswersFile : ℕ → Option (List ℕ) → Result Unit FileEnd → T
 AnswersFile max None result = result ≡ Err end.Missing
 AnswersFile max (Some bytes) result = MatchBool (nat_lt max (length bytes)) (result ≡ Err end.TooLong) (IsOkUnless result end.NoMemory)
 
--- the read fails where its number says so, and else answers by the file
+-- the read fails if its number says so, and else answers by the file
 abbrev pub AnswersRead : MemoryFiles → List ℕ → ℕ → Result Unit FileEnd → Type 0
 AnswersRead files name max result =
     MatchBool (is_among files.failing (raised files.reads))
@@ -53,7 +53,7 @@ pub record MemorySink : Type 0 where
 abbrev pub put_fails : MemorySink → Bool
 put_fails sink = is_among sink.failing (raised sink.puts)
 
--- how many bytes a put may write: half of the piece, rounded down, where it fails by its number, and never more than fit
+-- how many bytes a put may write: half of the piece, rounded down, if it fails by its number, and never more than fit
 abbrev pub put_len : MemorySink → List ℕ → ℕ
 put_len sink piece = min (if put_fails sink then length piece / 2 else length piece) (sink.room - length sink.written)
 

@@ -1,5 +1,5 @@
 -- What a put means. Own to this project.
---     Appends written written' piece      the written bytes grew by the piece, where they are told
+--     Appends written written' piece      the written bytes grew by the piece, if they are known
 --     IsPut ..                            what each answer of `put` says
 use Rattle.std.specs.Prelude.{◌≡◌, ℕ, ◌≤◌, List, ◌++◌, Option, Some, None, Result, Ok, Err}
 use Rattle.hs_base.specs.Count.{HasRisen}
@@ -16,7 +16,7 @@ Appends None (Some new) piece = ⊥
 abbrev pub IsFrontOf : List ℕ → List ℕ → Type 0
 IsFrontOf front text = (rest : List ℕ) × (text ≡ front ++ rest)
 
--- a put of `piece`: the bytes that are told, and the count of faults, before it and after it
+-- a put of `piece`: the bytes that are known, and the count of faults, before it and after it
 abbrev pub IsPut : List ℕ → Option (List ℕ) → Option (List ℕ) → ℕ → ℕ → Result Unit Failed → Type 0
 -- the piece was written
 IsPut piece told told' faults faults' (Ok _) = Appends told told' piece × (faults ≤ faults')

@@ -1,7 +1,7 @@
 -- The bytes of a source text: words, lines and places (X3.159-1989 2.2.1 and 3.1.2; what ends a line is own).
 -- A line ends at LF, CR or CR LF. Lines and byte columns count from 1.
 --     is_digit, is_letter, is_word_byte     what words are made of
---     ends_line byte rest                   the byte, with that behind it, is the last of its line
+--     ends_line byte rest                   the byte, with that after it, is the last of its line
 --     next_place at byte rest               the place of what follows a byte at that place
 use Rattle.std.specs.Prelude.{ℕ, ◌+◌, ◌==◌, nat_le, Bool, false, not, ◌&&◌, ◌||◌, List, [], ◌∷◌, if◌then◌else◌}
 use Rattle.hs_base.specs.declared.pos.Pos.{Pos}
@@ -27,7 +27,7 @@ begins_with wanted (byte ∷ rest) = byte == wanted
 abbrev pub ends_line : ℕ → List ℕ → Bool
 ends_line byte rest = (byte == 10) || ((byte == 13) && not (begins_with 10 rest))
 
--- the place of what follows the byte, with the rest behind it
+-- the place of what follows the byte, with the rest after it
 abbrev pub next_place : Pos → ℕ → List ℕ → Pos
 next_place at byte rest =
     if ends_line byte rest

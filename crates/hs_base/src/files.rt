@@ -4,9 +4,9 @@ ghost use Rattle.hs_base.specs.Files.{Listing, Counts, NeverFall, IsRead};
 use crate::FileEnd;
 
 /// Files by name. What a read means is `IsRead` of `specs/Files.antt`, over three things that code does not see:
-/// the listing, where it is told, which never changes, and the counts of misses and of faults, which never fall.
+/// the listing, if it is known, which never changes, and the counts of misses and of faults, which never fall.
 pub trait Files {
-    /// The files, by name, where the object tells them.
+    /// The files, by name, if the object tells them.
     ghost listing: { Self → Option Listing };
 
     /// How many reads found no file of their name, and how many failed.
@@ -16,7 +16,7 @@ pub trait Files {
     /// that read: a call whose clause has it made that read and no other.
     ghost leads_to: { Self → List ℕ → ℕ → Self → Type 0 } = { λ _ _ _ _. Unit {0} };
 
-    /// Puts the bytes of the named file into `into`, in place of what was there, where it has at most `max` bytes.
+    /// Puts the bytes of the named file into `into`, instead of what was there, if it has at most `max` bytes.
     /// After a refusal `into` is empty.
     fn read(&mut self, name: &str, max: usize, into: &mut Vec<u8>) -> Result<(), FileEnd>
         ensures listing_stays { listing self.new ≡ listing self.old }

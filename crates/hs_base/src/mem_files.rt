@@ -7,7 +7,7 @@ ghost use Rattle.hs_base.specs.Memory.{AnswersRead, is_among, raised};
 use crate::{FileEnd, Files};
 use std::marker::Model;
 
-/// Files that are kept in memory, and fail where they are told to: for tests, and for callers that have their sources
+/// Files that are kept in memory, and fail when they are set to: for tests, and for callers that have their sources
 /// at hand. They tell their listing.
 #[derive(Drop)]
 pub struct MemFiles {
@@ -48,7 +48,7 @@ fn find_file<'a>(listing: &'a [(String, Vec<u8>)], name: &str) -> Option<&'a Vec
 }
 
 impl MemFiles {
-    /// Files with these names and bytes, of which the first counts where a name stands twice. The reads whose numbers,
+    /// Files with these names and bytes, of which the first counts if a name stands twice. The reads whose numbers,
     /// from 1, are in `failing` answer `Failed`.
     pub fn new(listing: Vec<(String, Vec<u8>)>, failing: Vec<u64>) -> MemFiles
         ensures listing { result.listing ≡ map (λ file. (string_bytes file.0, file.1.items)) listing.items }

@@ -7,7 +7,7 @@ use crate::{Failed, NoMemory, Sink};
 use std::alloc::Global;
 use std::marker::Model;
 
-/// A sink that is kept in memory, with a room, and fails where it is told to: for tests, and for callers that want the
+/// A sink that is kept in memory, with a room, and fails when it is set to: for tests, and for callers that want the
 /// text. It tells its bytes.
 #[derive(Drop)]
 pub struct MemSink {

@@ -4,9 +4,9 @@ ghost use Rattle.hs_base.specs.Sink.{IsPut};
 use crate::Failed;
 
 /// Where bytes are written. What a put means is `IsPut` of `specs/Sink.antt`, over two things that code does not see:
-/// the bytes so far, where they are told, and the count of faults, which never falls.
+/// the bytes so far, if they are known, and the count of faults, which never falls.
 pub trait Sink {
-    /// The bytes so far, where the object tells them.
+    /// The bytes so far, if the object tells them.
     ghost written: { Self → Option (List ℕ) };
 
     /// How many puts failed.

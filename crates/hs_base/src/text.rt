@@ -24,7 +24,7 @@ pub fn is_word_byte(byte: u8) -> bool
     is_letter(byte) || is_digit(byte)
 }
 
-/// Whether the byte, with this text behind it, is the last of its line. A line ends at LF, CR or CR LF.
+/// Whether the byte, with this text after it, is the last of its line. A line ends at LF, CR or CR LF.
 pub fn ends_line(byte: u8, after: &[u8]) -> bool
     ensures { result ≡ ends_line byte after.now }
 {
@@ -35,7 +35,7 @@ pub fn ends_line(byte: u8, after: &[u8]) -> bool
     }
 }
 
-/// The place of what follows a byte at that place, with this text behind it.
+/// The place of what follows a byte at that place, with this text after it.
 pub fn next_place(place: Pos, byte: u8, after: &[u8]) -> Pos
     requires line { place.line + 1 < 2 ^ 32 }
     requires col { place.col + 1 < 2 ^ 32 }

@@ -20,11 +20,11 @@ AreAlike one other = (vertex : ℕ) → one vertex ≡ other vertex
 pub crosses_alike : (one other : Side) → AreAlike one other → (edge : CutEdge) → crosses one edge ≡ crosses other edge
 crosses_alike one other same edge = rw (same edge.from, same edge.to) refl
 
--- a place that is none is past the end
+-- what is not a place is past the end
 at_end : (place size : ℕ) → cond (nat_lt place size) (Some place) None ≡ None → size ≤ place
 at_end place size is = grind (arith, nat_tests)
 
--- it is past the first element only where that fails
+-- it is past the first element only if that fails
 first_fails : (test : Bool) (size place : ℕ) → suc size ≤ cond (not test) (1 + place) 0 → (test ≡ false) × (size ≤ place)
 first_fails true size place long = absurd (omega arith)
 first_fails false size place long = (refl, omega arith)
@@ -36,7 +36,7 @@ fail_to_end test (x ∷ xs) long =
     let first = first_fails (test x) (length xs) (position_or_len test xs) long in
     All-cons (λ x. test x ≡ false) x xs first.0 (fail_to_end test xs first.1)
 
--- where no element passes, each fails
+-- if no element passes, each fails
 pub all_fail : {X : Type 0} (test : X → Bool) (xs : List X) → position test xs ≡ None → All (λ x. test x ≡ false) xs
 all_fail test xs is = fail_to_end test xs (at_end (position_or_len test xs) (length xs) is)
 
@@ -45,7 +45,7 @@ pub all_pass : (one other : Side) → AreAlike one other → (vertices : List �
     → All (λ vertex. IsTrue (other vertex)) vertices
 all_pass one other same vertices is k d below = sym (same (get_or vertices k d)) ∙ AllPass-from_list_all one vertices is k d below
 
--- where one fails, not each is in
+-- if one fails, not each is in
 pub not_all_pass : (one other : Side) → AreAlike one other → (vertices : List ℕ) → list_all one vertices ≡ false
     → ¬ All (λ vertex. IsTrue (other vertex)) vertices
 not_all_pass one other same vertices is all =
@@ -57,12 +57,12 @@ none_pass : (test : Side) (vertices : List ℕ) → list_any test vertices ≡ f
 none_pass test [] is = All-nil (λ vertex. test vertex ≡ false)
 none_pass test (vertex ∷ vertices) is = All-cons (λ vertex. test vertex ≡ false) vertex vertices (grind arith) (none_pass test vertices (grind arith))
 
--- where no element passes, each is out
+-- if no element passes, each is out
 pub all_out : (one other : Side) → AreAlike one other → (vertices : List ℕ) → list_any one vertices ≡ false
     → All (λ vertex. IsFalse (other vertex)) vertices
 all_out one other same vertices is k d below = sym (same (get_or vertices k d)) ∙ none_pass one vertices is k d below
 
--- where one passes, not each is out
+-- if one passes, not each is out
 pub not_all_out : (one other : Side) → AreAlike one other → (vertices : List ℕ) → list_any one vertices ≡ true
     → ¬ All (λ vertex. IsFalse (other vertex)) vertices
 not_all_out one other same vertices is all =
@@ -85,7 +85,7 @@ cut_of network one other same inside outside slotless = record {
     crosses_not : (slot cross : Bool) → slot ≡ false → (not slot && cross) ≡ false → cross ≡ false
     crosses_not slot cross no_slot is = grind arith
 
--- where nothing is too large, each flow is of size
+-- if nothing is too large, each flow is of size
 pub of_size : (edges : List CutEdge) (flow : List ℤ) → position (λ it. nat_lt (most it.0) (nat_abs it.1)) (zip edges flow) ≡ None
     → All (λ it. nat_abs it.1 ≤ most it.0) (zip edges flow)
 of_size edges flow is k d below =

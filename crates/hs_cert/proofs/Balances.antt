@@ -56,7 +56,7 @@ first_unequal network flow sums long balance vertex is =
       first = λ other below free. rw (← kept (has_demand network other) _ _ (balance other) free) (zero (get_or sums other (pos 0)) (found.2 other below));
     }
 
--- where each place is 0, the flow is conserved
+-- if each place is 0, the flow is conserved
 pub conserved : (network : Network) (flow sums : List ℤ) → length sums ≡ network.vertices → IsBalance network flow sums
     → position is_unequal sums ≡ None → IsConserved network flow
 conserved network flow sums long balance is vertex below free =
@@ -76,7 +76,7 @@ pub first_of : (network : Network) (flow sums : List ℤ) → length sums ≡ ne
 first_of network flow sums long balance (Some vertex) is = first_unequal network flow sums long balance vertex (sym is)
 first_of network flow sums long balance None is = tt
 
--- where none is found, the flow is conserved
+-- if none is found, the flow is conserved
 pub none_of : (network : Network) (flow sums : List ℤ) → length sums ≡ network.vertices → IsBalance network flow sums
     → (found : Option ℕ) → found ≡ position is_unequal sums → IfNone found (IsConserved network flow)
 none_of network flow sums long balance (Some vertex) is = tt

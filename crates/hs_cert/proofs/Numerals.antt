@@ -19,11 +19,11 @@ one_digit most value k n rest low is fits =
     let now : min (value * 10 + (48 + k - 48)) most ≡ n = omega arith in
     rw (digit_tells k low, now) refl
 
--- these digits come to the number, whatever stands behind
+-- these digits come to the number, whatever follows
 abbrev ReadsDigits : ℕ → List ℕ → Type 0
 ReadsDigits n digits = (most : ℕ) (rest : List ℕ) → n ≤ most → number_at most 0 (digits ++ rest) ≡ number_at most n rest
 
--- one digit behind others
+-- one digit after others
 last_digit : (n : ℕ) (digits : List ℕ) → 10 ≤ n → ReadsDigits (n / 10) digits → ReadsDigits n (digits ++ (48 + n % 10) ∷ [])
 last_digit n digits large before most rest fits =
     let front : n / 10 ≤ most = omega arith in
@@ -112,7 +112,7 @@ signed_shorter (byte ∷ text) =
     by_test true signed plain short long = omega arith
     by_test false signed plain short long = omega arith
 
--- what stands behind a word is shorter by it
+-- what follows a word is shorter by it
 pub after_shorter : (word text rest : List ℕ) → after word text ≡ Some rest → length word + length rest ≡ length text
 after_shorter [] text rest is = let same : text ≡ rest = cc in let long = ap length same in omega arith
 after_shorter (byte ∷ word) [] rest is = absurd (cc)
@@ -129,7 +129,7 @@ then_some : {A B : Type 0} (read : Option A) (next : A → Option B) (y : B) →
 then_some None next y is = absurd (cc)
 then_some (Some x) next y is = (x, refl, is)
 
--- what stands behind a line is shorter
+-- what follows a line is shorter
 pub line_shorter : (text : List ℕ) (line : ℕ × ℤ × List ℕ) → line_at text ≡ Some line → length line.2 < length text
 unfolding line_at
 line_shorter text line is =

@@ -46,7 +46,7 @@ words_step limit fits inside rest vertices text digits now begins = of_left now.
           small = All-tail (λ (vertex : ℕ). vertex < limit) vertex left small;
         }
 
--- where no blank stands next, none is left
+-- if no blank stands next, none is left
 pub words_end : (limit : ℕ) (inside rest vertices text : List ℕ) → WordsLeft limit inside rest vertices text
     → after (32 ∷ []) text ≡ None → (vertices ≡ inside) × (text ≡ 10 ∷ rest)
 words_end limit inside rest vertices text now ends = of_left now.left now.all now.text
@@ -63,7 +63,7 @@ abbrev pub zeros : List ℤ → List ℤ
 zeros [] = []
 zeros (amount ∷ flow) = pos 0 ∷ zeros flow
 
--- the amounts so far are the front of the flow, with 0 behind them, and the lines of the others are left
+-- the amounts so far are the front of the flow, with 0 after them, and the lines of the others are left
 pub record LinesLeft (other : List ℤ) (tail : List ℕ) (amounts : List ℤ) (now : List ℕ) : Type 0 where
   pub done : List ℤ
   pub left : List ℤ
@@ -102,7 +102,7 @@ next_line at amount left tail text low small flows is =
     ap line_at (is ∙ append_assoc (flow_line at amount) (flow_lines (suc at) left) (codes "crossings " ++ tail))
     ∙ flow_line_read at amount (flow_lines (suc at) left ++ (codes "crossings " ++ tail)) low small flows
 
--- one line puts its amount behind those so far, and the amounts before it are 0
+-- one line puts its amount after those so far, and the amounts before it are 0
 taken : (other : List ℤ) (tail text : List ℕ) (flow : List ℤ) (line : ℕ × ℤ × List ℕ) (amount : ℤ) (left done : List ℤ) (at : ℕ)
     → length done ≡ at → at < 2 ^ 64
     → done ++ amount ∷ left ≡ other → flow ≡ done ++ pos 0 ∷ zeros left
@@ -147,7 +147,7 @@ lines_step other tail text flow line low now is_line =
     step other tail text flow line now.left now.done now.at now.here
     (let long = ap length now.all in omega (arith, length-append now.done now.left)) now.all now.flow now.text now.small is_line
 
--- the same, where no line stands next
+-- the same, if no line stands next
 finish : (other : List ℤ) (tail text : List ℕ) (flow left done : List ℤ) (at : ℕ) → length done ≡ at → at + length left < 2 ^ 64
     → done ++ left ≡ other → flow ≡ done ++ zeros left → text ≡ flow_lines at left ++ (codes "crossings " ++ tail)
     → All (λ amount. nat_abs amount ≤ 2147483647) left → line_at text ≡ None → flow ≡ other
@@ -167,7 +167,7 @@ finish other tail text flow (negsuc n ∷ left) done at here low all is_flow is_
     (grind (arith, nat_tests)) is_text in
     absurd (cc)
 
--- where no line stands next, nothing flows over the edges that are left
+-- if no line stands next, nothing flows over the edges that are left
 pub lines_end : (other : List ℤ) (tail text : List ℕ) (flow : List ℤ) → length other < 2 ^ 64 → LinesLeft other tail flow text
     → line_at text ≡ None → flow ≡ other
 lines_end other tail text flow low now none =

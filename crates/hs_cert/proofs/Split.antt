@@ -9,7 +9,7 @@ use Rattle.hs_cert.specs.declared.certificate.Certificate.{Certificate}
 use Rattle.hs_cert.specs.Texts.{flow_lines, text_of, IsTextOf}
 use Rattle.hs_cert.proofs.Words.{word}
 
--- the text up to the number of the crossings, and that with what stands behind
+-- the text up to the number of the crossings, and that with what follows
 abbrev pub front : Certificate → List ℕ → List ℕ
 front c tail = codes "inside" ++ (flat_map word c.inside ++ 10 ∷ (flow_lines 0 c.flow ++ (codes "crossings " ++ tail)))
 

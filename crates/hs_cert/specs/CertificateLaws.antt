@@ -1,4 +1,4 @@
--- Laws of certificates, for whoever has one.
+-- Laws of certificates, for anyone who has one.
 --     small_flow                 the numbers of a flow that is of size are at most 2147483647
 --     IsCertificate-from_fits    a cut with a flow that fits it is a certificate
 --     right_or_wrong             no certificate both fits and is wrong
@@ -17,7 +17,7 @@ use Rattle.hs_cert.specs.declared.certificate.Certificate.{Certificate}
 use Rattle.hs_cert.specs.declared.certificate.Wrong.{Wrong}
 use Rattle.hs_cert.specs.declared.certificate.Wrong.TheVariants.{Inside, Outside, Slotless, Size, Conservation, Value}
 
--- where nothing is too large, each number is below its edge's limit, and that is below 2^31
+-- if nothing is too large, each number is below its edge's limit, and that is below 2^31
 pub small_flow : (edges : List CutEdge) (flow : List ℤ) → length flow ≡ length edges → All (λ it. nat_abs it.1 ≤ most it.0) (zip edges flow)
     → All (λ amount. nat_abs amount ≤ 2147483647) flow
 small_flow edges [] each small = All-nil (λ amount. nat_abs amount ≤ 2147483647)

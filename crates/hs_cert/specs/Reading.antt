@@ -1,11 +1,11 @@
--- Reading what stands in front of a text, from left to right. Each function gives what it read and the text behind it; what
+-- Reading what stands in front of a text, from left to right. Each function gives what it read and the text after it; what
 -- is no text of a certificate may be read as anything.
 --     Gives view result read    what a function returned is what reading gives
---     after word text           what stands behind the word, where the text begins with it
+--     after word text           what follows the word, if the text begins with it
 --     number_at most value text     the number whose first digits have this value; one above the most is cut
 --     signed_at text            the same with a sign
 --     line_at text              the line of an edge: its number, and what flows along it
---     ReadsWords limit text vertices behind, ReadsFlow text flow     what was read, where the text is that of a certificate
+--     ReadsWords limit text vertices behind, ReadsFlow text flow     what was read, if the text is that of a certificate
 use Rattle.std.specs.Prelude.{◌≡◌, ℕ, ◌+◌, ◌*◌, ◌-◌, ◌^◌, ◌==◌, ◌<◌, ◌≤◌, min, ℤ, pos, neg_ℤ, nat_abs, List, [], ◌∷◌, ◌++◌, length, codes, Option, Some, None, if◌then◌else◌}
 use Rattle.std.specs.Fmt.{decimal}
 use Rattle.std.specs.List.{All, flat_map}
@@ -31,7 +31,7 @@ most_size = 2147483648
 abbrev pub most_edge : ℕ
 most_edge = 2 ^ 64 - 1
 
--- what stands behind the word
+-- what follows the word
 abbrev pub after : List ℕ → List ℕ → Option (List ℕ)
 after [] text = Some text
 after (byte ∷ word) [] = None
@@ -57,12 +57,12 @@ line_at text = do
   rest ← after (10 ∷ []) (signed_at amount).1
   Some ((number_at most_edge 0 edge).0, (signed_at amount).0, rest)
 
--- Where the text is vertices below the limit and the end of their line, these were read, and the end of the line stands next.
+-- If the text is vertices below the limit and the end of their line, these were read, and the end of the line stands next.
 abbrev pub ReadsWords : ℕ → List ℕ → List ℕ → List ℕ → Type 0
 ReadsWords limit text vertices behind = (inside rest : List ℕ) → All (λ vertex. vertex < limit) inside
     → text ≡ flat_map (λ vertex. 32 ∷ decimal vertex) inside ++ 10 ∷ rest → (vertices ≡ inside) × (behind ≡ 10 ∷ rest)
 
--- Where the text is the lines of this flow and a line of crossings, this flow was read.
+-- If the text is the lines of this flow and a line of crossings, this flow was read.
 abbrev pub ReadsFlow : List ℕ → List ℤ → Type 0
 ReadsFlow text flow = (other : List ℤ) (tail : List ℕ) → length other ≡ length flow → All (λ amount. nat_abs amount ≤ 2147483647) other
     → text ≡ flow_lines 0 other ++ (codes "crossings " ++ tail) → flow ≡ other

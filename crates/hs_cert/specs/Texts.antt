@@ -9,11 +9,11 @@ use Rattle.hs_cut.specs.declared.network.Network.{Network}
 use Rattle.hs_cut.specs.Networks.{among, crossings}
 use Rattle.hs_cert.specs.declared.certificate.Certificate.{Certificate}
 
--- `inside`, and each vertex behind a blank
+-- `inside`, and each vertex after a blank
 abbrev pub inside_line : List ℕ → List ℕ
 inside_line inside = codes "inside" ++ flat_map (λ vertex. 32 ∷ decimal vertex) inside ++ 10 ∷ []
 
--- `flow`, the number of the edge, and how much flows along it; no line where nothing flows
+-- `flow`, the number of the edge, and how much flows along it; no line if nothing flows
 abbrev pub flow_line : ℕ → ℤ → List ℕ
 flow_line edge amount = if nat_eq (nat_abs amount) 0 then [] else codes "flow " ++ decimal edge ++ 32 ∷ (signed_decimal amount ++ 10 ∷ [])
 

@@ -6,7 +6,7 @@ use hs_base::is_digit;
 /// What the size of an amount is cut to: one more than it may be.
 const MOST_SIZE: u64 = 2_147_483_648;
 
-/// The line of an edge, and the text behind it.
+/// The line of an edge, and the text after it.
 #[derive(Clone, Copy)]
 pub(crate) struct Line<'a> {
     pub(crate) edge: u64,
@@ -14,7 +14,7 @@ pub(crate) struct Line<'a> {
     pub(crate) rest: &'a [u8],
 }
 
-/// What stands behind the word, where the text begins with it.
+/// What follows the word, if the text begins with it.
 pub(crate) fn after<'a>(word: &[u8], text: &'a [u8]) -> Option<&'a [u8]>
     ensures { Gives (λ rest. rest.now) result (after word.now text.now) }
 {
@@ -32,7 +32,7 @@ fn with_digit(most: u64, value: u64, digit: u8) -> u64
         .min(most)
 }
 
-/// The number that stands in front, cut to the most, and the text behind it.
+/// The number that stands in front, cut to the most, and the text after it.
 pub(crate) fn number(most: u64, text: &[u8]) -> (u64, &[u8])
     ensures value { (result.0, result.1.now) ≡ number_at most 0 text.now }
     ensures low { result.0 ≤ most }
@@ -49,7 +49,7 @@ pub(crate) fn number(most: u64, text: &[u8]) -> (u64, &[u8])
     (value, rest)
 }
 
-/// The number with a sign that stands in front, and the text behind it.
+/// The number with a sign that stands in front, and the text after it.
 fn signed(text: &[u8]) -> (i64, &[u8])
     ensures { (result.0, result.1.now) ≡ signed_at text.now }
 {
@@ -62,7 +62,7 @@ fn signed(text: &[u8]) -> (i64, &[u8])
     }
 }
 
-/// The line of an edge, where one stands in front.
+/// The line of an edge, if one stands in front.
 #[tactic(auto, unfolding(crate::specs::Reading::line_at))]
 pub(crate) fn read_line(text: &[u8]) -> Option<Line<'_>>
     ensures { Gives (λ line. (line.edge, line.amount, line.rest.now)) result (line_at text.now) }

@@ -26,7 +26,7 @@ fn print_inside(text: &mut Vec<u8>, inside: &[u32]) -> Result<(), NoMemory>
     Ok(())
 }
 
-/// Writes the line of an edge: none where nothing flows.
+/// Writes the line of an edge: none if nothing flows.
 fn print_edge(text: &mut Vec<u8>, edge: usize, amount: i64) -> Result<(), NoMemory>
     ensures { OnOk result (text.new.items ≡ text.old.items ++ flow_line edge amount) }
 {
@@ -52,7 +52,7 @@ fn print_flow(text: &mut Vec<u8>, flow: &[i64]) -> Result<(), NoMemory>
     Ok(())
 }
 
-/// How many edges cross, where these vertices are inside.
+/// How many edges cross, if these vertices are inside.
 fn count_crossings(alloc: Global, inside: &[u32], network: &Network) -> Result<usize, NoMemory>
     requires within { All (λ vertex. vertex < network.now.vertices) inside.now }
     ensures { IfOk result (λ count. count ≡ crossings (among inside.now) network.now.edges) }
@@ -77,7 +77,7 @@ fn print_crossings(text: &mut Vec<u8>, count: usize) -> Result<(), NoMemory>
 ///
 /// # Errors
 ///
-/// `NoMemory` where memory runs out.
+/// `NoMemory` if memory runs out.
 pub fn print(alloc: Global, c: &Certificate, network: &Network) -> Result<Vec<u8>, NoMemory>
     requires certificate { IsCertificate network.now c.now }
     ensures { IfOk result (λ text. text.items ≡ text_of network.now c.now) }

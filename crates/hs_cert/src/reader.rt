@@ -14,14 +14,14 @@ use hs_base::{NoMemory, Numbers};
 use hs_cut::{Flow, Network};
 use std::alloc::Global;
 
-/// Numbers, and the text behind them.
+/// Numbers, and the text after them.
 #[derive(Drop)]
 struct Words<'a> {
     vertices: Vec<u32>,
     rest: &'a [u8],
 }
 
-/// The numbers that stand in front, each behind a blank, and each cut to the limit.
+/// The numbers that stand in front, each after a blank, and each cut to the limit.
 fn read_words(alloc: Global, limit: u32, text: &[u8]) -> Result<Words<'_>, NoMemory>
     ensures { IfOk result (λ words. ReadsWords limit text.now words.vertices.items words.rest.now) }
 {
@@ -53,7 +53,7 @@ fn no_flow(alloc: Global, edges: usize) -> Result<Vec<i64>, NoMemory>
     Ok(vec![in alloc; 0; edges]?)
 }
 
-/// What flows over each of so many edges, by the lines that stand in front: 0 where no line names the edge.
+/// What flows over each of so many edges, by the lines that stand in front: 0 if no line names the edge.
 fn read_flow(alloc: Global, text: &[u8], edges: usize) -> Result<Vec<i64>, NoMemory>
     ensures each { IfOk result (λ flow. length flow.items ≡ edges) }
     ensures read { IfOk result (λ flow. ReadsFlow text.now flow.items) }
@@ -126,7 +126,7 @@ fn is_text(text: &[u8], printed: &[u8]) -> bool
 ///
 /// # Errors
 ///
-/// `BadCertificate` exactly where the text is that of none; `NoMemory` where memory runs out.
+/// `BadCertificate` exactly if the text is that of none; `NoMemory` if memory runs out.
 pub fn read(alloc: Global, text: &[u8], network: &Network) -> Result<Certificate, CertError>
     ensures found { IfOk result (λ c. IsCertificate network.now c × IsTextOf network.now c text.now) }
     ensures only { IfOk result (λ c. (other : Certificate) → IsCertificate network.now other → IsTextOf network.now other text.now → other ≡ c) }

@@ -9,7 +9,7 @@ use crate::flows::{balance, clear, first_too_large, first_unequal, net_out};
 use crate::marks::{all_marked, any_marked, crossings, first_slotless, mark};
 use hs_cut::Network;
 
-/// How many edges cross, where the vertices inside are a cut.
+/// How many edges cross, if the vertices inside are a cut.
 fn check_cut(network: &Network, c: &Certificate, scratch: &mut [i64]) -> Result<usize, Wrong>
     requires countable { length network.now.edges < 2 ^ 32 }
     requires inside { IsInside network.now c.now.inside }

@@ -33,7 +33,7 @@ marks_again (text ∷ texts) pieces tokens s =
 
 -- ---- the beginning
 
--- the beginning is read just where it is spelled
+-- the beginning is read exactly if it is spelled
 pub opened : (tokens rest : List SourceToken) → marks_at opening tokens ≡ Some rest → IsOpened tokens rest
 opened tokens rest e pieces = (
   λ s. let again = marks_again opening pieces tokens s in
@@ -53,7 +53,7 @@ opened_length tokens rest e = omega (arith, taken_length (map word opening) toke
 
 -- ---- the end
 
--- the end is read to its last token just where it is spelled
+-- the end is read to its last token exactly if it is spelled
 pub closing_is : (tokens rest : List SourceToken) (ends : Bool) → marks_at closing tokens ≡ Some rest → ends ≡ (length rest == 0)
     → IsTrue ends ↔ IsClosing tokens
 closing_is tokens rest ends e is = (

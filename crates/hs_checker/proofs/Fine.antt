@@ -58,7 +58,7 @@ any_order test parts = any_newest test [] parts ∙ or_none (list_any test parts
 
 -- ---- names
 
--- the names of two rows, one behind the other
+-- the names of two rows, one after the other
 names_append : (earlier xs ys : List Variable) → are_fine_names earlier (xs ++ ys) ≡ (are_fine_names earlier xs && are_fine_names (newest earlier xs) ys)
 unfolding newest
 names_append earlier [] ys = refl
@@ -78,7 +78,7 @@ name_more variables variable all here =
     ∙ and_from (are_fine_names [] variables) (are_fine_names (newest [] variables) (variable ∷ [])) all
     (and_all (is_fine_name (newest [] variables) variable.name) ∙ name_order variables variable.name ∙ here)
 
--- the name behind those done may follow them
+-- the name after those done may follow them
 name_next : (done : List Variable) (variable : Variable) (later : List Variable) → are_fine_names [] (done ++ (variable ∷ later)) ≡ true
     → is_fine_name done variable.name ≡ true
 name_next done variable later all =
@@ -98,7 +98,7 @@ declaration_reader = record {
 
 -- ---- steps
 
--- the steps of two rows, one behind the other
+-- the steps of two rows, one after the other
 steps_append : (variables : List Variable) (done xs ys : List Step)
     → are_fine_steps variables done (xs ++ ys) ≡ (are_fine_steps variables done xs && are_fine_steps variables (newest done xs) ys)
 unfolding newest
@@ -136,7 +136,7 @@ step_more variables steps form all here =
     ∙ and_from (are_fine_steps variables [] steps) (are_fine_steps variables (newest [] steps) (form ∷ [])) all
     (and_all (is_fine_step variables (newest [] steps) form) ∙ step_order variables steps form ∙ here)
 
--- the step behind those done may follow them
+-- the step after those done may follow them
 pub step_next : (variables : List Variable) (done : List Step) (form : Step) (later : List Step)
     → are_fine_steps variables [] (done ++ (form ∷ later)) ≡ true → is_fine_step variables done form ≡ true
 step_next variables done form later all =

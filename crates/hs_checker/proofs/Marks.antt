@@ -64,7 +64,7 @@ placed_takes text tokens x pieces e after =
     let rest : Spells pieces a.0.1 = subst (λ (y : Pos × List SourceToken). Spells pieces y.1) (sym test.1) after in
     first_takes tokens a.0 (placed x.0 text) pieces a.1 same place rest
 
--- the same where the tree has no place
+-- the same if the tree has no place
 pub word_takes : (text : List ℕ) (tokens : List SourceToken) (x : Pos × List SourceToken) (pieces : List Piece) → mark_at text tokens ≡ Some x
     → Spells pieces x.1 → Spells (word text ∷ pieces) tokens
 word_takes text tokens x pieces e after = unplaced tokens (placed_takes text tokens x pieces e after)
@@ -87,7 +87,7 @@ pub placed_again : (pos : Pos) (text : List ℕ) (pieces : List Piece) (tokens :
 placed_again pos text pieces [] spelled = absurd spelled
 placed_again pos text pieces (source ∷ rest) spelled = (rest, marked text source rest spelled.0 ∙ ap (λ (p : Pos). Some (p, rest)) spelled.1, spelled.2)
 
--- the same where the tree has no place
+-- the same if the tree has no place
 pub word_again : (text : List ℕ) (pieces : List Piece) (tokens : List SourceToken) → Spells (word text ∷ pieces) tokens
     → (x : Pos × List SourceToken) × (mark_at text tokens ≡ Some x) × Spells pieces x.1
 word_again text pieces [] spelled = absurd spelled
@@ -102,7 +102,7 @@ first_again piece pieces (source ∷ rest) spelled = ((source.token, rest), refl
 
 -- ---- the test of the first token
 
--- a test gives a result just where it holds
+-- a test gives a result exactly if it holds
 tested : {A : Type 0} (b : Bool) (x : A) → is_some (cond b (Some x) None) ≡ b
 tested true x = refl
 tested false x = refl

@@ -7,7 +7,7 @@ use Rattle.hs_checker.specs.Source.{AreParsed, IsParsedAs, IsProgramOf, IsReadAs
 use Rattle.hs_checker.specs.declared.source.SourceError.{SourceError}
 use Rattle.hs_checker.specs.declared.source.SourceError.TheVariants.{Read, Limit, Syntax, Unbuilt, NoMemory}
 
--- a unit that is none of the grammar
+-- a unit that is not in the grammar
 pub IsProgramOf-of_refused : (source : Sources) (error : SourceError) → IsParsedAs source.units (Err error) → IsProgramOf source (Err error)
 IsProgramOf-of_refused source (Read error) is = absurd is
 IsProgramOf-of_refused source (Limit limit) is = is
@@ -15,7 +15,7 @@ IsProgramOf-of_refused source (Syntax pos) is = is
 IsProgramOf-of_refused source Unbuilt is = absurd is
 IsProgramOf-of_refused source NoMemory is = tt
 
--- where all units are of the grammar, the straight program is the program
+-- if all units are of the grammar, the straight program is the program
 pub IsProgramOf-of_straight : (source : Sources) (result : Result Straight SourceError) → AreParsed source.units → IsStraightOf source result
     → IsProgramOf source result
 IsProgramOf-of_straight source (Ok tree) parsed is = (parsed, is)

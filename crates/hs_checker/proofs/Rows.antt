@@ -104,7 +104,7 @@ module _ {A : Type 0} (spell : A → List Piece) (is_fine : List A → Bool) (be
   pub less : (parts : List A) (rest : List SourceToken) (x : A × List SourceToken) → at parts rest ≡ Some x → length x.1 < length rest
   less parts rest x read = omega (arith, taken_length (spell x.0) rest x.1 (reader.takes parts rest x read), reader.some x.0)
 
-  -- where no further part begins, what else the row could be ends too
+  -- if no further part begins, what else the row could be ends too
   ended_here : (parts : List A) (rest : List SourceToken) (others : List A) (pieces : List Piece) → is_fine others ≡ true → begins rest ≡ false
       → (later : List A) → others ≡ parts ++ later → Spells (flat_map spell later ++ pieces) rest → (others ≡ parts) × Spells pieces rest
   ended_here parts rest others pieces fine past [] same s = (same ∙ append-nil parts, s)
@@ -113,7 +113,7 @@ module _ {A : Type 0} (spell : A → List Piece) (is_fine : List A → Bool) (be
       absurd (both_ways (begins rest) past (reader.begun parts part later (flat_map spell later ++ pieces) rest
       (subst (λ (o : List A). is_fine o ≡ true) same fine) whole))
 
-  -- where no further part begins, the row is whole
+  -- if no further part begins, the row is whole
   pub whole_row : (parts : List A) (rest : List SourceToken) → IsSoFar spell is_fine begins tokens parts rest → begins rest ≡ false
       → IsRow spell is_fine begins tokens parts rest
   whole_row parts rest so_far past = record {
@@ -134,7 +134,7 @@ module _ {A : Type 0} (spell : A → List Piece) (is_fine : List A → Bool) (be
       let again = reader.again parts part later (flat_map spell later ++ pieces) rest (subst (λ (o : List A). is_fine o ≡ true) same fine) whole in
       none-some (part, again.0) (sym fails ∙ again.1)
 
-  -- where a part begins and is not read, there is no row
+  -- if a part begins and is not read, there is no row
   pub broken_row : (parts : List A) (rest : List SourceToken) → IsSoFar spell is_fine begins tokens parts rest → begins rest ≡ true → at parts rest ≡ None
       → NoRow spell is_fine begins tokens
   broken_row parts rest so_far here fails others pieces fine ends s =

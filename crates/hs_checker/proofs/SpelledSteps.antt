@@ -37,7 +37,7 @@ one_kind kind other (Some variable) apart has = kinds_differ variable.kind kind 
     kinds_differ Letter Handle other apart same = absurd cc
     kinds_differ Letter Pointer other apart same = absurd cc
 
--- the first tests of a form, where its first token is a name
+-- the first tests of a form, if its first token is a name
 abbrev AreOther : List SourceToken → Type 0
 AreOther tokens = (is_at (codes "*") tokens ≡ false) × (is_at (codes "HLock") tokens ≡ false) × (is_at (codes "HUnlock") tokens ≡ false)
     × (is_at (codes "putchar") tokens ≡ false)
@@ -71,7 +71,7 @@ module _ (variables : List Variable) (named : are_fine_names [] variables ≡ tr
     name_test kind number pieces tokens (codes "putchar") is refl spelled,
   )
 
-  -- an assignment is read again where what stands behind its `=` is
+  -- an assignment is read again if what follows its `=` is
   assign_again : (kind : Kind) (number : ℕ) (form : Step) (behind pieces : List Piece) (tokens : List SourceToken) → is_declared kind variables number ≡ true
       → ((sources : List SourceToken) → Spells behind sources
       → (rest : List SourceToken) × (source_at variables number sources ≡ Some (form, rest)) × Spells pieces rest)

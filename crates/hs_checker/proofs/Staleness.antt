@@ -1,4 +1,4 @@
--- One step more: what the rule of stale uses says after it, where the steps stand in the order of the text.
+-- One step more: what the rule of stale uses says after it, if the steps stand in the order of the text.
 use Rattle.std.proofs.Common.{◌≡◌, ℕ, ◌+◌, ◌<◌, ◌≤◌, suc, Bool, true, false, not, ◌&&◌, ◌||◌, List, [], ◌∷◌, ◌++◌, length, reverse, take, drop, get_or, drop-cons, add-one, refl, sym, ap, subst, ◌∙◌, arith, append_assoc, eq-eqb, eqb-true, Some, None, Option, if◌then◌else◌}
 use Rattle.std.specs.Prelude.{find}
 use Rattle.std.specs.List.{list_any}
@@ -57,7 +57,7 @@ none_more p steps i d below none = (parts.0, (or_parts (p (get_or steps i d)) fa
         or_parts (list_any p (take i steps)) (list_any p (get_or steps i d ∷ []))
         (sym (ap (list_any p) (take_more steps i d below) ∙ list_any-append p (take i steps) (get_or steps i d ∷ [])) ∙ none)
 
--- where the newest step is `p = *h`
+-- if the newest step is `p = *h`
 pub IsKnown-derive : (handle pointer : ℕ) (pos : Pos) (before taken : List Step) → taken ≡ before ++ form.Derive pos pointer handle ∷ []
     → IsKnown handle pointer (reverse (taken ++ [])) true false (is_locked_after handle (reverse taken))
 IsKnown-derive handle pointer pos before taken is_taken = record {
@@ -112,7 +112,7 @@ IsLastBefore-other variable done i d (Some place) below other last = (omega arit
     none : list_any (assigns variable) (drop (suc place) (take (i + 1) done)) ≡ false
     none = rw (cut, list_any-append (assigns variable) (drop (suc place) (take i done)) (get_or done i d ∷ []), last.2, other) refl
 
--- where no step since assigns the pointer, what is not known stays so
+-- if no step since assigns the pointer, what is not known stays so
 pub unknown_kept : (pointer : ℕ) (since done : List Step) → list_any (assigns pointer) since ≡ false → derived_after pointer done ≡ None
     → derived_after pointer (since ++ done) ≡ None
 unknown_kept pointer [] done none unknown = unknown
@@ -156,7 +156,7 @@ not_stale-never pointer done none =
     rw (← append-nil (reverse done))
     (rw (unknown_kept pointer (reverse done) [] (list_any-reverse (assigns pointer) done ∙ none) refl) refl)
 
--- a list is cut before and behind a place
+-- a list is cut before and after a place
 cut_at : (done : List Step) (place : ℕ) (d : Step) → place < length done → done ≡ (take place done ++ get_or done place d ∷ []) ++ drop (place + 1) done
 cut_at done place d below =
     sym (take-append-drop place done)
@@ -164,7 +164,7 @@ cut_at done place d below =
     (drop-cons done place d below ∙ ap (λ (i : ℕ). get_or done place d ∷ drop i done) (sym (add-one place)))
     ∙ sym (append_assoc (take place done) (get_or done place d ∷ []) (drop (place + 1) done))
 
--- the newest first of a list that is cut behind a place
+-- the newest first of a list that is cut after a place
 reverse-cut : (done : List Step) (place : ℕ) (d : Step) → place < length done
     → reverse done ≡ reverse (drop (place + 1) done) ++ get_or done place d ∷ reverse (take place done)
 reverse-cut done place d below =

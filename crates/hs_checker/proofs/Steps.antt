@@ -103,7 +103,7 @@ store_takes variables tokens x e =
     word_takes (codes "*") tokens a.0 (word (name_of variables b.0.0) ∷ placed d.0.0 (codes "=") ∷ value) a.1 name in
     subst (IsForm variables tokens) (some_is made x f.2) taken
 
--- what stands behind the `=` of an assignment, and the name and the `=` before it
+-- what follows the `=` of an assignment, and the name and the `=` before it
 abbrev IsSource : List Variable → ℕ → List SourceToken → (Step × List SourceToken) → Type 0
 IsSource variables number tokens x = (pieces : List Piece) (before : List SourceToken)
     → Spells pieces x.1

@@ -3,7 +3,7 @@
 --     IsTheProgram source tree   the sources are one unit, which spells the tree and no other
 --     SpellsNone source          they are not one unit, or one that spells no tree
 --     AreParsed units            each unit is one of the grammar, and nests no more deeply than it may
---     IsFirst units Is           the first unit that is none is so
+--     IsFirst units Is           the first wrong unit is so
 --     HasSyntaxAt, IsTooDeep     it is no unit of the grammar; it nests too deeply
 --     IsReadAs ..                the named files and their headers are read as these sources
 --     HasReads ..                the files that were read, in their order
@@ -46,7 +46,7 @@ abbrev pub AreParsed : List (List SourceToken) → Type 0
 AreParsed [] = Unit {0}
 AreParsed (tokens ∷ rest) = IsParsed tokens × AreParsed rest
 
--- the first unit that is none of the grammar is so
+-- the first unit that is not in the grammar is so
 pub record IsFirst (units : List (List SourceToken)) (Is : List SourceToken → Type 0) : Type 0 where
   pub before : List (List SourceToken)
   pub tokens : List SourceToken
@@ -55,7 +55,7 @@ pub record IsFirst (units : List (List SourceToken)) (Is : List SourceToken → 
   pub parsed : AreParsed before
   pub is : Is tokens
 
--- it is no unit, and its first external declaration that is none begins at that place
+-- it is no unit, and its first wrong external declaration begins at that place
 abbrev pub HasSyntaxAt : List (List SourceToken) → Pos → Type 0
 HasSyntaxAt units pos = IsFirst units (λ tokens. IsRefusedAt tokens pos)
 
@@ -63,20 +63,20 @@ HasSyntaxAt units pos = IsFirst units (λ tokens. IsRefusedAt tokens pos)
 abbrev pub IsTooDeep : List (List SourceToken) → Type 0
 IsTooDeep units = IsFirst units (λ tokens. IsShallow tokens → ⊥)
 
--- The named files and their headers are read as these sources: by the listing, where it is told, and by the sources' own names
+-- The named files and their headers are read as these sources: by the listing, if it is known, and by the sources' own names
 -- and texts in any case.
 abbrev pub IsReadAs : Option Listing → List (List ℕ) → Sources → Type 0
 IsReadAs told names source =
     IfSome told (λ listing. preprocessed listing names ≡ Ok source) × (preprocessed (own_listing source) names ≡ Ok source)
 
--- Reading refuses so, where the listing is told and no fault was counted. A refusal that names a file names one that is sought,
+-- Reading refuses so, if the listing is known and no fault was counted. A refusal that names a file names one that is sought,
 -- and the count of its cause rose.
 abbrev pub IsRefusedAs : Option Listing → List (List ℕ) → Counts → Counts → ReadError → Type 0
 IsRefusedAs told names before now error =
     IsCausedBy told before now names error
     × IfSome told (λ listing. IsSteady before.faults now.faults → preprocessed listing names ≡ Err error)
 
--- the error is a limit or want of memory, which have answers of their own
+-- the error is a limit or that memory ran out, which have answers of their own
 abbrev pub HasOwnAnswer : ReadError → Type 0
 HasOwnAnswer (reading.Limit limit) = Unit {0}
 HasOwnAnswer reading.NoMemory = Unit {0}
@@ -118,7 +118,7 @@ IsProgramOf source (Err (Syntax pos)) = HasSyntaxAt source.units pos
 IsProgramOf source (Err Unbuilt) = AreParsed source.units × SpellsNone source
 IsProgramOf source (Err NoMemory) = Unit {0}
 
--- each of the units is parsed, or how the first that is none of the grammar is refused
+-- each of the units is parsed, or how the first that is not in the grammar is refused
 abbrev pub IsParsedAs : List (List SourceToken) → Result Unit SourceError → Type 0
 IsParsedAs units (Ok _) = AreParsed units
 IsParsedAs units (Err (Read error)) = ⊥

@@ -14,11 +14,11 @@ use std::alloc::Global;
 /// Why the named files give no program.
 #[derive(Debug, Drop)]
 pub enum SourceError {
-    /// Reading refuses them: the first refusal. It is no limit, and no want of memory.
+    /// Reading refuses them: the first refusal. It is not a limit, and not that memory ran out.
     Read(ReadError),
     /// A quantity passed its limit.
     Limit(hs_base::Limit),
-    /// A unit is none of the grammar; the place is that of its first external declaration that is none.
+    /// A unit is not in the grammar; the place is that of its first external declaration that is wrong.
     Syntax(Pos),
     /// They are not one unit, or one that is no straight program.
     Unbuilt,
@@ -37,7 +37,7 @@ fn refused(error: ReadError) -> SourceError
     }
 }
 
-/// Parses each unit in turn, up to the first that is none of the grammar.
+/// Parses each unit in turn, up to the first that is not in the grammar.
 fn parsed(alloc: Global, units: &[SourceTokens]) -> Result<(), SourceError>
     ensures { IsParsedAs units.now result }
 {
@@ -78,8 +78,8 @@ fn program_of(alloc: Global, units: &[SourceTokens]) -> Result<Straight, SourceE
 ///
 /// # Errors
 ///
-/// The first refusal of reading; then, of the first unit that is none of the grammar, the limit of nesting or
-/// [`SourceError::Syntax`]; then [`SourceError::Unbuilt`] where the files are not one unit whose tokens spell a straight
+/// The first refusal of reading; then, of the first unit that is not in the grammar, the limit of nesting or
+/// [`SourceError::Syntax`]; then [`SourceError::Unbuilt`] if the files are not one unit whose tokens spell a straight
 /// program.
 pub fn read_program<F: Files>(
     alloc: Global,

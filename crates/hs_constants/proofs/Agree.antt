@@ -25,12 +25,12 @@ pub only_of : (tokens : List Token) (value : Option Value) → value ≡ conditi
 only_of tokens None is = tt
 only_of tokens (Some value) is = λ other means. let same : Some value ≡ Some other = is ∙ value_is tokens other means in cc
 
--- where none was read, they mean none
+-- if none was read, they mean none
 pub none_of : (tokens : List Token) (value : Option Value) → value ≡ condition_value tokens → IfNone value ((other : Value) → Means 0 tokens other → ⊥)
 none_of tokens None is = λ other means. let same : None ≡ Some other = is ∙ value_is tokens other means in cc
 none_of tokens (Some value) is = tt
 
--- the reading has come to a place, with so many tokens behind it
+-- the reading has come to a place, with so many tokens after it
 module _ (tokens : List SourceToken) (index : ℕ) (place : Place) (waiting : List Waiting)
     (so_far : steps (Some (record { waiting = waiting; place = place })) (tokens_of (drop index tokens)) ≡ steps (Some (before [])) (tokens_of tokens)) where
   -- the next token is wrong: there is no value

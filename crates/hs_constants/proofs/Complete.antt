@@ -49,7 +49,7 @@ pub steps-None : (tokens : List Token) → steps None tokens ≡ None
 steps-None [] = refl
 steps-None (token ∷ tokens) = steps-None tokens
 
--- tokens behind tokens
+-- tokens after tokens
 pub steps-append : (reading : Option Reading) (tokens others : List Token) → steps reading (tokens ++ others) ≡ steps (steps reading tokens) others
 steps-append reading [] others = refl
 steps-append reading (token ∷ tokens) others = steps-append (stepped reading token) tokens others

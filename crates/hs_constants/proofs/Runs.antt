@@ -25,7 +25,7 @@ value_more Octal value digit digits = refl
 value_more Decimal value digit digits = refl
 value_more Hex value digit digits = refl
 
--- the value of the digits at the front, behind digits of that value
+-- the value of the digits at the front, after digits of that value
 abbrev pub run_behind : Base → ℕ → List ℕ → ℕ
 run_behind base value text = value_behind base value (take (run_len base text) text)
 

@@ -1,5 +1,5 @@
 -- What is read is an expression: what waits stands for tokens, and an operand for an expression.
---     Spells waiting tokens     the tokens stand before an operand, and this waits behind them
+--     Spells waiting tokens     the tokens stand before an operand, and this waits after them
 --     means_of                  a condition that has a value is an expression of that value
 use Rattle.std.proofs.Common.{◌≡◌, ℕ, suc, ◌≤◌, Bool, true, false, List, [], ◌∷◌, ◌++◌, Option, Some, None, refl, sym, ap, subst, ◌∙◌, inl, inr, append_assoc, arith}
 use Rattle.std.specs.Prelude.{nat_le, codes, ◌==◌}
@@ -21,7 +21,7 @@ use Rattle.hs_constants.specs.declared.condition.Place.{Place}
 use Rattle.hs_constants.specs.declared.condition.Place.TheVariants.{Before, Behind}
 use Rattle.hs_constants.proofs.Levels.{demand, level_within, demand_within, no_operator, looser}
 
--- the tokens stand before an operand, and this waits behind them
+-- the tokens stand before an operand, and this waits after them
 data Spells : List Waiting → List Token → Type 0 where
   -- nothing was read
   empty : Spells [] []
@@ -110,7 +110,7 @@ abbrev IsAt : Place → List Waiting → List Token → Type 0
 IsAt Before waiting tokens = Spells waiting tokens
 IsAt (Behind value) waiting tokens = IsOperand waiting value tokens
 
--- the tokens lead there, where none is wrong
+-- the tokens lead there, if none is wrong
 abbrev IsReading : Option Reading → List Token → Type 0
 IsReading None tokens = Unit {0}
 IsReading (Some reading) tokens = IsAt reading.place reading.waiting tokens
@@ -129,7 +129,7 @@ operand_on waiting tokens token None (Some operator) is_group spells is_constant
 operand_on waiting tokens token None None true spells is_constant is_operator is = opened waiting tokens token spells is
 operand_on waiting tokens token None None false spells is_constant is_operator is = tt
 
--- a `:` behind an operand
+-- a `:` after an operand
 colon_on : {waiting : List Waiting} {front : List Token} → Spells waiting front → (operand : List Token) (value : Value) (colon : Token) → Means 0 operand value
     → is_mark (codes ":") colon ≡ true → IsReading (colon_step waiting value) (front ++ (operand ++ colon ∷ []))
 colon_on empty operand value colon means is = tt
@@ -141,7 +141,7 @@ colon_on (asked waiting front test question first spells fits tests is_question)
     (parted waiting front test operand question colon first value spells fits tests is_question means is)
 colon_on (parted waiting front test left question token first second spells fits tests is_question lefts is_colon) operand value colon means is = tt
 
--- a `)` behind an operand
+-- a `)` after an operand
 close_on : {waiting : List Waiting} {front : List Token} → Spells waiting front → (operand : List Token) (value : Value) (close : Token) → Means 0 operand value
     → is_mark (codes ")") close ≡ true → IsReading (close_step waiting value) (front ++ (operand ++ close ∷ []))
 close_on empty operand value close means is = tt
@@ -157,14 +157,14 @@ close_on (between waiting front left token operator first spells fits lefts is_o
 close_on (asked waiting front test question first spells fits tests is_question) operand value close means is = tt
 close_on (parted waiting front test left question token first second spells fits tests is_question lefts is_colon) operand value close means is = tt
 
--- a token behind an operand
+-- a token after an operand
 module _ (waiting : List Waiting) (value : Value) (tokens : List Token) (token : Token) (operand : IsOperand waiting value tokens) where
   -- what settles at the level
   at_level : (level : ℕ) → level ≤ 11 → IsSettled level tokens (settled level waiting value)
   at_level level most =
       settled_along operand.whole (settles level operand.spells operand.operand value 11 operand.means (demand_within waiting) most most)
 
-  -- the token behind it
+  -- the token after it
   token_behind : {level : ℕ} {it : Settled} (is : IsSettled level tokens it) → is.front ++ (is.operand ++ token ∷ []) ≡ tokens ++ token ∷ []
   token_behind is = sym (append_assoc is.front is.operand (token ∷ [])) ∙ ap (λ (all : List Token). all ++ token ∷ []) is.whole
 
@@ -211,7 +211,7 @@ steps_on (Some reading) front (token ∷ tokens) is =
     reading_along (steps next tokens) (append_assoc front (token ∷ []) tokens)
     (steps_on next (front ++ token ∷ []) tokens (step_on reading.place reading.waiting front token is))
 
--- where nothing waits, all tokens are one expression
+-- if nothing waits, all tokens are one expression
 value_on : {waiting : List Waiting} {front : List Token} → Spells waiting front → (operand : List Token) (last value : Value) → Means 0 operand last
     → value_of waiting last ≡ Some value → Means 0 (front ++ operand) value
 value_on empty operand last value means is = let same : last ≡ value = cc in subst (λ (it : Value). Means 0 operand it) same means

@@ -28,7 +28,7 @@ len_behind : (len : Option ℕ) → backslash_len len - 1 ≡ len_of len
 len_behind None = omega arith
 len_behind (Some len) = omega arith
 
--- an escape at the front, with what stands behind it
+-- an escape at the front, with what follows it
 pub escaped : (byte : ℕ) (content after : List ℕ) (len value : ℕ) → content ≡ byte ∷ after → byte ≡ 92 → len ≡ len_of (escape_len after)
     → value ≡ escape_value len after → characters_of content ≡ value ∷ characters_of (drop len after)
 escaped byte content after len value is slash is_len is_value =

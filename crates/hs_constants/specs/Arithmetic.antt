@@ -1,10 +1,10 @@
 -- The arithmetic of conditions: long and unsigned long, of 32 bits (X3.159-1989 3.8.1 and 3.3). Results keep their low 32
 -- bits, division truncates toward 0, a shift uses the low five bits of its count, and a right shift of a signed number
--- copies the sign (own where C leaves it open).
+-- copies the sign (own if C leaves it open).
 --     unary_value operator value          -x, ~x, !x, +x
 --     binary_value operator left right    each of the eighteen operators
 --     chosen test left right              test ? left : right
--- A value is computed also where it is not evaluated: it says whether its evaluation divides by 0.
+-- A value is computed also if it is not evaluated: it says whether its evaluation divides by 0.
 use Rattle.std.specs.Prelude.{ℕ, ◌+◌, ◌-◌, ◌*◌, ◌/◌, ◌%◌, ◌^◌, ◌==◌, nat_le, nat_lt, Bool, true, false, not, ◌&&◌, ◌||◌, if◌then◌else◌, bit_and, bit_or, bit_xor}
 use Rattle.hs_constants.specs.declared.value.Value.{Value}
 use Rattle.hs_constants.specs.declared.operator.Unary.{Unary}
@@ -37,7 +37,7 @@ abbrev pub differ : Bool → Bool → Bool
 differ true second = not second
 differ false second = second
 
--- toward 0; 0 where the divisor is
+-- toward 0; 0 if the divisor is
 abbrev pub quotient : Bool → ℕ → ℕ → ℕ
 quotient true left right = if right == 0 then 0 else left / right
 quotient false left right = if right == 0 then 0 else signed (differ (is_negative left) (is_negative right)) (size_of left / size_of right)
@@ -74,12 +74,12 @@ truth fails answer = record { bits = if answer then 1 else 0; unsigned = false; 
 abbrev pub either_fails : Value → Value → Bool
 either_fails left right = left.fails || right.fails
 
--- a number of the common type of the two: unsigned where one is (3.2.1.5)
+-- a number of the common type of the two: unsigned if one is (3.2.1.5)
 abbrev pub common : Value → Value → (Bool → ℕ) → Value
 common left right bits =
     record { bits = bits (left.unsigned || right.unsigned); unsigned = left.unsigned || right.unsigned; fails = either_fails left right }
 
--- the same, where a divisor of 0 fails
+-- the same, if a divisor of 0 fails
 abbrev pub divided : Value → Value → (Bool → ℕ) → Value
 divided left right bits = record (common left right bits) { fails = either_fails left right || (right.bits == 0) }
 
@@ -94,7 +94,7 @@ unary_value Minus value = record value { bits = negated value.bits }
 unary_value Complement value = record value { bits = 4294967295 - value.bits }
 unary_value Not value = truth value.fails (not (is_true value))
 
--- 3.3.5 to 3.3.14. The second operand of `&&` and `||` is evaluated only where the first leaves the answer open.
+-- 3.3.5 to 3.3.14. The second operand of `&&` and `||` is evaluated only if the first leaves the answer open.
 abbrev pub binary_value : Binary → Value → Value → Value
 binary_value Multiply left right = common left right (λ unsigned. low (left.bits * right.bits))
 binary_value Divide left right = divided left right (λ unsigned. quotient unsigned left.bits right.bits)

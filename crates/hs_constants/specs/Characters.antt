@@ -12,7 +12,7 @@ simple_value byte =
     if byte == 97 then 7 else if byte == 98 then 8 else if byte == 116 then 9 else if byte == 110 then 10
     else if byte == 118 then 11 else if byte == 102 then 12 else if byte == 114 then 13 else byte
 
--- the value of an escape of so many bytes behind its backslash
+-- the value of an escape of so many bytes after its backslash
 abbrev pub escape_value : ℕ → List ℕ → ℕ
 escape_value len [] = 0
 escape_value len (byte ∷ rest) =
@@ -35,7 +35,7 @@ values_after zero (byte ∷ rest) = value_at (byte ∷ rest) ∷ values_after (c
 abbrev pub characters_of : List ℕ → List ℕ
 characters_of content = values_after 0 content
 
--- bytes as a big-endian number, behind bytes of that number
+-- bytes as a big-endian number, after bytes of that number
 abbrev pub big_endian : ℕ → List ℕ → ℕ
 big_endian number [] = number
 big_endian number (byte ∷ bytes) = big_endian (256 * number + byte) bytes

@@ -23,7 +23,7 @@ use Rattle.hs_constants.specs.declared.operator.Binary.TheVariants.{Multiply, Di
 abbrev pub plain : ℕ → Bool → Value
 plain bits unsigned = record { bits = bits; unsigned = unsigned; fails = false }
 
--- an integer constant: unsigned where it says so, or does not fit in long
+-- an integer constant: unsigned if it says so, or does not fit in long
 abbrev pub number_constant : Option number.Number → Option Value
 number_constant None = None
 number_constant (Some it) = Some (plain it.value (it.unsigned || nat_le 2147483648 it.value))

@@ -1,8 +1,8 @@
 -- Digits in one of the three bases (X3.159-1989 3.1.3.2 and 3.1.3.4).
 --     is_digit_of base byte             the byte is a digit of that base
 --     digit_value base digit            its value
---     value_behind base value digits    the value of digits behind digits of that value
---     IsRun base text found             the digits at the front of a text, where their value has 32 bits
+--     value_behind base value digits    the value of digits after digits of that value
+--     IsRun base text found             the digits at the front of a text, if their value has 32 bits
 use Rattle.std.specs.Prelude.{◌≡◌, ℕ, ◌-◌, ◌<◌, Bool, List, Option, Some, None, take}
 use Rattle.std.specs.List.{prefix_len}
 use Rattle.hs_base.specs.Text.{is_digit}
@@ -31,7 +31,7 @@ digit_value Octal digit = digit - 48
 digit_value Decimal digit = digit - 48
 digit_value Hex digit = hex_digit_value digit
 
--- the value of digits, behind digits of that value
+-- the value of digits, after digits of that value
 abbrev pub value_behind : Base → ℕ → List ℕ → ℕ
 value_behind Octal value digits = octal_value value digits
 value_behind Decimal value digits = decimal_value value digits

@@ -1,6 +1,6 @@
--- How a character constant is read: character by character, an escape behind its backslash (X3.159-1989 3.1.3.4).
---     len_of len                    how many bytes an escape has behind its backslash; a bad one has none
---     IsCharacter content found     the character at the front of a content, and what stands behind it
+-- How a character constant is read: character by character, an escape after its backslash (X3.159-1989 3.1.3.4).
+--     len_of len                    how many bytes an escape has after its backslash; a bad one has none
+--     IsCharacter content found     the character at the front of a content, and what follows it
 use Rattle.std.specs.Prelude.{◌≡◌, ℕ, ◌<◌, List, [], ◌∷◌, length, Option, Some, None}
 use Rattle.hs_constants.specs.Characters.{characters_of}
 use Rattle.hs_constants.specs.declared.characters.Character.{Character}

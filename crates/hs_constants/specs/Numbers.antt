@@ -7,7 +7,7 @@ use Rattle.hs_tokens.specs.Characters.{is_octal, is_hex}
 use Rattle.hs_tokens.specs.Literals.{octal_value, hex_value}
 use Rattle.hs_constants.specs.declared.number.Number.{Number}
 
--- the value of decimal digits, behind digits of that value
+-- the value of decimal digits, after digits of that value
 abbrev pub decimal_value : ℕ → List ℕ → ℕ
 decimal_value value [] = value
 decimal_value value (digit ∷ digits) = decimal_value (10 * value + (digit - 48)) digits
@@ -36,7 +36,7 @@ with_suffix value decimal (first ∷ second ∷ third ∷ rest) = None
 abbrev pub digits_value : ℕ → Bool → ℕ → List ℕ → Option Number
 digits_value len decimal value text = if nat_le value 4294967295 then with_suffix value decimal (drop len text) else None
 
--- digits behind 0x, at least one
+-- digits after 0x, at least one
 abbrev pub hex_number : List ℕ → Option Number
 hex_number text =
     if prefix_len is_hex text == 0

@@ -1,7 +1,7 @@
 -- How a condition is read, token by token: a stack holds what waits for the value of an operand. `Means` of Conditions.antt
 -- says what a condition is and what its value is; the contract of `condition_value` has that the reading agrees with it.
 --     applied last level value       what a value makes of the last thing that waits
---     settled level waiting value    what still waits, where only what binds looser than the level may
+--     settled level waiting value    what still waits, if only what binds looser than the level may
 --     step reading token             one token on
 --     condition_value tokens         the value of the condition, if the tokens are one
 use Rattle.std.specs.Prelude.{ℕ, ◌==◌, nat_le, Bool, List, [], ◌∷◌, Option, Some, None, map, if◌then◌else◌, codes}
@@ -22,7 +22,7 @@ use Rattle.hs_constants.specs.declared.condition.Place.TheVariants.{Before, Behi
 abbrev pub tokens_of : List SourceToken → List Token
 tokens_of tokens = map (λ source. source.token) tokens
 
--- what the value makes of the last thing that waits, where that binds as tightly as the level
+-- what the value makes of the last thing that waits, if that binds as tightly as the level
 abbrev pub applied : Waiting → ℕ → Value → Option Value
 applied Group level value = None
 applied (Prefix operator) level value = Some (unary_value operator value)
@@ -60,7 +60,7 @@ seen waiting (Some place) = Some (record { waiting = waiting; place = place })
 abbrev pub before : List Waiting → Reading
 before waiting = record { waiting = waiting; place = Before }
 
--- behind an operand of that value
+-- after an operand of that value
 abbrev pub behind : List Waiting → Value → Reading
 behind waiting value = record { waiting = waiting; place = Behind value }
 
@@ -82,7 +82,7 @@ infix_step operator left = Some (before (Infix left.value operator ∷ left.wait
 abbrev pub question_step : Settled → Option Reading
 question_step test = Some (before (Test test.value ∷ test.waiting))
 
--- a `:` ends the first branch behind a test
+-- a `:` ends the first branch after a test
 abbrev pub colon_step : List Waiting → Value → Option Reading
 colon_step (Test test ∷ waiting) value = Some (before (Branch test value ∷ waiting))
 colon_step _ value = None
@@ -92,7 +92,7 @@ abbrev pub close_step : List Waiting → Value → Option Reading
 close_step (Group ∷ waiting) value = Some (behind waiting value)
 close_step _ value = None
 
--- behind an operand stands an operator, or what ends a part
+-- after an operand stands an operator, or what ends a part
 abbrev pub operator_by : (ℕ → Settled) → Option Binary → Bool → Bool → Bool → Option Reading
 operator_by settled (Some operator) is_question is_colon is_close = infix_step operator (settled (level_of operator))
 operator_by settled None is_question is_colon is_close =
@@ -111,7 +111,7 @@ abbrev pub step : Place → List Waiting → Token → Option Reading
 step Before waiting token = operand_step waiting token
 step (Behind value) waiting token = operator_step waiting value token
 
--- one token on, where none was wrong before
+-- one token on, if none was wrong before
 abbrev pub stepped : Option Reading → Token → Option Reading
 stepped None token = None
 stepped (Some reading) token = step reading.place reading.waiting token
@@ -121,17 +121,17 @@ abbrev pub steps : Option Reading → List Token → Option Reading
 steps reading [] = reading
 steps reading (token ∷ tokens) = steps (stepped reading token) tokens
 
--- the value of all, where nothing waits
+-- the value of all, if nothing waits
 abbrev pub value_of : List Waiting → Value → Option Value
 value_of [] value = Some value
 value_of (last ∷ waiting) value = None
 
--- the end stands behind an operand
+-- the end follows an operand
 abbrev pub ended_at : Place → List Waiting → Option Value
 ended_at Before waiting = None
 ended_at (Behind value) waiting = value_of (settled 0 waiting value).waiting (settled 0 waiting value).value
 
--- the same, where no token was wrong
+-- the same, if no token was wrong
 abbrev pub ended : Option Reading → Option Value
 ended None = None
 ended (Some reading) = ended_at reading.place reading.waiting

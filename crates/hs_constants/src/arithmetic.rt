@@ -41,7 +41,7 @@ fn signed(negative: bool, size: u32) -> u32
     if negative { negated(size) } else { size }
 }
 
-/// The quotient toward 0; 0 where the divisor is (X3.159-1989 3.3.5).
+/// The quotient toward 0; 0 if the divisor is (X3.159-1989 3.3.5).
 fn quotient(unsigned: bool, left: u32, right: u32) -> u32
     ensures { result ≡ quotient unsigned left right }
 {
@@ -127,7 +127,7 @@ fn common(left: Value, right: Value, bits: u32) -> Value
     }
 }
 
-/// The same, where a divisor of 0 fails.
+/// The same, if a divisor of 0 fails.
 fn divided(left: Value, right: Value, bits: u32) -> Value
     ensures { result ≡ divided left right (λ unsigned. bits) }
 {

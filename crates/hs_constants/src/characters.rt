@@ -12,7 +12,7 @@ struct Escape {
     len: usize,
 }
 
-/// The character at the front of a content, and what stands behind it.
+/// The character at the front of a content, and what follows it.
 #[derive(Clone, Copy)]
 struct Character<'a> {
     value: u8,
@@ -49,7 +49,7 @@ fn hex_escape(bytes: &[u8]) -> Escape
     }
 }
 
-/// The escape behind a backslash (X3.159-1989 3.1.3.4).
+/// The escape after a backslash (X3.159-1989 3.1.3.4).
 fn escape_ahead(bytes: &[u8]) -> Escape
     ensures len { result.len ≡ len_of (escape_len bytes.now) }
     ensures value { result.value ≡ escape_value result.len bytes.now }

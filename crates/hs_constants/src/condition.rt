@@ -14,7 +14,7 @@ use std::alloc::{AllocError, Global};
 enum Place {
     /// In front of an operand.
     Before,
-    /// Behind an operand of this value.
+    /// After an operand of this value.
     Behind(Value),
 }
 
@@ -25,7 +25,7 @@ const CONDITIONAL: u32 = 0;
 const LOGICAL_OR: u32 = 1;
 
 /// Takes a token in front of an operand: a constant, an operator or an open parenthesis (X3.159-1989 3.3.1 and
-/// 3.3.3). Nothing where it is another.
+/// 3.3.3). Nothing if it is another.
 fn operand_step(waiting: &mut Vec<Waiting>, token: &Token) -> Result<Option<Place>, AllocError>
     ensures { IfOk result (λ next. seen (reverse waiting.new.items) next
         ≡ operand_step (reverse waiting.old.items) token.now) }
@@ -43,7 +43,7 @@ fn operand_step(waiting: &mut Vec<Waiting>, token: &Token) -> Result<Option<Plac
     Ok(Some(Place::Before))
 }
 
-/// Takes a token behind an operand: an operator, or what ends a part (X3.159-1989 3.3.1 and 3.3.5 to 3.3.15). Nothing
+/// Takes a token after an operand: an operator, or what ends a part (X3.159-1989 3.3.1 and 3.3.5 to 3.3.15). Nothing
 /// where it is another, or ends nothing.
 fn operator_step(
     waiting: &mut Vec<Waiting>,

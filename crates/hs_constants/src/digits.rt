@@ -27,7 +27,7 @@ fn radix(base: Base) -> u32
     }
 }
 
-/// The value of a digit, or nothing where the byte is none of that base.
+/// The value of a digit, or nothing if the byte is not a digit of that base.
 fn digit_of(base: Base, byte: u8) -> Option<u32>
     ensures { result ≡ (if is_digit_of base byte then Some (digit_value base byte) else None) }
 {
@@ -41,14 +41,14 @@ fn digit_of(base: Base, byte: u8) -> Option<u32>
     Some(value as u32)
 }
 
-/// The value with one more digit, where it has 32 bits.
+/// The value with one more digit, if it has 32 bits.
 fn with_digit(base: Base, value: u32, digit: u32) -> Option<u32>
     ensures { SomeIff result (radix base * value + digit < 2 ^ 32) (radix base * value + digit) }
 {
     value.checked_mul(radix(base))?.checked_add(digit)
 }
 
-/// The digits of the base at the front of a text, or nothing where their value has more than 32 bits.
+/// The digits of the base at the front of a text, or nothing if their value has more than 32 bits.
 pub(crate) fn digits_ahead(base: Base, text: &[u8]) -> Option<Digits>
     ensures digits { IsRun base text.now result }
     ensures within { IfSome result (λ found. found.len ≤ length text.now) }

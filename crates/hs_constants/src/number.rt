@@ -34,7 +34,7 @@ fn with_suffix(value: u32, decimal: bool, suffix: &[u8]) -> Option<Number>
     })
 }
 
-/// The number with these digits behind its 0x, of which it has one at least (X3.159-1989 3.1.3.2).
+/// The number with these digits after its 0x, of which it has one at least (X3.159-1989 3.1.3.2).
 fn hex_number(text: &[u8]) -> Option<Number>
     ensures { result ≡ hex_number text.now }
 {

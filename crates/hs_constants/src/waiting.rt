@@ -12,15 +12,15 @@ pub(crate) enum Waiting {
     Group,
     /// An operator in front of its operand.
     Prefix(Unary),
-    /// An operator between two, behind this left operand.
+    /// An operator between two, after this left operand.
     Infix(Value, Binary),
-    /// The `?` behind this test.
+    /// The `?` after this test.
     Test(Value),
-    /// The `:` behind this test and this first branch.
+    /// The `:` after this test and this first branch.
     Branch(Value, Value),
 }
 
-/// What the value makes of the last thing that waits, where that binds as tightly as the level.
+/// What the value makes of the last thing that waits, if that binds as tightly as the level.
 fn applied(last: Waiting, level: u32, value: Value) -> Option<Value>
     ensures { result ≡ applied last level value }
 {

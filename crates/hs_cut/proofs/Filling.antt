@@ -59,7 +59,7 @@ none_out true false amount same = absurd cc
 none_out false true amount same = absurd cc
 none_out false false amount same = omega (arith, ints)
 
--- over one edge no more flows out than crossings count, where a slot carries one unit at most
+-- over one edge no more flows out than crossings count, if a slot carries one unit at most
 edge-crosses : (side : Side) (edge : CutEdge) (amount : ℤ) (units : ℕ) → nat_abs amount ≤ cond edge.slot 1 units
     → (IsFalse edge.slot → IsFalse (crosses side edge))
     → out_over side edge amount ≤ℤ pos (cond (crosses side edge) 1 0)
@@ -115,7 +115,7 @@ IsSized-partial network units flow partial few index below = most (edge_at netwo
     most true is = is
     most false is = omega arith
 
--- what must be outside is not what must be inside, where there is a cut
+-- what must be outside is not what must be inside, if there is a cut
 among-apart : (network : Network) (side : Side) (vertex : ℕ) → IsCut network side → among network.outside vertex ≡ true → among network.inside vertex ≡ false
 among-apart network side vertex cut out = split (among network.inside vertex) refl
   where

@@ -118,7 +118,7 @@ pub option_eq-true : (own : Option ℕ) (level : ℕ) → option_eq nat_eq own (
 option_eq-true None level is = absurd cc
 option_eq-true (Some own) level is = ap (λ n. Some n) (eqb-true own level is)
 
--- the same where it fails
+-- the same if it fails
 pub option_eq-false : (own : Option ℕ) (level : ℕ) → option_eq nat_eq own (Some level) ≡ false → own ≡ Some level → ⊥
 option_eq-false None level is same = cc
 option_eq-false (Some own) level is same =

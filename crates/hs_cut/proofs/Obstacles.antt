@@ -33,7 +33,7 @@ uncut_at [] index edge found = absurd cc
 uncut_at (first ∷ edges) zero edge found = let same : first ≡ edge = cc in ap uncut_gate same
 uncut_at (first ∷ edges) (suc index) edge found = uncut_at edges index edge found
 
--- it is open, either way, where the edge is no slot
+-- it is open, either way, if the edge is no slot
 uncut_opens : (edge : CutEdge) (along : Bool) → opens (uncut_gate edge) along ≡ not edge.slot
 uncut_opens edge true = refl
 uncut_opens edge false = refl
@@ -96,7 +96,7 @@ joined-step edges from to is =
           }
     ]
 
--- each step may be gone back
+-- each step can be traversed back
 step-back : (edges : List CutEdge) (from to : ℕ) → IsStep edges (map uncut_gate edges) from to → IsStep edges (map uncut_gate edges) to from
 step-back edges from to step =
     let gate = uncut_at edges step.index step.edge step.found in
@@ -139,7 +139,7 @@ alike None (Some level) there back = absurd (back level refl)
 alike (Some level) None there back = absurd (there level refl)
 alike (Some level) (Some own) there back = refl
 
--- where nothing that must be inside has a level, the vertices without one are a cut
+-- if nothing that must be inside has a level, the vertices without one are a cut
 pub IsCut-unreached : (network : Network) (rows : List (Vec Arc Global)) (levels : List (Option ℕ)) → IsGraph network.edges rows
     → AreLevels (map uncut_gate network.edges) rows network.outside levels
     → IsLeastLevel levels network.inside None → IsCut network (λ vertex. is_none (level_at levels vertex))

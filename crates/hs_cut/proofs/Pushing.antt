@@ -100,7 +100,7 @@ pub unit-size : (amount : ℤ) (along : Bool) → nat_abs (with_unit amount alon
 unit-size amount true = omega (arith, ints)
 unit-size amount false = omega (arith, ints)
 
--- where more may flow over a slot, one unit more is one at most
+-- if more may flow over a slot, one unit more is one at most
 pub unit-slot : (edge : CutEdge) (amount : ℤ) (along : Bool) → IsTrue edge.slot → nat_abs amount ≤ 1 → opens (residual edge amount) along ≡ true
     → nat_abs (with_unit amount along) ≤ 1
 unit-slot edge amount true slot small opened =

@@ -156,7 +156,7 @@ IsFrontier-next gates rows starts levels frontier level levels' next old some ma
         came (suc level) own (among (flat_map (next_to gates rows) frontier) vertex) (level_at levels vertex) (level_at levels' vertex)
         (marked.each vertex) is
 
--- where the frontier has no vertex, all levels are there
+-- if the frontier has no vertex, all levels are there
 pub AreLevels-done : (gates : List Gate) (rows : List (Vec Arc Global)) (starts : List ℕ) (levels : List (Option ℕ)) (level : ℕ)
     → IsFrontier gates rows starts levels [] level → AreLevels gates rows starts levels
 AreLevels-done gates rows starts levels level all = record {
@@ -195,7 +195,7 @@ pub no_vertex : (vertices : List ℕ) → length vertices ≡ 0 → vertices ≡
 no_vertex [] none = refl
 no_vertex (vertex ∷ vertices) none = absurd (omega arith)
 
--- where no vertex has a level
+-- if no vertex has a level
 pub level-blank : (count vertex : ℕ) → level_at (replicate count None) vertex ≡ None
 level-blank zero vertex = refl
 level-blank (suc count) zero = refl

@@ -1,4 +1,4 @@
--- Where no more may flow, the vertices that the search reached are the cut that is chosen.
+-- If no more may flow, the vertices that the search reached are the cut that is chosen.
 use Rattle.std.proofs.Common.{◌≡◌, ℕ, ℤ, pos, negsuc, zero, suc, ◌+◌, ◌+ℤ◌, ◌-ℤ◌, ◌<◌, ◌≤◌, Bool, true, false, cond, not, ◌||◌, List, [], ◌∷◌, Option, None, Some, length, nat_abs, get_or, refl, ap, sym, ◌∙◌, arith, is_some}
 use Rattle.std.specs.Prelude.{int_lt}
 use Rattle.std.specs.Bool.{IsTrue}
@@ -112,7 +112,7 @@ full-against edge amount small shut_ = split edge.slot refl
         grind (arith, ints)
     split false is = absurd (let opened = slotless-opens edge amount false is in cc)
 
--- one unit out where the edge crosses, and nothing elsewhere
+-- one unit out if the edge crosses, and nothing elsewhere
 edge-full : (from to : Bool) (edge : CutEdge) (amount : ℤ) → nat_abs amount ≤ most edge → (opens (residual edge amount) true ≡ true → from ≡ true → to ≡ true)
     → (opens (residual edge amount) false ≡ true → to ≡ true → from ≡ true) → cond from amount (pos 0) -ℤ cond to amount (pos 0) ≡ pos (cond (xor from to) 1 0)
 unfolding xor

@@ -35,7 +35,7 @@ Contains-cases first rest it (suc index, below, is) = inr (index, omega arith, i
 Contains-later : {X : Type 0} (first : X) (rest : List X) (it : X) → Contains rest it → Contains (first ∷ rest) it
 Contains-later first rest it has = (suc has.0, (let below = has.1 in omega arith), has.2)
 
--- a list of one, where it is there
+-- a list of one, if it is there
 Contains-cond : {X : Type 0} (is_there : Bool) (one it : X) → Contains (cond is_there (one ∷ []) []) it → (is_there ≡ true) × (one ≡ it)
 Contains-cond true one it has = elim (Contains-cases one [] it has) [ inl same ↦ (refl, same) | inr none ↦ absurd (let below = none.1 in omega arith) ]
 Contains-cond false one it has = absurd (let below = has.1 in omega arith)

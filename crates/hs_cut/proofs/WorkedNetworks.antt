@@ -1,6 +1,6 @@
 -- Small networks, worked by hand: what fits, what is not conserved, and what stands in the way of a cut.
 --     the_row        0 - 1 - 2 - 3, the last two held together: cut around 1
---     held           the same, where 1 and 2 are held together and 2 must be outside: no cut
+--     held           the same, if 1 and 2 are held together and 2 must be outside: no cut
 --     square         two ways from 0 to 3: two edges cross
 --     torn           a vertex that must be inside and outside: no cut
 use Rattle.std.proofs.Common.{◌≡◌, ℕ, zero, suc, ◌<◌, ◌≤◌, ℤ, pos, negsuc, nat_abs, true, false, List, [], ◌∷◌, IsTrue, IsFalse, nat_eq, refl, sym, arith, zip, true≢false}

@@ -1,7 +1,7 @@
 -- What flows out of a cut: as much as out of the vertices that must be inside, and no more than edges cross.
 --     net_out-idle                        vertices without a demand add nothing
 --     net_out-cut, net_out-inside         a cut and the vertices that must be inside
---     cut_carries_out, cut_carries_in     where as much flows out of these as edges cross, each that crosses carries one unit out
+--     cut_carries_out, cut_carries_in     if as much flows out of these as edges cross, each that crosses carries one unit out
 use Rattle.std.proofs.Common.{◌≡◌, ℕ, zero, suc, ◌<◌, ◌≤◌, ℤ, pos, negsuc, ◌+ℤ◌, ◌≤ℤ◌, Bool, true, false, not, ◌&&◌, ◌||◌, List, length, IsTrue, IsFalse, nat_eq, nat_lt, get_or, refl, ap, sym, ◌∙◌, subst, arith, All, Any, le_refl}
 use Rattle.std.proofs.lemmas.Int.{ints}
 use Rattle.std.proofs.lemmas.Bool.{eqb-true}

@@ -1,7 +1,7 @@
 -- The way down the levels of a search, to the least vertex each time; and the gates of the edges that may not be crossed.
---     uncut_gate edge                      open both ways where the edge is no slot
---     IsLeastAt levels level vertices ..   the least of the vertices that has this level, where one has it
---     IsLeastLevel levels vertices ..      the least level of the vertices, where one has a level
+--     uncut_gate edge                      open both ways if the edge is no slot
+--     IsLeastAt levels level vertices ..   the least of the vertices that has this level, if one has it
+--     IsLeastLevel levels vertices ..      the least level of the vertices, if one has a level
 --     Descends .. level path               a way from a vertex of this level, each time to the least vertex of the level below
 use Rattle.std.specs.Prelude.{◌≡◌, ℕ, suc, ◌≤◌, min, not, List, [], ◌∷◌, Option, None, Some, IsTrue}
 use Rattle.std.specs.declared.vec.Vec.{Vec}
@@ -12,7 +12,7 @@ use Rattle.hs_cut.specs.declared.graph.Arc.{Arc}
 use Rattle.hs_cut.specs.declared.levels.Gate.{Gate}
 use Rattle.hs_cut.specs.declared.network.CutEdge.{CutEdge}
 
--- what may not be crossed may be gone, either way
+-- what may not be crossed can be traversed, either way
 abbrev pub uncut_gate : CutEdge → Gate
 uncut_gate edge = record { along = not edge.slot; against = not edge.slot }
 
@@ -25,7 +25,7 @@ abbrev pub IsLeastAt : List (Option ℕ) → ℕ → List ℕ → Option ℕ →
 IsLeastAt levels level vertices None = (vertex : ℕ) → IsAt levels level vertices vertex → ⊥
 IsLeastAt levels level vertices (Some least) = IsAt levels level vertices least × ((vertex : ℕ) → IsAt levels level vertices vertex → least ≤ vertex)
 
--- the arc may be gone, and leads to a vertex of the level
+-- the arc can be traversed, and leads to a vertex of the level
 abbrev pub LeadsTo : List Gate → List (Option ℕ) → ℕ → Arc → Type 0
 LeadsTo gates levels level arc = (level_at levels arc.to ≡ Some level) × IsTrue (is_open gates arc)
 

@@ -25,7 +25,7 @@ least network side flow numbered fits = record {
   least = λ other cut. fewest network side other flow numbered fits cut;
 }
 
--- where there is a cut, nothing stands in its way
+-- if there is a cut, nothing stands in its way
 pub no_obstacle : (network : Network) (side : Side) (vertices : List ℕ) → IsCut network side → IsObstacle network vertices → ⊥
 no_obstacle network side [] cut obstacle = obstacle.way
 no_obstacle network side (one ∷ vertices) cut obstacle =

@@ -1,7 +1,7 @@
--- Where as much flows out of a set as edges cross it, each edge that crosses carries one unit out.
---     IsFilled side edge amount          the edge takes one out where it crosses, and nothing elsewhere
---     out_over-filled                    each edge is filled, where as much flows out as edges cross
---     carries_out, carries_in            what flows over an edge that leaves or enters, where as much flows out as edges cross
+-- If as much flows out of a set as edges cross it, each edge that crosses carries one unit out.
+--     IsFilled side edge amount          the edge takes one out if it crosses, and nothing elsewhere
+--     out_over-filled                    each edge is filled, if as much flows out as edges cross
+--     carries_out, carries_in            what flows over an edge that leaves or enters, if as much flows out as edges cross
 use Rattle.std.proofs.Common.{◌≡◌, ℕ, zero, suc, ◌+◌, ◌<◌, ◌≤◌, ℤ, pos, negsuc, ◌+ℤ◌, ◌-ℤ◌, ◌≤ℤ◌, nat_abs, Bool, true, false, cond, List, [], ◌∷◌, length, IsTrue, IsFalse, get_or, ap, ◌∙◌, arith, zip}
 use mathlib.Core.Bool.{xor}
 use Rattle.std.proofs.lemmas.Int.{ints}
@@ -18,11 +18,11 @@ first_part one rest a b low short same = omega (arith, ints)
 second_part : (one rest : ℤ) (a b : ℕ) → (one ≤ℤ pos a) → (rest ≤ℤ pos b) → one +ℤ rest ≡ pos (a + b) → rest ≡ pos b
 second_part one rest a b low short same = omega (arith, ints)
 
--- the edge takes one out where it crosses, and nothing elsewhere
+-- the edge takes one out if it crosses, and nothing elsewhere
 abbrev pub IsFilled : Side → CutEdge → ℤ → Type 0
 IsFilled side edge amount = out_over side edge amount ≡ pos (cond (crosses side edge) 1 0)
 
--- where as much flows out as edges cross, each edge does
+-- if as much flows out as edges cross, each edge does
 pub out_over-filled : (side : Side) (edges : List CutEdge) (flow : List ℤ) → AreSized edges flow → CrossSlots side edges
     → net_out side edges flow ≡ pos (crossings side edges) → (i : ℕ) (none : CutEdge) (default : ℤ) → i < length edges → i < length flow
     → IsFilled side (get_or edges i none) (get_or flow i default)

@@ -1,4 +1,4 @@
--- What levels say of walks: each vertex has as its level the steps of the shortest walk to it, and where it has none, no
+-- What levels say of walks: each vertex has as its level the steps of the shortest walk to it, and if it has none, no
 -- walk leads to it.
 --     Reaches gates rows starts vertex steps    a walk of so many steps leads from a start to the vertex
 use Rattle.std.specs.Prelude.{◌≡◌, ℕ, zero, suc, ◌≤◌, List, Option, None, Some, IsTrue}
@@ -33,7 +33,7 @@ within-more : (own : Option ℕ) (steps more_ : ℕ) → IsWithinLevel steps own
 within-more None steps more_ is low = is
 within-more (Some it) steps more_ is low = let below : it ≤ steps = is in omega arith
 
--- and no walk is shorter; so where a vertex has no level, there is none
+-- and no walk is shorter; so if a vertex has no level, there is none
 pub walk-level : (gates : List Gate) (rows : List (Vec Arc Global)) (starts : List ℕ) (levels : List (Option ℕ)) → AreLevels gates rows starts levels
     → (steps vertex : ℕ) → Reaches gates rows starts vertex steps → IsWithinLevel steps (level_at levels vertex)
 walk-level gates rows starts levels all zero vertex walk = rw (all.first vertex walk) (omega arith)

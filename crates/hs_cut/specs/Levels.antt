@@ -1,10 +1,10 @@
 -- The levels of a search: how few steps lead from a set of vertices to each vertex. A gate says of an edge which ways it
--- may be gone.
+-- can be traversed.
 --     opens gate along                  the gate is open that way
 --     is_open gates arc                 the gate of the arc's edge is open the arc's way
 --     targets gates arcs                where the open ones of the arcs lead
 --     next_to gates rows vertex         where one step from the vertex leads
---     level_at levels vertex            the level of the vertex, where it has one
+--     level_at levels vertex            the level of the vertex, if it has one
 --     HaveLevels levels vertices        the vertices are those that have a level
 --     IsMarked level vertices ..        the vertices without a level got this one
 --     AreLevels gates rows starts levels    each vertex has as its level the fewest steps that lead to it
@@ -52,7 +52,7 @@ IsInside vertices edges arc = (arc.to < vertices) × (arc.edge < edges)
 abbrev pub AreInside : ℕ → List (Vec Arc Global) → Type 0
 AreInside edges rows = (vertex : ℕ) → All (IsInside (length rows) edges) (arcs_from rows vertex)
 
--- the level that the vertex had, or the new one where it is one of these
+-- the level that the vertex had, or the new one if it is one of these
 abbrev pub level_after : ℕ → Bool → Option ℕ → Option ℕ
 level_after level is_one (Some before) = Some before
 level_after level is_one None = cond is_one (Some level) None

@@ -54,7 +54,7 @@ pub record IsPartial (network : Network) (units : ℕ) (flow : List ℤ) : Type 
 abbrev pub with_unit : ℤ → Bool → ℤ
 with_unit amount along = amount +ℤ cond along (pos 1) (negsuc 0)
 
--- one where it holds
+-- one if it holds
 abbrev pub count : Bool → ℤ
 count is = cond is (pos 1) (pos 0)
 

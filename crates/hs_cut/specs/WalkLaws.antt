@@ -14,7 +14,7 @@ use Rattle.hs_cut.specs.Walks.{IsWayOut, joins, is_joined}
 use Rattle.hs_cut.specs.NetOut.{CrossSlots}
 use Rattle.hs_cut.specs.CutFlows.{holds-among}
 
--- where an edge does not cross, its ends are on one side
+-- if an edge does not cross, its ends are on one side
 pub alike : (one other : Bool) → xor one other ≡ false → one ≡ other
 unfolding xor
 alike true true apart = refl
@@ -22,7 +22,7 @@ alike true false apart = cc
 alike false true apart = cc
 alike false false apart = refl
 
--- the two vertices that an edge joins are on one side, where it does not cross
+-- the two vertices that an edge joins are on one side, if it does not cross
 pub joins-alike : (side : Side) (edge : CutEdge) (one other : ℕ) → IsTrue (joins edge one other) → IsFalse (crosses side edge)
     → side one ≡ side other
 joins-alike side edge one other is apart =

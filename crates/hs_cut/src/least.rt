@@ -23,8 +23,8 @@ use std::alloc::Global;
 ///
 /// # Errors
 ///
-/// `NoCut` exactly where edges without a slot join what must be inside to what must be outside, with the least of the
-/// shortest such paths; `NoMemory` where memory runs out.
+/// `NoCut` exactly if edges without a slot join what must be inside to what must be outside, with the least of the
+/// shortest such paths; `NoMemory` if memory runs out.
 pub fn best_cut(alloc: Global, network: &Network) -> Result<Cut, CutEnd>
     requires numbered { IsNumbered network.now }
     requires countable { length network.now.edges < 2147483648 }

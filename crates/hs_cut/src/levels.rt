@@ -5,7 +5,7 @@ use crate::graph::Arc;
 use hs_base::NoMemory;
 use std::alloc::Global;
 
-/// Which ways an edge may be gone.
+/// Which ways an edge can be traversed.
 #[derive(Debug, Clone, Copy, PartialEq, Eq)]
 pub(crate) struct Gate {
     /// From its begin to its end.
@@ -15,7 +15,7 @@ pub(crate) struct Gate {
 }
 
 impl Gate {
-    /// Whether it may be gone that way.
+    /// Whether it can be traversed that way.
     pub(crate) fn opens(self, along: bool) -> bool
         ensures { result ≡ opens self along }
     {
@@ -23,7 +23,7 @@ impl Gate {
     }
 }
 
-/// Whether the arc may be gone.
+/// Whether the arc can be traversed.
 pub(crate) fn is_open(gates: &[Gate], arc: Arc) -> bool
     requires known { arc.edge < length gates.now }
     ensures { result ≡ is_open gates.now arc }
@@ -31,7 +31,7 @@ pub(crate) fn is_open(gates: &[Gate], arc: Arc) -> bool
     gates[arc.edge].opens(arc.along)
 }
 
-/// The levels of all vertices in a search by breadth from the starts, over the arcs that may be gone.
+/// The levels of all vertices in a search by breadth from the starts, over the arcs that can be traversed.
 pub(crate) fn levels_from(
     alloc: Global,
     rows: &[Vec<Arc>],
@@ -119,7 +119,7 @@ fn mark_row(
     Ok(())
 }
 
-/// Gives the vertex this level and puts it to the next ones, where it has no level.
+/// Gives the vertex this level and puts it to the next ones, if it has no level.
 fn mark(
     vertex: u32,
     level: u32,

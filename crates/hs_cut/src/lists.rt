@@ -34,7 +34,7 @@ impl CutEdges {
     }
 }
 
-/// What flows over each edge, in the order of the edges: along it where the number is positive, against it where it is
+/// What flows over each edge, in the order of the edges: along it if the number is positive, against it if it is
 /// negative.
 #[derive(Debug, Drop)]
 pub struct Flow {

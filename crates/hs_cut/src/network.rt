@@ -1,7 +1,7 @@
 use crate::lists::CutEdges;
 use hs_base::Numbers;
 
-/// An edge between two vertices. A cut may cross it where it is a slot.
+/// An edge between two vertices. A cut may cross it if it is a slot.
 #[derive(Debug, Clone, Copy, PartialEq, Eq)]
 pub struct CutEdge {
     /// The vertex where it begins.

@@ -12,7 +12,7 @@ use hs_base::NoMemory;
 use std::alloc::Global;
 
 /// The least of the shortest paths from what must be inside to what must be outside, over edges that may not be crossed.
-/// There is none exactly where there is a cut.
+/// There is none exactly if there is a cut.
 pub(crate) fn least_obstacle(
     alloc: Global,
     network: &Network,
@@ -45,7 +45,7 @@ pub(crate) fn least_obstacle(
     Ok(Some(path))
 }
 
-/// The gates of the edges: open, both ways, where the edge may not be crossed.
+/// The gates of the edges: open, both ways, if the edge may not be crossed.
 fn uncut_gates(alloc: Global, edges: &[CutEdge]) -> Result<Vec<Gate>, NoMemory>
     ensures { IfOk result (λ gates. gates.items ≡ map uncut_gate edges.now) }
 {

@@ -180,7 +180,7 @@ fn networks_without_a_cut_have_this_obstacle(rt: HostRuntime) -> Result<(), Fail
     Ok(())
 }
 
-// Where one flow fits, it is that one: against the first edge, and on to the last vertex.
+// If one flow fits, it is that one: against the first edge, and on to the last vertex.
 #[test]
 fn the_flow_leaves_over_both_slots(rt: HostRuntime) -> Result<(), Fail> {
     let alloc = rt.alloc();

@@ -31,24 +31,24 @@ use Rattle.hs_decl_parser.specs.declared.words.StatementWord.TheVariants.{If, Wh
 
 -- ---- branches
 
--- what is made of the statement behind an `else`
+-- what is made of the statement after an `else`
 abbrev made_if_else : Place → Expression → Statement → Statement × List SourceToken → Read Statement
 made_if_else at test taken otherwise = Some (tree.if_else at test taken otherwise.0, otherwise.1)
 
--- what is read behind the first statement, by whether an `else` is in front
+-- what is read after the first statement, by whether an `else` is in front
 abbrev if_by : Shorter → Place → Expression → Statement → List SourceToken → Read Place → Read Statement
 if_by table at test taken tokens found =
     going_on found (λ word others. table goal.statement others >>= made_if_else at test taken) (Some (tree.if_ at test taken, tokens))
 
--- and so behind what was read of it
+-- and so after what was read of it
 abbrev if_then : Shorter → Place → Expression → Statement × List SourceToken → Read Statement
 if_then table at test taken = if_by table at test taken.0 taken.1 (keyword_at (codes "else") taken.1)
 
--- what is read behind the test
+-- what is read after the test
 abbrev if_behind : Shorter → Place → Expression × List SourceToken → Read Statement
 if_behind table at test = table goal.statement test.1 >>= if_then table at test.0
 
--- a test, and a statement with no `else` behind it
+-- a test, and a statement with no `else` after it
 if_reads : {known : Known} {table : Shorter} → Whole known table → (at it : Place) (test : Expression) (body : Statement)
     (tokens front left rest : List SourceToken) → it ≡ at → tokens ≡ front ++ left → IsOf (test_form known test) front
     → statement_rule known table left ≡ Some (body, rest) → is_else_ahead rest ≡ false → if_rule known table it tokens ≡ Some (tree.if_ at test body, rest)
@@ -69,7 +69,7 @@ if_all {known = known} {table = table} whole at test body reads front rest fits 
     if_reads whole at (place_of word.source) test body (word.others ++ rest) parts.front (parts.back ++ rest) rest word.at (parts.whole rest) parts.first
     ((reads parts.back rest parts.second).exact (λ open'. closed refl)) (closed refl)))
 
--- a statement that does not end open may have an `else` behind it
+-- a statement that does not end open may have an `else` after it
 never : (it : Bool) (rest : List SourceToken) → not it ≡ true → it ≡ true → is_else_ahead rest ≡ false
 never true rest shut open' = absurd cc
 never false rest shut open' = absurd cc
@@ -113,7 +113,7 @@ if_else_all {known = known} {table = table} whole at test taken otherwise reads 
 abbrev made_while : Place → Expression → Statement × List SourceToken → Read Statement
 made_while at test body = Some (tree.while_ at test body.0, body.1)
 
--- what is read behind its test
+-- what is read after its test
 abbrev while_behind : Shorter → Place → Expression × List SourceToken → Read Statement
 while_behind table at test = table goal.statement test.1 >>= made_while at test.0
 
@@ -141,15 +141,15 @@ while_all {known = known} {table = table} whole at test body reads front rest fi
 abbrev made_do : Place → Statement → Expression → Place × List SourceToken → Read Statement
 made_do at body test end = Some (tree.do_ at body test, end.1)
 
--- what is read behind its test
+-- what is read after its test
 abbrev do_tested : Place → Statement → Expression × List SourceToken → Read Statement
 do_tested at body test = mark_at (codes ";") test.1 >>= made_do at body test.0
 
--- behind its `while`
+-- after its `while`
 abbrev do_then : Known → Place → Statement → Place × List SourceToken → Read Statement
 do_then known at body word = test_rule known word.1 >>= do_tested at body
 
--- behind its body
+-- after its body
 abbrev do_behind : Known → Place → Statement × List SourceToken → Read Statement
 do_behind known at body = keyword_at (codes "while") body.1 >>= do_then known at body.0
 
@@ -166,7 +166,7 @@ do_reads {known = known} {table = table} whole at it body test while' end tokens
     ∙ ap (λ found. found >>= made_do it body test) (mark_reads (codes ";") end rest ends)
     ∙ ap (λ at. Some (tree.do_ at body test, rest)) same
 
--- with a test behind
+-- with a test after it
 pub do_all : {known : Known} {table : Shorter} → Whole known table → (at : Place) (body : Statement) (test : Expression) → ReadsStatement known table body
     → ReadsStatement known table (tree.do_ at body test)
 do_all {known = known} {table = table} whole at body test reads front rest fits =
@@ -189,25 +189,25 @@ do_all {known = known} {table = table} whole at body test reads front rest fits 
 abbrev made_controls : Option Expression → Option Expression → Option Expression × List SourceToken → Read Controls
 made_controls first test step = Some (record { first = first; test = test; step = step.0 }, step.1)
 
--- what is read behind the second
+-- what is read after the second
 abbrev controls_then : Known → Option Expression → Option Expression × List SourceToken → Read Controls
 controls_then known first test = optional_rule known (codes ")") test.1 >>= made_controls first test.0
 
--- behind the first
+-- after the first
 abbrev controls_behind : Known → Option Expression × List SourceToken → Read Controls
 controls_behind known first = optional_rule known (codes ";") first.1 >>= controls_then known first.0
 
--- behind the `(`
+-- after the `(`
 abbrev controls_inside : Known → Place × List SourceToken → Read Controls
 controls_inside known opening = optional_rule known (codes ";") opening.1 >>= controls_behind known
 
--- the three, and what stands behind them
+-- the three, and what follows them
 record ControlsRead (known : Known) (first test step : Option Expression) (form : Form) (sources : List SourceToken) : Type 0 where
   others : List SourceToken
   reads : (rest : List SourceToken) → controls_rule known (sources ++ rest) ≡ Some (record { first = first; test = test; step = step }, others ++ rest)
   fits : IsOf form others
 
--- behind a `(`
+-- after a `(`
 controls_by : (known : Known) (first test step : Option Expression) (opening : SourceToken) (tokens one two three rest : List SourceToken)
     → tokens ≡ opening ∷ one → opening ≡ with_text Punctuator (codes "(") opening → optional_rule known (codes ";") one ≡ Some (first, two)
     → optional_rule known (codes ";") two ≡ Some (test, three) → optional_rule known (codes ")") three ≡ Some (step, rest)
@@ -219,7 +219,7 @@ controls_by known first test step opening tokens one two three rest same is read
     ∙ ap (λ found. found >>= controls_then known first) next
     ∙ ap (λ found. found >>= made_controls first test) last
 
--- where their tokens stand in front
+-- if their tokens stand in front
 controls_read : (known : Known) (first test step : Option Expression) (form : Form) (sources : List SourceToken)
     → IsOf (mark (codes "(") ⨾ optional_form known first ⨾ mark (codes ";") ⨾ optional_form known test ⨾ mark (codes ";")
     ⨾ optional_form known step ⨾ mark (codes ")") ⨾ form) sources → ControlsRead known first test step form sources
@@ -242,7 +242,7 @@ controls_read known first test step form sources fits =
 abbrev made_for : Place → Controls → Statement × List SourceToken → Read Statement
 made_for at controls body = Some (tree.for_ at controls.first controls.test controls.step body.0, body.1)
 
--- what is read behind the `)`
+-- what is read after the `)`
 abbrev for_behind : Shorter → Place → Controls × List SourceToken → Read Statement
 for_behind table at controls = table goal.statement controls.1 >>= made_for at controls.0
 
@@ -279,19 +279,19 @@ statements_again (tree.more_statements labels it rest) = ap (tree.more_statement
 abbrev made_compound : Place → List Declaration → List OneStatement → Place × List SourceToken → Read Compound
 made_compound at declarations statements close = Some (tree.compound at declarations (statements_from statements) close.0, close.1)
 
--- what is read behind the statements
+-- what is read after the statements
 abbrev compound_then : Place → List Declaration → List OneStatement × List SourceToken → Read Compound
 compound_then at declarations statements = mark_at (codes "}") statements.1 >>= made_compound at declarations statements.0
 
--- behind the declarations
+-- after the declarations
 abbrev compound_behind : Shorter → Place → List Declaration × List SourceToken → Read Compound
 compound_behind table at declarations = table (goal.statements []) declarations.1 >>= compound_then at declarations.0
 
--- behind the `{`
+-- after the `{`
 abbrev compound_inside : Shorter → Place × List SourceToken → Read Compound
 compound_inside table opening = inner_rule table opening.0 opening.1
 
--- behind a `{`
+-- after a `{`
 compound_reads : {known : Known} {table : Shorter} → Whole known table → (at closing : Place) (declarations : List Declaration) (its : Statements)
     (brace close : SourceToken) (tokens inside left rest : List SourceToken) → place_of brace ≡ at → place_of close ≡ closing → tokens ≡ brace ∷ inside
     → brace ≡ with_text Punctuator (codes "{") brace → declarations_rule known table [] inside ≡ Some (declarations, left)

@@ -1,8 +1,8 @@
 -- The rules of declarations give what is in the grammar, over a table that does.
---     initialiser_found, initialisers_found      an initialiser, and more behind earlier ones
---     items_found                                declarators behind earlier ones
---     declared_found, bare_found                 a declaration, behind its specifiers
---     declarations_found                         declarations behind earlier ones
+--     initialiser_found, initialisers_found      an initialiser, and more after earlier ones
+--     items_found                                declarators after earlier ones
+--     declared_found, bare_found                 a declaration, after its specifiers
+--     declarations_found                         declarations after earlier ones
 use Rattle.std.proofs.Common.{◌≡◌, true, false, List, [], ◌∷◌, ◌++◌, Some, None, refl, sym, ap, subst, ◌∙◌}
 use Rattle.std.specs.Prelude.{codes, Bool, ◌&&◌}
 use Rattle.std.proofs.lemmas.List.{append-nil}
@@ -31,7 +31,7 @@ use Rattle.hs_decl_parser.proofs.TablesFound.{Adds, none_added, one_added, initi
 
 -- ---- forms
 
--- three forms, where the first two are found together
+-- three forms, if the first two are found together
 pub grouped : (one two three : Form) (tokens middle rest : List SourceToken) → Begins (one ⨾ two) tokens middle → Begins three middle rest
     → Begins (one ⨾ (two ⨾ three)) tokens rest
 grouped one two three tokens middle rest first second =
@@ -46,7 +46,7 @@ items_split known it (next ∷ rest) =
     ap (λ (others : Form). own ⨾ (start ⨾ (mark (codes ",") ⨾ others))) (items_split known next rest)
     ∙ sym (form_again own start (mark (codes ",") ⨾ (item_form known next ⨾ more_items_form known rest)))
 
--- the last initialiser, with a comma behind it or not
+-- the last initialiser, with a comma after it or not
 last_initialiser : (known : Known) (it : Initialising) (comma : Bool) (tokens middle rest : List SourceToken) → Begins (initialiser_form known it) tokens middle
     → Begins (comma_form comma) middle rest → Begins (initialisers_form known (initialisers_from (it ∷ [])) ⨾ comma_form comma) tokens rest
 last_initialiser known it comma tokens middle rest begins behind = then_begins (then_begins begins (nothing_begins middle)) behind
@@ -115,7 +115,7 @@ module _ (known : Known) (table : Shorter) (found : IsFound known table) where
       some_gives (Some it) after (then_begins equals.plain begins)))
       (λ is. some_gives None tokens (nothing_begins tokens))
 
-  -- a declarator with what it starts with, behind the declarator
+  -- a declarator with what it starts with, after the declarator
   behind_found : (declared : Declared) (tokens middle : List SourceToken) → Declares known false declared tokens middle
       → Gives (λ it rest. Begins (item_form known it) tokens rest) (item_behind table declared middle)
   behind_found declared tokens middle declares =
@@ -140,7 +140,7 @@ module _ (known : Known) (table : Shorter) (found : IsFound known table) where
 
   -- ---- declarations
 
-  -- a declaration, behind its specifiers and its first declarator
+  -- a declaration, after its specifiers and its first declarator
   pub declared_found : (specifiers : List Specified) (declared : Declared) (tokens between middle : List SourceToken)
       → SomeSpecified known specifiers tokens between → Declares known false declared between middle
       → Gives (λ it rest. Begins (declaration_form known it) tokens rest) (declared_rule known table specifiers declared middle)

@@ -1,5 +1,5 @@
 -- Declarations are read.
---     specifies                               specifiers up to the phrase behind them
+--     specifies                               specifiers up to the phrase after them
 --     bare_read, declared_read                a declaration without declarators, and one with them
 --     bare_all, declared_all
 --     no_declarations_all, more_declarations_all
@@ -36,26 +36,26 @@ abbrev pub has_pieces : List Piece → Bool
 has_pieces [] = false
 has_pieces (piece ∷ pieces) = true
 
--- where one stands behind others, there is one
+-- if one follows others, there is one
 pub has_more : (pieces others : List Piece) → has_pieces others ≡ true → has_pieces (pieces ++ others) ≡ true
 has_more [] others has = has
 has_more (piece ∷ pieces) others has = refl
 
--- no specifier begins a phrase that stands behind specifiers
+-- no specifier begins a phrase that follows specifiers
 pub none_first : (known : Known) (typed : Bool) (pieces : List Piece) (front rest : List SourceToken) → has_pieces pieces ≡ true
     → begins_none known typed pieces ≡ true → Spells pieces front → is_ahead (begins_specifier known typed) (front ++ rest) ≡ false
 none_first known typed [] front rest has is spells = absurd cc
 none_first known typed (piece ∷ pieces) [] rest has is spells = absurd spells
 none_first known typed (piece ∷ pieces) (source ∷ front) rest has is spells = none_begins known typed (piece ∷ pieces) (source ∷ front) [] is spells refl
 
--- specifiers, and a phrase behind them
+-- specifiers, and a phrase after them
 pub record Specifies (known : Known) (its : Specification) (form : Form) (sources rest : List SourceToken) : Type 0 where
   pub back : List SourceToken
   pub reads : some_specifiers_at known (sources ++ rest) ≡ Some (specifiers_in its, back ++ rest)
   pub begins : is_ahead (begins_specifier known false) (sources ++ rest) ≡ true
   pub fits : IsOf form back
 
--- they are read, where no `{` begins the phrase
+-- they are read, if no `{` begins the phrase
 pub specifies : (known : Known) (its : Specification) (form : Form) (sources rest : List SourceToken) → has_specifiers its ≡ true
     → has_pieces form.pieces ≡ true
     → ((back : List SourceToken) → IsOf form back → is_mark_ahead (codes "{") (back ++ rest) ≡ false)
@@ -112,7 +112,7 @@ end_no_declarator : (known : Known) (source : SourceToken) (others : List Source
 unfolding declarator_at
 end_no_declarator known source others = refl
 
--- where a declarator is read, there is no `{`
+-- if a declarator is read, there is no `{`
 pub declarator_no_brace : (known : Known) (it : Declared) (tokens rest : List SourceToken) → declarator_at known false tokens ≡ Some (it, rest)
     → is_mark_ahead (codes "{") tokens ≡ false
 declarator_no_brace known it tokens rest is = not_ahead (declarator_at known false) Punctuator (codes "{") it tokens rest (brace_no_declarator known) is
@@ -150,13 +150,13 @@ declared_read known table specification it its starts others front rest fits =
 
 -- ---- a declaration
 
--- what is read behind specifiers, by whether a `;` is in front
+-- what is read after specifiers, by whether a `;` is in front
 abbrev declaration_by : Known → Shorter → List Specified → List SourceToken → Read Place → Read Declaration
 declaration_by known table its tokens found =
     going_on found (λ end rest. Some (bare its, rest))
     (declarator_at known false tokens >>= (λ declared. declared_rule known table its declared.0 declared.1))
 
--- and so behind what was read of them
+-- and so after what was read of them
 abbrev declaration_then : Known → Shorter → List Specified × List SourceToken → Read Declaration
 declaration_then known table its = declaration_by known table its.0 its.1 (mark_at (codes ";") its.1)
 
@@ -194,7 +194,7 @@ pub no_declarations_all : (known : Known) (table : Shorter) → ReadsDeclaration
 no_declarations_all known table earlier (source ∷ front) rest fits none = absurd fits.1
 no_declarations_all known table earlier [] rest fits none = rw none (ap (λ its. Some (its, rest)) (sym (append-nil earlier)))
 
--- what is read behind one more
+-- what is read after one more
 abbrev declarations_on : Shorter → List Declaration → Declaration × List SourceToken → Read (List Declaration)
 declarations_on table earlier it = table (goal.declarations (earlier ++ it.0 ∷ [])) it.1
 

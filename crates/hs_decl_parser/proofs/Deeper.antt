@@ -1,6 +1,6 @@
 -- Tokens of phrases that are taken apart further.
 --     deeper        the second of two phrases
---     deeper_one    where it is one token
+--     deeper_one    if it is one token
 --     onwards       all of them
 use Rattle.std.proofs.Common.{◌≡◌, List, [], ◌∷◌, ◌++◌, ap, ◌∙◌}
 use Rattle.hs_tokens.specs.declared.token.SourceToken.{SourceToken}

@@ -1,7 +1,7 @@
--- What is read of a unit is the unit, and the only one of its tokens; where no external declaration is read, none stands in front.
+-- What is read of a unit is the unit, and the only one of its tokens; if no external declaration is read, none stands in front.
 --     external_begins, external_reads     an external declaration, both ways
---     Parsed tokens its rest              the external declarations so far, and the tokens behind them
---     unit_only, stuck_none               the same tokens are one unit at most, and none where the reading is stuck
+--     Parsed tokens its rest              the external declarations so far, and the tokens after them
+--     unit_only, stuck_none               the same tokens are one unit at most, and none if the reading is stuck
 --     stuck_once                          the place at which it is stuck is one
 use Rattle.std.proofs.Common.{◌≡◌, Bool, true, false, List, [], ◌∷◌, ◌++◌, length, take, drop, Some, None, refl, ap, sym, ◌∙◌, subst, append_assoc}
 use Rattle.std.proofs.Math.Seq.{take-append_seam}
@@ -52,7 +52,7 @@ some_not_none it is = cc
 external_some : (known : Known) (it : ExternalDeclaration) → IsOf (external_form known it) [] → ⊥
 external_some known it fits = some_not_none (it, []) (sym (external_reads known it [] [] fits) ∙ external_nothing known)
 
--- where nothing is read, none stands in front
+-- if nothing is read, none stands in front
 pub external_none : (known : Known) (tokens : List SourceToken) → external_at known tokens ≡ None → BeginsNone known tokens
 external_none known tokens is n it fits =
     some_not_none (it, drop n tokens)
@@ -75,7 +75,7 @@ pub names_more : (its : TranslationUnit) (it : ExternalDeclaration) → names_of
 names_more [] it = append-nil (made_by it)
 names_more (first ∷ rest) it = ap (λ names. made_by first ++ names) (names_more rest it) ∙ sym (append_assoc (made_by first) (names_of rest) (made_by it))
 
--- the external declarations so far, and the tokens behind them
+-- the external declarations so far, and the tokens after them
 pub record Parsed (tokens : List SourceToken) (its : TranslationUnit) (rest : List SourceToken) : Type 0 where
   pub front : List SourceToken
   pub whole : tokens ≡ front ++ rest
@@ -102,7 +102,7 @@ pub whole_parsed : (tokens : List SourceToken) (its : TranslationUnit) → Parse
 whole_parsed tokens its parsed =
     subst (λ (sources : List SourceToken). IsUnit sources its) (sym (parsed.whole ∙ append-nil parsed.front)) parsed.is
 
--- the first that is none
+-- the first that is wrong
 pub stuck_parsed : (tokens : List SourceToken) (its : TranslationUnit) (source : SourceToken) (rest : List SourceToken)
     → Parsed tokens its (source ∷ rest) → external_at (names_of its) (source ∷ rest) ≡ None → IsStuck tokens source.token.pos
 stuck_parsed tokens its source rest parsed is = record {
@@ -145,7 +145,7 @@ unit_some known it rest tokens none fits =
     front_empty [] back is = refl
     front_empty (source ∷ front) back is = absurd cc
 
--- What stands in front of the same tokens is one external declaration, with the same tokens behind it.
+-- What stands in front of the same tokens is one external declaration, with the same tokens after it.
 same_first : (known : Known) (it other : ExternalDeclaration) (front back front' back' : List SourceToken) → front ++ back ≡ front' ++ back'
     → IsOf (external_form known it) front → IsOf (external_form known other) front' → (it ≡ other) × (back ≡ back')
 same_first known it other front back front' back' same fits also =
@@ -168,7 +168,7 @@ unit_only known (it ∷ rest) (that ∷ others) tokens fits also =
     (λ i. (sym same.0 i, sym same.1 i)) other.second in
     λ i. same.0 i ∷ unit_only (known ++ made_by it) rest others one.back one.second behind i
 
--- something stands behind
+-- something follows
 not_nothing : (front : List SourceToken) (source : SourceToken) (rest : List SourceToken) → front ++ source ∷ rest ≡ [] → ⊥
 not_nothing [] source rest is = cc
 not_nothing (first ∷ front) source rest is = cc
@@ -180,7 +180,7 @@ stuck_first known tokens it front back is fits none =
     none (length front) it (subst (λ (sources : List SourceToken). IsOf (external_form known it) sources)
     (sym (ap (take (length front)) is ∙ take-append_seam front back)) fits)
 
--- behind external declarations, where none follows, no unit goes on
+-- after external declarations, if none follows, no unit goes on
 stuck_by : (known : Known) (its : TranslationUnit) (front : List SourceToken) (source : SourceToken) (rest : List SourceToken) (other : TranslationUnit)
     → IsOf (unit_form known its) front → BeginsNone (known ++ names_of its) (source ∷ rest) → (tokens : List SourceToken) → tokens ≡ front ++ source ∷ rest
     → IsOf (unit_form known other) tokens → ⊥
@@ -203,7 +203,7 @@ stuck_by known (it ∷ its) front source rest (that ∷ others) fits none tokens
     stuck_by (known ++ made_by it) its one.back source rest others one.second
     (subst (λ (known : Known). BeginsNone known (source ∷ rest)) (sym (append_assoc known (made_by it) (names_of its))) none) other.back (sym same.1) behind
 
--- no unit has these tokens where the reading is stuck
+-- no unit has these tokens if the reading is stuck
 pub stuck_none : (tokens : List SourceToken) (pos : Pos) → IsStuck tokens pos → (it : TranslationUnit) → IsUnit tokens it → ⊥
 stuck_none tokens pos stuck it fits =
     stuck_by [] stuck.externals stuck.front stuck.source stuck.rest it stuck.before stuck.none tokens stuck.whole fits
@@ -212,7 +212,7 @@ stuck_none tokens pos stuck it fits =
 same_head : (source source' : SourceToken) (rest rest' : List SourceToken) → source ∷ rest ≡ source' ∷ rest' → source ≡ source'
 same_head source source' rest rest' is = cc
 
--- Behind external declarations, none follows at one token only.
+-- After external declarations, none follows at one token only.
 once_by : (known : Known) (its its' : TranslationUnit) (front front' : List SourceToken) (source source' : SourceToken) (rest rest' : List SourceToken)
     → IsOf (unit_form known its) front → IsOf (unit_form known its') front' → BeginsNone (known ++ names_of its) (source ∷ rest)
     → BeginsNone (known ++ names_of its') (source' ∷ rest') → front ++ source ∷ rest ≡ front' ++ source' ∷ rest' → source ≡ source'

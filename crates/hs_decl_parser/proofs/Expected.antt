@@ -1,4 +1,4 @@
--- What is shown of each phrase that stands at the front of tokens: it is read, where what follows ends it.
+-- What is shown of each phrase that stands at the front of tokens: it is read, if what follows ends it.
 --     Whole known table            a table that reads by the rules
 --     initialisers_in, ..          the entries of a list
 --     ReadsInitialiser, ..         the phrases
@@ -82,7 +82,7 @@ pub record Starts (known : Known) (tokens : List SourceToken) : Type 0 where
   pub no_else : is_else_ahead tokens ≡ false
   pub inside : is_mark_ahead (codes "}") tokens ≡ false
 
--- a statement, where an `else` behind it is not its own
+-- a statement, if an `else` after it is not its own
 pub record ReadsOne (known : Known) (table : Shorter) (it : Statement) (tokens rest : List SourceToken) : Type 0 where
   pub starts : Starts known tokens
   pub exact : (ends_open it ≡ true → is_else_ahead rest ≡ false) → statement_rule known table tokens ≡ Some (it, rest)

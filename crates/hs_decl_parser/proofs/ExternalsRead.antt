@@ -39,7 +39,7 @@ record FunctionRead (known : Known) (table : Shorter) (declared : Declared) (it 
 abbrev function_form : Known → Declared → Compound → Form
 function_form known declared it = when (is_named declared) (declarator_form known false declared) ⨾ block_form known it
 
--- where they stand in front
+-- if they stand in front
 function_read : (known : Known) (table : Shorter) (declared : Declared) (it : Compound) (front rest : List SourceToken) → ReadsBlock known table it
     → IsOf (function_form known declared it) front → FunctionRead known table declared it (front ++ rest) rest
 function_read known table declared it front rest reads fits =
@@ -67,7 +67,7 @@ function_pieces known declared it = has_more (declarator_form known false declar
 abbrev made_function : List Specified → Declared → Compound × List SourceToken → Read ExternalDeclaration
 made_function specifiers declared body = Some (tree.function_definition (specification_from specifiers) declared body.0, body.1)
 
--- what is read behind its declarator
+-- what is read after its declarator
 abbrev function_behind : Shorter → List Specified → Declared × List SourceToken → Read ExternalDeclaration
 function_behind table specifiers declared = function_rule table specifiers declared.0 declared.1
 
@@ -81,18 +81,18 @@ plain_function_all {known = known} {table = table} whole declared it reads front
     let read = function_read known table declared it front rest reads ends.1 in
     rw none (ap (λ found. found >>= function_behind table []) read.declarator ∙ ap (λ found. found >>= made_function [] declared) read.body)
 
--- ---- behind specifiers
+-- ---- after specifiers
 
--- what is read behind a declarator
+-- what is read after a declarator
 abbrev external_then : Known → Shorter → List Specified → Declared × List SourceToken → Read ExternalDeclaration
 external_then known table its declared = external_behind known table its declared.0 declared.1
 
--- what is read behind specifiers, by whether a `;` is in front
+-- what is read after specifiers, by whether a `;` is in front
 abbrev specified_by : Known → Shorter → List Specified → List SourceToken → Read Place → Read ExternalDeclaration
 specified_by known table its tokens found =
     going_on found (λ end rest. Some (tree.declaration (bare its), rest)) (declarator_at known false tokens >>= external_then known table its)
 
--- and so behind what was read of them
+-- and so after what was read of them
 abbrev specified_then : Known → Shorter → List Specified × List SourceToken → Read ExternalDeclaration
 specified_then known table its = specified_by known table its.0 its.1 (mark_at (codes ";") its.1)
 

@@ -74,7 +74,7 @@ list_all {known = known} {table = table} whole at its comma reads front rest fit
 pub no_initialisers_all : {known : Known} {table : Shorter} → Whole known table → ReadsInitialisers known table tree.no_initialisers
 no_initialisers_all whole earlier comma front rest has fits ends = absurd cc
 
--- behind a comma
+-- after a comma
 abbrev behind_initialiser : Shorter → List Initialising → List SourceToken → Read (List Initialising × Bool)
 behind_initialiser table all rest = if is_mark_ahead (codes "}") rest then Some ((all, true), rest) else table (goal.initialisers all) rest
 
@@ -86,12 +86,12 @@ initialisers_by table all tokens found = going_on found (λ comma rest. behind_i
 abbrev initialisers_then : Shorter → List Initialising → Initialising × List SourceToken → Read (List Initialising × Bool)
 initialisers_then table earlier it = initialisers_by table (earlier ++ it.0 ∷ []) it.1 (mark_at (codes ",") it.1)
 
--- where a comma follows
+-- if a comma follows
 initialisers_comma : (table : Shorter) (earlier : List Initialising) (it : Initialising) (comma : SourceToken) (rest : List SourceToken)
     → comma ≡ with_text Punctuator (codes ",") comma → initialisers_then table earlier (it, comma ∷ rest) ≡ behind_initialiser table (earlier ++ it ∷ []) rest
 initialisers_comma table earlier it comma rest is = ap (initialisers_by table (earlier ++ it ∷ []) (comma ∷ rest)) (mark_reads (codes ",") comma rest is)
 
--- more initialisers behind a comma
+-- more initialisers after a comma
 initialisers_more : {known : Known} {table : Shorter} → Whole known table → (it : Initialising) (its : Initialisers) (earlier : List Initialising)
     (comma : Bool) (two three rest : List SourceToken) → ReadsInitialisers known table its → has_initialisers its ≡ true
     → IsOf (mark (codes ",") ⨾ initialisers_form known its) two → IsOf (comma_form comma) three → is_mark_ahead (codes "}") rest ≡ true

@@ -1,7 +1,7 @@
 -- The declarators of declarations are read.
 --     ReadsStart                      what a declarator starts with
 --     no_start_all, some_start_all
---     no_items_all, more_items_all    more declarators behind a first one
+--     no_items_all, more_items_all    more declarators after a first one
 --     items_read                      the first one, and the others up to the `;`
 use Rattle.std.proofs.Common.{◌≡◌, ℕ, Bool, true, false, List, [], ◌∷◌, ◌++◌, Option, Some, None, refl, ap, sym, ◌∙◌, subst, append_assoc, inl, inr}
 use Rattle.std.specs.Prelude.{◌||◌, codes}
@@ -116,7 +116,7 @@ record ItemRead (known : Known) (table : Shorter) (it : Declaring) (tokens rest 
   start : item_behind table it.declarator back ≡ Some (it, rest)
   no_brace : is_mark_ahead (codes "{") back ≡ false
 
--- where its tokens stand in front
+-- if its tokens stand in front
 item_reads : (known : Known) (table : Shorter) (it : Declaring) (front rest : List SourceToken) → ReadsStart known table it.initialiser
     → IsOf (item_form known it) front → ends_item rest ≡ true → ItemRead known table it (front ++ rest) rest
 item_reads known table it front rest starts fits ends =
@@ -134,7 +134,7 @@ item_reads known table it front rest starts fits ends =
 
 -- ---- more of them
 
--- what is read behind one more
+-- what is read after one more
 abbrev items_on : Shorter → List Declaring → Declaring × List SourceToken → Read (List Declaring)
 items_on table earlier it = table (goal.items (earlier ++ it.0 ∷ [])) it.1
 
@@ -189,11 +189,11 @@ pub record ItemsRead (known : Known) (table : Shorter) (it : Declaring) (its : L
 abbrev made_declaration : List Specified → List Declaring → Declaration
 made_declaration specifiers its = record { specifiers = specification_from specifiers; items = its }
 
--- what is read behind the first of them
+-- what is read after the first of them
 abbrev declared_then : Known → Shorter → List Specified → Declaring × List SourceToken → Read Declaration
 declared_then known table specifiers first = items_rule known table (first.0 ∷ []) first.1 >>= closing (made_declaration specifiers) (codes ";")
 
--- they are read behind it
+-- they are read after it
 declared_by : (known : Known) (table : Shorter) (it : Declaring) (its : List Declaring) (end : SourceToken) (back left rest : List SourceToken)
     → item_behind table it.declarator back ≡ Some (it, left) → items_rule known table (it ∷ []) left ≡ Some (it ∷ its, end ∷ rest)
     → end ≡ with_text Punctuator (codes ";") end → (specifiers : List Specified)
@@ -207,7 +207,7 @@ declarator_along : (known : Known) (it : Declared) (tokens others back : List So
     → declarator_at known false others ≡ Some (it, back) → declarator_at known false tokens ≡ Some (it, back)
 declarator_along known it tokens others back same reads = ap (declarator_at known false) same ∙ reads
 
--- where their tokens stand in front
+-- if their tokens stand in front
 pub items_read : (known : Known) (table : Shorter) (it : Declaring) (its : List Declaring) → ReadsStart known table it.initialiser
     → ReadsItems known table its → (front rest : List SourceToken) → IsOf (items_form known (it ∷ its) ⨾ mark (codes ";")) front
     → ItemsRead known table it its (front ++ rest) rest

@@ -31,7 +31,7 @@ use Rattle.hs_decl_parser.specs.Words.{is_else_ahead, begins_label}
 
 -- ---- labels
 
--- what is read behind one more
+-- what is read after one more
 abbrev labels_on : Shorter → List Labelling → Labelling × List SourceToken → Read (List Labelling)
 labels_on table earlier it = table (goal.labels (earlier ++ it.0 ∷ [])) it.1
 
@@ -44,7 +44,7 @@ no_labels_all known table earlier [] rest fits none = stop rest none
     stop [] none = ap (λ its. Some (its, [])) (sym (append-nil earlier))
     stop (source ∷ others) none = rw none (ap (λ its. Some (its, source ∷ others)) (sym (append-nil earlier)))
 
--- one more label, and others behind it
+-- one more label, and others after it
 one_label : {known : Known} {table : Shorter} → Whole known table → (it : Labelling) (its earlier : List Labelling) (source : SourceToken)
     (others back rest : List SourceToken) → ReadsLabels known table its → begins_label source ≡ true
     → label_rule known source others ≡ Some (it, back ++ rest) → IsOf (labels_form known its) back → is_ahead begins_label rest ≡ false
@@ -55,7 +55,7 @@ one_label {known = known} {table = table} whole it its earlier source others bac
     ∙ more (earlier ++ it ∷ []) back rest fits none
     ∙ ap (λ all. Some (all, rest)) (append_assoc earlier (it ∷ []) its))
 
--- what is read behind a `case`
+-- what is read after a `case`
 abbrev case_behind : Known → Place → List SourceToken → Read Labelling
 case_behind known at rest = conditional_at known rest >>= closing (tree.case_ at) (codes ":")
 
@@ -132,15 +132,15 @@ labels_unclosed known (tree.default_ at ∷ its) front rest fits unclosed =
 
 -- ---- statements with their labels
 
--- what is read behind one more
+-- what is read after one more
 abbrev statements_on : Shorter → List OneStatement → OneStatement × List SourceToken → Read (List OneStatement)
 statements_on table earlier it = table (goal.statements (earlier ++ it.0 ∷ [])) it.1
 
--- what is made of a statement behind its labels
+-- what is made of a statement after its labels
 abbrev made_labelled : List Labelling → Statement × List SourceToken → Read OneStatement
 made_labelled labels it = Some (one_statement labels it.0, it.1)
 
--- what is read behind labels
+-- what is read after labels
 abbrev labelled_behind : Known → Shorter → List Labelling × List SourceToken → Read OneStatement
 labelled_behind known table labels = statement_rule known table labels.1 >>= made_labelled labels.0
 

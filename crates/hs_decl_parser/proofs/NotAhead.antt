@@ -226,7 +226,7 @@ pub record Unclosed (known : Known) (tokens : List SourceToken) : Type 0 where
   pub no_else : is_else_ahead tokens ≡ false
   pub inside : is_mark_ahead (codes "}") tokens ≡ false
 
--- a `case` is none of them
+-- a `case` is not one of them
 pub case_unclosed : (known : Known) (source : SourceToken) (rest : List SourceToken) → source ≡ with_text Identifier (codes "case") source
     → Unclosed known (source ∷ rest)
 unfolding specifier_words

@@ -1,4 +1,4 @@
--- Each rule reads the same where it may ask the table about shorter lists alone: it asks about no others.
+-- Each rule reads the same if it may ask the table about shorter lists alone: it asks about no others.
 --     rule_alike       a rule over shorter lists alone
 --     whole, round     so the reading is a table that reads by the rules
 use Rattle.std.proofs.Common.{◌≡◌, ℕ, zero, suc, ◌<◌, ◌≤◌, Bool, true, false, List, [], ◌∷◌, ◌++◌, length, Option, Some, None, ◌∙◌, arith}
@@ -165,7 +165,7 @@ module _ (known : Known) (limit : ℕ) (table : Shorter) (shorts : Short table) 
 
   -- ---- statements
 
-  -- a compound statement, behind its `{`
+  -- a compound statement, after its `{`
   inner : (at : Place) (rest : List SourceToken) → length rest < limit
       → Alike (suc (length rest)) (inner_rule (below limit table) at rest) (inner_rule table at rest)
   inner at rest low =

@@ -61,7 +61,7 @@ reading_found known = fixed_always (Takes known) (rule known) (rule_found known)
 -- ---- external declarations
 
 module _ (known : Known) (table : Shorter) (found : IsFound known table) where
-  -- a function, behind its specifiers and its declarator
+  -- a function, after its specifiers and its declarator
   function_found : (its : List Specified) (declared : Declared) (tokens between middle : List SourceToken) → SomeSpecified known its tokens between
       → Declares known false declared between middle
       → Gives (λ it rest. Begins (external_form known it) tokens rest) (function_rule table its declared middle)
@@ -71,7 +71,7 @@ module _ (known : Known) (table : Shorter) (found : IsFound known table) where
       (followed known its (when (is_named declared) (declarator_form known false declared) ⨾ block_form known body) tokens between rest specified
       (then_begins (when_begins (declares.named refl) declares.begins) block)))
 
-  -- a function without specifiers, behind its declarator
+  -- a function without specifiers, after its declarator
   unspecified_found : (declared : Declared) (tokens middle : List SourceToken) → is_ahead (begins_specifier known false) tokens ≡ false
       → Declares known false declared tokens middle
       → Gives (λ it rest. Begins (external_form known it) tokens rest) (function_rule table [] declared middle)
@@ -82,7 +82,7 @@ module _ (known : Known) (table : Shorter) (found : IsFound known table) where
       some_gives (tree.function_definition tree.no_specifiers declared body) rest
       (then_begins (nothing_begins tokens) (when_begins (ends_there known false whole tokens rest begins unbegun) begins)))
 
-  -- a function or a declaration, behind its first declarator
+  -- a function or a declaration, after its first declarator
   behind_found : (its : List Specified) (declared : Declared) (tokens between middle : List SourceToken) → SomeSpecified known its tokens between
       → Declares known false declared between middle
       → Gives (λ it rest. Begins (external_form known it) tokens rest) (external_behind known table its declared middle)

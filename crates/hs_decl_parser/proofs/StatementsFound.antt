@@ -1,8 +1,8 @@
 -- The rules of statements give what is in the grammar, over a table that does.
---     statement_found       a statement, and an `else` behind it is not its own
+--     statement_found       a statement, and an `else` after it is not its own
 --     block_found           a compound statement
---     labels_found          labels behind earlier ones
---     statements_found      labelled statements behind earlier ones
+--     labels_found          labels after earlier ones
+--     statements_found      labelled statements after earlier ones
 use Rattle.std.proofs.Common.{◌≡◌, ℕ, true, false, List, [], ◌∷◌, ◌++◌, Some, None, refl, sym, ap, subst, ◌∙◌}
 use Rattle.std.specs.Prelude.{codes, Bool, Option, not, ◌||◌, option_map}
 use Rattle.hs_tokens.specs.declared.token.SourceToken.{SourceToken}
@@ -62,7 +62,7 @@ else_there (source ∷ others) at rest is = given (is_keyword (codes "else") sou
     given true is = refl
     given false is = absurd cc
 
--- where none is read, none stands there
+-- if none is read, none stands there
 no_else : (tokens : List SourceToken) → keyword_at (codes "else") tokens ≡ None → is_else_ahead tokens ≡ false
 no_else [] is = refl
 no_else (source ∷ others) is = given (is_keyword (codes "else") source) is
@@ -119,7 +119,7 @@ test_found known tokens =
     then_gives _ _ (mark_gives (codes ")") middle) (λ close after closing.
     some_gives e after (then_begins opening.plain (then_begins inside closing.plain)))))
 
--- an expression or none, and the punctuator behind it
+-- an expression or none, and the punctuator after it
 optional_found : (known : Known) (text : List ℕ) (tokens : List SourceToken)
     → Gives (λ e rest. Begins (optional_form known e ⨾ mark text) tokens rest) (optional_rule known text tokens)
 optional_found known text tokens =
@@ -170,7 +170,7 @@ label_found known source rest begins =
 module _ (known : Known) (table : Shorter) (found : IsFound known table) where
   -- ---- compound statements
 
-  -- behind its `{`
+  -- after its `{`
   inner_found : (at : Place) (tokens rest : List SourceToken) → Begins (form.mark_at at (codes "{")) tokens rest
       → Gives (λ it after. Begins (block_form known it) tokens after) (inner_rule table at rest)
   inner_found at tokens rest opening =
@@ -190,7 +190,7 @@ module _ (known : Known) (table : Shorter) (found : IsFound known table) where
 
   -- ---- statements
 
-  -- behind an `if`
+  -- after an `if`
   if_found : (at : Place) (tokens rest : List SourceToken) → Begins (form.keyword_at at (codes "if")) tokens rest
       → Gives (λ it after. Stated known it tokens after) (if_rule known table at rest)
   if_found at tokens rest word =
@@ -208,7 +208,7 @@ module _ (known : Known) (table : Shorter) (found : IsFound known table) where
         closed = λ ends. no_else behind is;
       }))))
 
-  -- behind a `while`
+  -- after a `while`
   while_found : (at : Place) (tokens rest : List SourceToken) → Begins (form.keyword_at at (codes "while")) tokens rest
       → Gives (λ it after. Stated known it tokens after) (while_rule known table at rest)
   while_found at tokens rest word =
@@ -219,7 +219,7 @@ module _ (known : Known) (table : Shorter) (found : IsFound known table) where
         closed = inside.closed;
       })))
 
-  -- behind a `do`
+  -- after a `do`
   do_found : (at : Place) (tokens rest : List SourceToken) → Begins (form.keyword_at at (codes "do")) tokens rest
       → Gives (λ it after. Stated known it tokens after) (do_rule known table at rest)
   do_found at tokens rest word =
@@ -232,7 +232,7 @@ module _ (known : Known) (table : Shorter) (found : IsFound known table) where
         closed = λ ends. absurd cc;
       })))))
 
-  -- behind a `for`
+  -- after a `for`
   for_found : (at : Place) (tokens rest : List SourceToken) → Begins (form.keyword_at at (codes "for")) tokens rest
       → Gives (λ it after. Stated known it tokens after) (for_rule known table at rest)
   for_found at tokens rest word =
@@ -243,7 +243,7 @@ module _ (known : Known) (table : Shorter) (found : IsFound known table) where
         closed = inside.closed;
       })))
 
-  -- behind a `switch`
+  -- after a `switch`
   switch_found : (at : Place) (tokens rest : List SourceToken) → Begins (form.keyword_at at (codes "switch")) tokens rest
       → Gives (λ it after. Stated known it tokens after) (switch_rule known table at rest)
   switch_found at tokens rest word =
@@ -264,7 +264,7 @@ module _ (known : Known) (table : Shorter) (found : IsFound known table) where
         closed = λ other. absurd (let contrary : false ≡ true = sym ends ∙ other in cc);
       }))
 
-  -- behind a `return`
+  -- after a `return`
   return_found : (at : Place) (tokens rest : List SourceToken) → Begins (form.keyword_at at (codes "return")) tokens rest
       → Gives (λ it after. Stated known it tokens after) (return_rule known at rest)
   return_found at tokens rest word =

@@ -1,5 +1,5 @@
 -- Statements are read: those that have no other statement in them, and a block.
---     one_along, by_word                               what is read of the same tokens; behind a word
+--     one_along, by_word                               what is read of the same tokens; after a word
 --     keyword_reads, keyword_missing                   a keyword in front, or none
 --     block_all, expression_all, empty_all
 --     switch_all, break_all, continue_all, return_all
@@ -62,7 +62,7 @@ word_found Break source = refl
 word_found Continue source = refl
 word_found Return source = refl
 
--- a statement behind its word
+-- a statement after its word
 pub by_word : (known : Known) (table : Shorter) (word : StatementWord) (it : Statement) (source : SourceToken) (others rest : List SourceToken)
     → source ≡ with_text Identifier (statement_text word) source
     → ((ends_open it ≡ true → is_else_ahead rest ≡ false) → statement_by known table (Some word) source others ≡ Some (it, rest))
@@ -160,7 +160,7 @@ empty_all {known = known} {table = table} whole at front rest fits =
 abbrev made_switch : Place → Expression → Compound × List SourceToken → Read Statement
 made_switch at value body = Some (tree.switch_ at value body.0, body.1)
 
--- what is read behind the value of a switch
+-- what is read after the value of a switch
 abbrev switch_behind : Shorter → Place → Expression × List SourceToken → Read Statement
 switch_behind table at value = block_rule table value.1 >>= made_switch at value.0
 
@@ -181,7 +181,7 @@ switch_all {known = known} {table = table} whole at e it reads front rest fits =
 abbrev made_ended : Statement → Place × List SourceToken → Read Statement
 made_ended it end = Some (it, end.1)
 
--- a `;` behind a word
+-- a `;` after a word
 end_reads : (it : Statement) (front rest : List SourceToken) → IsOf (mark (codes ";")) front
     → (mark_at (codes ";") (front ++ rest) >>= made_ended it) ≡ Some (it, rest)
 end_reads it front rest fits =

@@ -46,7 +46,7 @@ pub initialiser_value : (known : Known) (tokens : List SourceToken) → mark_at 
 unfolding initialiser_at
 initialiser_value known tokens is = stays (λ brace rest. braces_rule (reading known) brace rest) (starting_value known tokens) is
 
--- what is left behind initialisers
+-- what is left after initialisers
 unfoldable pub initialisers_on : Known → List Initialising → List SourceToken → Read (List Initialising × Bool)
 initialisers_on known its rest =
     going_on (mark_at (codes ",") rest) (λ comma next. if is_mark_ahead (codes "}") next then Some ((its, true), next) else initialisers_at known its next)
@@ -79,7 +79,7 @@ initialisers_close known its rest comma next is ahead =
     (Some ((its, false), rest)) comma next is
     ∙ ap (λ closed. if closed then Some ((its, true), next) else initialisers_at known its next) ahead
 
--- behind a comma
+-- after a comma
 initialisers_next : (known : Known) (its : List Initialising) (rest : List SourceToken) (comma : Place) (next : List SourceToken)
     → mark_at (codes ",") rest ≡ Some (comma, next) → is_mark_ahead (codes "}") next ≡ false
     → initialisers_on known its rest ≡ (initialiser_at known next >>= (λ it. initialisers_on known (its ++ it.0 ∷ []) it.1))
@@ -143,7 +143,7 @@ items_end known its tokens is =
     items_step known its tokens
     ∙ stays (λ comma rest. item_at known rest >>= (λ it. items_at known (its ++ it.0 ∷ []) it.1)) (Some (its, tokens)) is
 
--- behind a comma
+-- after a comma
 items_next : (known : Known) (its : List Declaring) (tokens : List SourceToken) (comma : Place) (next : List SourceToken)
     → mark_at (codes ",") tokens ≡ Some (comma, next)
     → items_at known its tokens ≡ (item_at known next >>= (λ it. items_at known (its ++ it.0 ∷ []) it.1))
@@ -174,7 +174,7 @@ pub declared_step : (known : Known) (specifiers : List Specified) (declared : De
 unfolding declared_at item_from items_at
 declared_step known specifiers declared tokens = refl
 
--- the rest of a declaration, behind its specifiers
+-- the rest of a declaration, after its specifiers
 unfoldable pub declaration_on : Known → List Specified → List SourceToken → Read Declaration
 declaration_on known its rest =
     going_on (mark_at (codes ";") rest) (λ end left. Some (bare its, left))

@@ -1,6 +1,6 @@
--- What a table gives for each goal, where what it reads is found.
---     Adds earlier all form tokens rest              more entries behind the earlier ones, or none
---     Stated known it tokens rest                    a statement, where an `else` behind it is not its own
+-- What a table gives for each goal, if what it reads is found.
+--     Adds earlier all form tokens rest              more entries after the earlier ones, or none
+--     Stated known it tokens rest                    a statement, if an `else` after it is not its own
 --     initialiser_gives, initialisers_gives, ..      each goal's own form
 use Rattle.std.proofs.Common.{◌≡◌, true, false, List, [], ◌∷◌, ◌++◌, sym, ◌∙◌, append_assoc}
 use Rattle.std.specs.Prelude.{Bool}
@@ -22,7 +22,7 @@ use Rattle.hs_decl_parser.specs.Goals.{Goal, Tree}
 use Rattle.hs_decl_parser.specs.Reading.{Shorter}
 use Rattle.hs_decl_parser.specs.Words.{is_else_ahead}
 
--- more entries behind the earlier ones, or none, and the tokens have a front that is of their form
+-- more entries after the earlier ones, or none, and the tokens have a front that is of their form
 pub record Adds {A : Type 0} (earlier all : List A) (form : List A → Form) (tokens rest : List SourceToken) : Type 0 where
   pub its : List A
   pub whole : all ≡ earlier ++ its
@@ -43,7 +43,7 @@ one_added earlier it all form tokens middle rest added so = record {
   begins = so added.its added.begins;
 }
 
--- a statement, where an `else` behind it is not its own
+-- a statement, if an `else` after it is not its own
 pub record Stated (known : Known) (it : Statement) (tokens rest : List SourceToken) : Type 0 where
   pub begins : Begins (statement_form known it) tokens rest
   pub closed : ends_open it ≡ true → is_else_ahead rest ≡ false

@@ -2,7 +2,7 @@
 --     mark_stops                 no expression goes on with some punctuators
 --     test_reads                 an expression in parentheses
 --     optional_reads             an expression or none, and a punctuator
---     optional_then              the same with a phrase behind it
+--     optional_then              the same with a phrase after it
 use Rattle.std.proofs.Common.{◌≡◌, ℕ, true, List, [], ◌∷◌, ◌++◌, Option, Some, None, refl, ap, ◌∙◌}
 use Rattle.std.specs.Prelude.{codes}
 use Rattle.hs_tokens.specs.declared.token.SourceToken.{SourceToken}
@@ -29,7 +29,7 @@ pub mark_stops : (text : List ℕ) (rank : ℕ) (tokens : List SourceToken)
 mark_stops text rank [] below is = refl
 mark_stops text rank (source ∷ rest) below is = ap (λ it. is_below rank (joins it)) (token_is Punctuator text source is) ∙ below source
 
--- what is read behind the `(` of a test
+-- what is read after the `(` of a test
 abbrev test_behind : Known → Place × List SourceToken → Read Expression
 test_behind known opening = expression_at known opening.1 >>= closing (λ (e : Expression). e) (codes ")")
 
@@ -44,7 +44,7 @@ test_reads known e front rest fits =
     ∙ closes (expression_at known tokens) e (codes ")") its.close rest (λ (e : Expression). e)
     (expression_reads known e its.inside (its.close ∷ rest) its.fits (ap (λ it. is_below 0 (joins it)) its.closed)) its.closed
 
--- what is read where the punctuator is not in front
+-- what is read if the punctuator is not in front
 abbrev some_expression : Known → List ℕ → List SourceToken → Read (Option Expression)
 some_expression known text tokens = expression_at known tokens >>= closing (λ (e : Expression). Some e) text
 
@@ -65,7 +65,7 @@ optional_reads known text (Some e) front end rest below none fits is =
     ap (optional_by known text tokens) (mark_missing text tokens (not_ahead (expression_at known) Punctuator text e tokens (end ∷ rest) none reads))
     ∙ closes (expression_at known tokens) e text end rest (λ (e : Expression). Some e) reads is
 
--- an expression or none, its punctuator, and a phrase behind them
+-- an expression or none, its punctuator, and a phrase after them
 pub record Optional (known : Known) (text : List ℕ) (e : Option Expression) (form : Form) (sources : List SourceToken) : Type 0 where
   pub others : List SourceToken
   pub reads : (rest : List SourceToken) → optional_rule known text (sources ++ rest) ≡ Some (e, others ++ rest)

@@ -1,6 +1,6 @@
 -- What it means that something was found at a place: the tokens in front are a phrase of the grammar.
---     item_form, more_items_form           a declarator with what it starts with; more of them, each behind its comma
---     Found known goal it front rest       `it` is what the tokens of front are, with rest behind them
+--     item_form, more_items_form           a declarator with what it starts with; more of them, each after its comma
+--     Found known goal it front rest       `it` is what the tokens of front are, with rest after them
 --     IsFound table                        so it is wherever the table reads something
 use Rattle.std.specs.Prelude.{◌≡◌, ℕ, true, false, List, [], ◌∷◌, ◌++◌, codes, Some}
 use Rattle.hs_tokens.specs.declared.token.SourceToken.{SourceToken}
@@ -26,7 +26,7 @@ abbrev pub more_items_form : List (List ℕ) → List Declaring → Form
 more_items_form known [] = nothing_at_all
 more_items_form known (it ∷ rest) = mark (codes ",") ⨾ item_form known it ⨾ more_items_form known rest
 
--- more entries behind the earlier ones, or none
+-- more entries after the earlier ones, or none
 abbrev pub Added : {A : Type 0} → List A → List A → (List A → Type 0) → Type 0
 Added {A = A} earlier all Holds = (its : List A) × (all ≡ earlier ++ its) × Holds its
 
@@ -38,7 +38,7 @@ Found known (goal.items earlier) all front rest = Added earlier all (λ its. IsO
 Found known (goal.declarations earlier) all front rest = Added earlier all (λ its. IsOf (declarations_form known its) front)
 Found known (goal.labels earlier) all front rest = Added earlier all (λ its. IsOf (labels_form known its) front)
 Found known (goal.statements earlier) all front rest = Added earlier all (λ its. IsOf (statements_form known (statements_from its)) front)
--- an `else` behind it is not its own
+-- an `else` after it is not its own
 Found known goal.statement it front rest = IsOf (statement_form known it) front × (ends_open it ≡ true → is_else_ahead rest ≡ false)
 
 -- the tokens have a front that is this, and the others are the rest

@@ -1,17 +1,17 @@
 -- What is read at a place of declarations and statements, and what is found there.
---     Goal         a phrase, or the rest of one behind its entries so far
+--     Goal         a phrase, or the rest of one after its entries so far
 --     Tree goal    what is found
 use Rattle.std.specs.Prelude.{Bool, List}
 use Rattle.hs_syntax.specs.StatementViews.{OneStatement}
 use Rattle.hs_syntax.specs.Trees.{Initialising, Declaring, Declaration, Labelling, Statement}
 
 pub data Goal : Type 0 where
-  -- an initialiser; initialisers behind earlier ones, and whether a comma ends them
+  -- an initialiser; initialisers after earlier ones, and whether a comma ends them
   initialiser : Goal
   initialisers : List Initialising → Goal
-  -- declarators of a declaration behind earlier ones
+  -- declarators of a declaration after earlier ones
   items : List Declaring → Goal
-  -- declarations, labels and labelled statements behind earlier ones
+  -- declarations, labels and labelled statements after earlier ones
   declarations : List Declaration → Goal
   labels : List Labelling → Goal
   statements : List OneStatement → Goal

@@ -1,8 +1,8 @@
 -- How declarations, statements and external declarations are read from left to right (X3.159-1989 3.5.7, 3.6, 3.7): a rule for each
 -- phrase, over a table of readings for shorter lists. `Grammar.antt` of hs_syntax says what is right; the clauses of `unit` have that
 -- the reading agrees with it.
---     rule known goal         the rule of a goal, where these typedef names are known
---     reading known goal      what is read, and the tokens behind it
+--     rule known goal         the rule of a goal, if these typedef names are known
+--     reading known goal      what is read, and the tokens after it
 use Rattle.std.specs.Prelude.{ℕ, Bool, true, false, List, [], ◌∷◌, ◌++◌, codes, Option, Some, None, if◌then◌else◌}
 use Rattle.hs_tokens.specs.declared.token.SourceToken.{SourceToken}
 use Rattle.hs_syntax.specs.RowViews.{specification_from}
@@ -26,7 +26,7 @@ Shorter = Table Goal Tree
 
 -- ---- declarations (3.5)
 
--- a list of initialisers, behind its `{`
+-- a list of initialisers, after its `{`
 abbrev pub braces_rule : Shorter → Place → List SourceToken → Read Initialising
 braces_rule table at rest = do
   its ← table (goal.initialisers []) rest
@@ -50,7 +50,7 @@ initialisers_rule known table earlier tokens = do
       else table (goal.initialisers (earlier ++ it.0 ∷ [])) rest)
       (Some ((earlier ++ it.0 ∷ [], false), it.1))
 
--- what a declarator starts with, behind it
+-- what a declarator starts with, after it
 abbrev pub start_rule : Shorter → List SourceToken → Read (Option Initialising)
 start_rule table tokens =
     going_on (mark_at (codes "=") tokens) (λ equals rest. (do
@@ -58,7 +58,7 @@ start_rule table tokens =
       Some (Some it.0, it.1)))
     (Some (None, tokens))
 
--- a declarator with what it starts with, behind the declarator
+-- a declarator with what it starts with, after the declarator
 abbrev pub item_behind : Shorter → Declared → List SourceToken → Read Declaring
 item_behind table declared tokens = do
   start ← start_rule table tokens
@@ -69,7 +69,7 @@ item_rule known table tokens = do
   declared ← declarator_at known false tokens
   item_behind table declared.0 declared.1
 
--- the rest of a declaration's declarators, behind earlier ones
+-- the rest of a declaration's declarators, after earlier ones
 abbrev pub items_rule : Known → Shorter → List Declaring → List SourceToken → Read (List Declaring)
 items_rule known table earlier tokens =
     going_on (mark_at (codes ",") tokens) (λ comma rest. (do
@@ -77,7 +77,7 @@ items_rule known table earlier tokens =
       table (goal.items (earlier ++ it.0 ∷ [])) it.1))
     (Some (earlier, tokens))
 
--- the rest of a declaration, behind its first declarator
+-- the rest of a declaration, after its first declarator
 abbrev pub declared_rule : Known → Shorter → List Specified → Declared → List SourceToken → Read Declaration
 declared_rule known table specifiers declared tokens = do
   first ← item_behind table declared tokens
@@ -105,7 +105,7 @@ declarations_rule known table earlier tokens =
 
 -- ---- statements (3.6)
 
--- a compound statement, behind its `{`
+-- a compound statement, after its `{`
 abbrev pub inner_rule : Shorter → Place → List SourceToken → Read Compound
 inner_rule table at rest = do
   declarations ← table (goal.declarations []) rest
@@ -126,7 +126,7 @@ test_rule known tokens = do
   close ← mark_at (codes ")") e.1
   Some (e.0, close.1)
 
--- an expression or none, and the punctuator behind it
+-- an expression or none, and the punctuator after it
 abbrev pub optional_rule : Known → List ℕ → List SourceToken → Read (Option Expression)
 optional_rule known mark tokens =
     going_on (mark_at mark tokens) (λ end rest. Some (None, rest)) (do
@@ -265,19 +265,19 @@ rule known table (goal.labels earlier) tokens = labels_rule known table earlier 
 rule known table (goal.statements earlier) tokens = statements_rule known table earlier tokens
 rule known table goal.statement tokens = statement_rule known table tokens
 
--- what is read, and the tokens behind it
+-- what is read, and the tokens after it
 unfoldable pub reading : Known → Shorter
 reading known = fixed (rule known)
 
 -- ---- external declarations (3.7)
 
--- a function, behind its declarator
+-- a function, after its declarator
 abbrev pub function_rule : Shorter → List Specified → Declared → List SourceToken → Read ExternalDeclaration
 function_rule table specifiers declared tokens = do
   body ← block_rule table tokens
   Some (tree.function_definition (specification_from specifiers) declared body.0, body.1)
 
--- a function or a declaration, behind its first declarator
+-- a function or a declaration, after its first declarator
 abbrev pub external_behind : Known → Shorter → List Specified → Declared → List SourceToken → Read ExternalDeclaration
 external_behind known table specifiers declared tokens =
     if is_mark_ahead (codes "{") tokens then function_rule table specifiers declared tokens else (do

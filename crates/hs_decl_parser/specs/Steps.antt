@@ -14,46 +14,46 @@ use Rattle.hs_decl_parser.specs.Reading.{Controls, reading, braces_rule, initial
 
 -- ---- declarations
 
--- a list of initialisers, behind its `{`
+-- a list of initialisers, after its `{`
 unfoldable pub braces_at : Known → Place → List SourceToken → Read Initialising
 braces_at known at rest = braces_rule (reading known) at rest
 
 unfoldable pub initialiser_at : Known → List SourceToken → Read Initialising
 initialiser_at known tokens = initialiser_rule known (reading known) tokens
 
--- initialisers behind earlier ones
+-- initialisers after earlier ones
 unfoldable pub initialisers_at : Known → List Initialising → List SourceToken → Read (List Initialising × Bool)
 initialisers_at known earlier tokens = initialisers_rule known (reading known) earlier tokens
 
--- what a declarator starts with, behind it
+-- what a declarator starts with, after it
 unfoldable pub start_at : Known → List SourceToken → Read (Option Initialising)
 start_at known tokens = start_rule (reading known) tokens
 
--- a declarator with what it starts with, behind the declarator
+-- a declarator with what it starts with, after the declarator
 unfoldable pub item_from : Known → Declared → List SourceToken → Read Declaring
 item_from known declared tokens = item_behind (reading known) declared tokens
 
 unfoldable pub item_at : Known → List SourceToken → Read Declaring
 item_at known tokens = item_rule known (reading known) tokens
 
--- the rest of a declaration's declarators, behind earlier ones
+-- the rest of a declaration's declarators, after earlier ones
 unfoldable pub items_at : Known → List Declaring → List SourceToken → Read (List Declaring)
 items_at known earlier tokens = items_rule known (reading known) earlier tokens
 
--- the rest of a declaration, behind its first declarator
+-- the rest of a declaration, after its first declarator
 unfoldable pub declared_at : Known → List Specified → Declared → List SourceToken → Read Declaration
 declared_at known specifiers declared tokens = declared_rule known (reading known) specifiers declared tokens
 
 unfoldable pub declaration_at : Known → List SourceToken → Read Declaration
 declaration_at known tokens = declaration_rule known (reading known) tokens
 
--- declarations behind earlier ones
+-- declarations after earlier ones
 unfoldable pub declarations_at : Known → List Declaration → List SourceToken → Read (List Declaration)
 declarations_at known earlier tokens = declarations_rule known (reading known) earlier tokens
 
 -- ---- statements
 
--- a compound statement, behind its `{`
+-- a compound statement, after its `{`
 unfoldable pub inner_at : Known → Place → List SourceToken → Read Compound
 inner_at known at rest = inner_rule (reading known) at rest
 
@@ -64,7 +64,7 @@ block_at known tokens = block_rule (reading known) tokens
 unfoldable pub test_at : Known → List SourceToken → Read Expression
 test_at known tokens = test_rule known tokens
 
--- an expression or none, and the punctuator behind it
+-- an expression or none, and the punctuator after it
 unfoldable pub optional_at : Known → List ℕ → List SourceToken → Read (Option Expression)
 optional_at known mark tokens = optional_rule known mark tokens
 
@@ -112,7 +112,7 @@ statement_at known tokens = statement_rule known (reading known) tokens
 unfoldable pub label_at : Known → SourceToken → List SourceToken → Read Labelling
 label_at known source rest = label_rule known source rest
 
--- labels behind earlier ones
+-- labels after earlier ones
 unfoldable pub labels_at : Known → List Labelling → List SourceToken → Read (List Labelling)
 labels_at known earlier tokens = labels_rule known (reading known) earlier tokens
 
@@ -120,17 +120,17 @@ labels_at known earlier tokens = labels_rule known (reading known) earlier token
 unfoldable pub labelled_at : Known → List SourceToken → Read OneStatement
 labelled_at known tokens = labelled_rule known (reading known) tokens
 
--- statements behind earlier ones
+-- statements after earlier ones
 unfoldable pub statements_at : Known → List OneStatement → List SourceToken → Read (List OneStatement)
 statements_at known earlier tokens = statements_rule known (reading known) earlier tokens
 
 -- ---- external declarations
 
--- a function, behind its declarator
+-- a function, after its declarator
 unfoldable pub function_at : Known → List Specified → Declared → List SourceToken → Read ExternalDeclaration
 function_at known specifiers declared tokens = function_rule (reading known) specifiers declared tokens
 
--- a function or a declaration, behind its first declarator
+-- a function or a declaration, after its first declarator
 unfoldable pub external_from : Known → List Specified → Declared → List SourceToken → Read ExternalDeclaration
 external_from known specifiers declared tokens = external_behind known (reading known) specifiers declared tokens
 

@@ -1,8 +1,8 @@
 -- What `unit` answers.
 --     depth                     the limit of nesting
 --     names_of externals        the typedef names that external declarations make, in order
---     IsStuck tokens pos        behind external declarations, none begins at that place
---     IsParsed, IsRefusedAt     the tokens are a unit that nests no more deeply than may be; they are none
+--     IsStuck tokens pos        after external declarations, none begins at that place
+--     IsParsed, IsRefusedAt     the tokens are a unit that nests no more deeply than may be; they are not
 use Rattle.std.specs.Prelude.{◌≡◌, ℕ, List, [], ◌∷◌, ◌++◌, take}
 use Rattle.hs_base.specs.Limit.{number_of}
 use Rattle.hs_base.specs.declared.limit.Limit.{Limit}
@@ -24,11 +24,11 @@ abbrev pub names_of : TranslationUnit → List (List ℕ)
 names_of [] = []
 names_of (it ∷ rest) = made_by it ++ names_of rest
 
--- no external declaration stands in front of the tokens, where these typedef names are known
+-- no external declaration stands in front of the tokens, if these typedef names are known
 abbrev pub BeginsNone : List (List ℕ) → List SourceToken → Type 0
 BeginsNone known tokens = (n : ℕ) (it : ExternalDeclaration) → IsOf (external_form known it) (take n tokens) → ⊥
 
--- Behind external declarations, at that place, the tokens go on with none: the first external declaration that is none.
+-- After external declarations, at that place, the tokens go on with none: the first external declaration that is wrong.
 pub record IsStuck (tokens : List SourceToken) (pos : Pos) : Type 0 where
   pub externals : TranslationUnit
   pub front : List SourceToken
@@ -43,6 +43,6 @@ pub record IsStuck (tokens : List SourceToken) (pos : Pos) : Type 0 where
 abbrev pub IsParsed : List SourceToken → Type 0
 IsParsed tokens = IsShallow tokens × ((it : TranslationUnit) × IsUnit tokens it)
 
--- They nest no more deeply than may be, and are no unit: the first external declaration that is none begins at that place.
+-- They nest no more deeply than may be, and are no unit: the first external declaration that is wrong begins at that place.
 abbrev pub IsRefusedAt : List SourceToken → Pos → Type 0
 IsRefusedAt tokens pos = IsShallow tokens × IsStuck tokens pos × ((it : TranslationUnit) → IsUnit tokens it → ⊥)

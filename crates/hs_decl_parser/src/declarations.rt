@@ -11,7 +11,7 @@ use hs_syntax::{Decl, Declarator, Item, Specifier};
 use hs_tokens::SourceToken;
 use std::alloc::Global;
 
-/// Reads what a declarator starts with, behind it, and puts both together (X3.159-1989 3.5).
+/// Reads what a declarator starts with, after it, and puts both together (X3.159-1989 3.5).
 #[tactic(auto, using(crate::proofs::Stepping::item_from_step))]
 fn item_from<'a>(
     alloc: Global,
@@ -46,7 +46,7 @@ fn item<'a>(
     item_from(alloc, known, declarator, behind)
 }
 
-/// Reads the other declarators of a declaration, behind the first of them: each stands behind a comma (X3.159-1989 3.5).
+/// Reads the other declarators of a declaration, after the first of them: each follows a comma (X3.159-1989 3.5).
 #[tactic(auto, using(crate::proofs::Stepping::items_end))]
 fn items<'a>(
     alloc: Global,
@@ -68,7 +68,7 @@ fn items<'a>(
     Ok((its, rest))
 }
 
-/// Reads the rest of a declaration behind its first declarator (X3.159-1989 3.5).
+/// Reads the rest of a declaration after its first declarator (X3.159-1989 3.5).
 #[tactic(auto, using(crate::proofs::Stepping::declared_step, crate::proofs::Seen::specification_seen))]
 pub(crate) fn declared<'a>(
     alloc: Global,

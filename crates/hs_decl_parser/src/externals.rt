@@ -12,7 +12,7 @@ use hs_syntax::{Decl, Declarator, External, Specifier};
 use hs_tokens::SourceToken;
 use std::alloc::Global;
 
-/// Reads a function behind its declarator (X3.159-1989 3.7.1).
+/// Reads a function after its declarator (X3.159-1989 3.7.1).
 #[tactic(auto, using(crate::proofs::Stepping::function_step, crate::proofs::Seen::specification_seen))]
 fn function<'a>(
     alloc: Global,
@@ -39,7 +39,7 @@ fn function<'a>(
     ))
 }
 
-/// Reads a function or a declaration behind its first declarator: a `{` begins a function's body (X3.159-1989 3.7).
+/// Reads a function or a declaration after its first declarator: a `{` begins a function's body (X3.159-1989 3.7).
 #[tactic(auto, using(crate::proofs::Stepping::external_function, crate::proofs::Stepping::external_declaration))]
 fn external_from<'a>(
     alloc: Global,

@@ -33,7 +33,7 @@ pub(crate) fn initialiser<'a>(
     braces(alloc, known, brace, behind)
 }
 
-/// Reads a list of initialisers behind its `{`, which stands there.
+/// Reads a list of initialisers after its `{`, which stands there.
 #[cycle(initialiser)]
 #[tactic(auto, using(crate::proofs::Stepping::braces_step, crate::proofs::Seen::initialisers_seen))]
 fn braces<'a>(
@@ -57,7 +57,7 @@ fn braces<'a>(
     ))
 }
 
-/// Reads initialisers, at least one, up to a `}`, and whether a comma stands behind the last one.
+/// Reads initialisers, at least one, up to a `}`, and whether a comma follows the last one.
 #[cycle(initialiser)]
 #[tactic(auto, using(crate::proofs::Stepping::initialisers_step, crate::proofs::Stepping::initialisers_end, crate::proofs::Stepping::initialisers_close))]
 fn initialisers<'a>(
@@ -96,7 +96,7 @@ fn initialisers<'a>(
     ))
 }
 
-/// Reads what a declarator starts with, if anything, behind the declarator (X3.159-1989 3.5).
+/// Reads what a declarator starts with, if anything, after the declarator (X3.159-1989 3.5).
 #[tactic(auto, using(crate::proofs::Stepping::start_some, crate::proofs::Stepping::start_none))]
 pub(crate) fn start<'a>(
     alloc: Global,

@@ -11,7 +11,7 @@ pub fn units_are_unambiguous()
         → one ≡ other }
 {}
 
-/// The first external declaration that is none begins at one place.
+/// The first external declaration that is wrong begins at one place.
 pub fn syntax_has_one_place()
     ensures { (tokens : List SourceToken) (one other : Pos) → IsStuck tokens one → IsStuck tokens other → one ≡ other }
 {}

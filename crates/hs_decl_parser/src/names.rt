@@ -31,7 +31,7 @@ fn is_typedef(specifiers: &[Specifier]) -> bool
     has_typedef(specifiers)
 }
 
-/// The name that a declarator names, by what stands behind its pointers (X3.159-1989 3.5.4).
+/// The name that a declarator names, by what follows its pointers (X3.159-1989 3.5.4).
 #[cycle(name_in)]
 fn name_in(direct: &Direct) -> &[u8]
     ensures { result.now ≡ name_in (view_direct direct.now) }
@@ -58,7 +58,7 @@ fn with_all(alloc: Global, known: TypeNames, items: &[Item]) -> Result<TypeNames
     Ok(names)
 }
 
-/// The names, and the typedef names that an external declaration makes (X3.159-1989 3.5.6): they are known behind it.
+/// The names, and the typedef names that an external declaration makes (X3.159-1989 3.5.6): they are known after it.
 #[tactic(auto, using(crate::proofs::Naming::made, crate::proofs::Naming::made_none, crate::proofs::Naming::made_nothing))]
 pub(crate) fn with_names(
     alloc: Global,

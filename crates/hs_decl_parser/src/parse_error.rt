@@ -6,7 +6,7 @@ use std::alloc::AllocFailed;
 pub enum ParseError {
     /// The nesting passes its limit at some token: `Depth` is the kind.
     Limit(Limit),
-    /// They are none; the place is that of the first external declaration that is none.
+    /// They are not a unit; the place is that of the first external declaration that is wrong.
     Syntax(Pos),
     /// Memory was refused.
     NoMemory,

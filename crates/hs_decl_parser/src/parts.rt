@@ -32,7 +32,7 @@ pub(crate) fn test<'a>(
     Ok((e, rest))
 }
 
-/// Reads an expression, if one stands there, and that punctuator behind it.
+/// Reads an expression, if one stands there, and that punctuator after it.
 #[tactic(auto, using(crate::proofs::Stepping::optional_none, crate::proofs::Stepping::optional_some))]
 pub(crate) fn optional<'a>(
     alloc: Global,

@@ -78,7 +78,7 @@ fn ended<'a>(it: Stmt, rest: &'a [SourceToken]) -> Result<(Stmt, &'a [SourceToke
     Ok((it, left))
 }
 
-/// Reads a `return` behind its word (X3.159-1989 3.6.6.4).
+/// Reads a `return` after its word (X3.159-1989 3.6.6.4).
 #[tactic(auto, using(crate::proofs::Stepping::return_step))]
 fn return_statement<'a>(
     alloc: Global,
@@ -93,7 +93,7 @@ fn return_statement<'a>(
     Ok((Stmt::Return { at, value }, left))
 }
 
-/// Reads an `if` behind its word, and its `else` where one follows (X3.159-1989 3.6.4.1).
+/// Reads an `if` after its word, and its `else` if one follows (X3.159-1989 3.6.4.1).
 #[cycle(statement)]
 #[tactic(auto, using(crate::proofs::Stepping::if_step, crate::proofs::Stepping::if_alone, crate::proofs::Stepping::if_otherwise))]
 fn if_statement<'a>(
@@ -129,7 +129,7 @@ fn if_statement<'a>(
     ))
 }
 
-/// Reads a `while` behind its word (X3.159-1989 3.6.5.1).
+/// Reads a `while` after its word (X3.159-1989 3.6.5.1).
 #[cycle(statement)]
 #[tactic(auto, using(crate::proofs::Stepping::while_step))]
 fn while_statement<'a>(
@@ -147,7 +147,7 @@ fn while_statement<'a>(
     Ok((Stmt::While { at, test, body }, left))
 }
 
-/// Reads a `do` behind its word (X3.159-1989 3.6.5.2).
+/// Reads a `do` after its word (X3.159-1989 3.6.5.2).
 #[cycle(statement)]
 #[tactic(auto, using(crate::proofs::Stepping::do_step))]
 fn do_statement<'a>(
@@ -167,7 +167,7 @@ fn do_statement<'a>(
     Ok((Stmt::Do { at, body, test }, left))
 }
 
-/// Reads a `for` behind its word (X3.159-1989 3.6.5.3).
+/// Reads a `for` after its word (X3.159-1989 3.6.5.3).
 #[cycle(statement)]
 #[tactic(auto, using(crate::proofs::Stepping::for_step))]
 fn for_statement<'a>(
@@ -194,7 +194,7 @@ fn for_statement<'a>(
     ))
 }
 
-/// Reads a `switch` behind its word (X3.159-1989 3.6.4.2; own: its body is a block).
+/// Reads a `switch` after its word (X3.159-1989 3.6.4.2; own: its body is a block).
 #[cycle(statement)]
 #[tactic(auto, using(crate::proofs::Stepping::switch_step))]
 fn switch_statement<'a>(
@@ -226,7 +226,7 @@ pub(crate) fn block<'a>(
     inner(alloc, known, opening, rest)
 }
 
-/// Reads a compound statement behind its `{`, which stands there (X3.159-1989 3.6.2).
+/// Reads a compound statement after its `{`, which stands there (X3.159-1989 3.6.2).
 #[cycle(statement)]
 #[tactic(auto, using(crate::proofs::Stepping::inner_step, crate::proofs::Seen::block_seen))]
 fn inner<'a>(

@@ -42,8 +42,8 @@ fn externals(alloc: Global, tokens: &[SourceToken]) -> Result<Vec<External>, Par
 
 /// Reads a translation unit (X3.159-1989 3.7): all of its tokens.
 ///
-/// Errors: `Limit`, of the kind `Depth`, where the tokens nest more than 256 deep, which is tried first; `Syntax` where they are no
-/// unit, with the place of the first external declaration that is none; `NoMemory`.
+/// Errors: `Limit`, of the kind `Depth`, if the tokens nest more than 256 deep, which is tried first; `Syntax` if they are no
+/// unit, with the place of the first external declaration that is wrong; `NoMemory`.
 pub fn unit(alloc: Global, tokens: &[SourceToken]) -> Result<Unit, ParseError>
     ensures found { IfOk result (λ it. IsShallow tokens.now × IsUnit tokens.now (view_unit it)) }
     ensures only { IfOk result (λ it. (other : TranslationUnit) → IsUnit tokens.now other → other ≡ view_unit it) }

@@ -42,7 +42,7 @@ fn statement_spelled(text: &[u8]) -> Option<StatementWord>
     }
 }
 
-/// The word that the token is, where a statement begins with it (X3.159-1989 3.6).
+/// The word that the token is, if a statement begins with it (X3.159-1989 3.6).
 pub(crate) fn statement_word_of(source: &SourceToken) -> Option<StatementWord>
     ensures { result ≡ statement_word_of source.now }
 {

@@ -46,7 +46,7 @@ line_taken (token ∷ rest) =
           ∙ sym (taken_more (prefix_len goes_on rest) token rest) ∙ sym (ap (λ n. take n (token ∷ rest)) (line_len_by token rest false is))
     ] refl
 
--- and the pieces behind it are those of the other tokens
+-- and the pieces after it are those of the other tokens
 line_dropped : (tokens : List Token) → pieces_from true tokens ≡ pieces (drop (prefix_len goes_on tokens) tokens)
 line_dropped [] = refl
 line_dropped (token ∷ rest) =
@@ -74,7 +74,7 @@ run_len_by : (token : Token) (rest : List Token) (answer : Bool) → begins_dire
     → prefix_len is_text (token ∷ rest) ≡ cond (not answer) (1 + prefix_len is_text rest) 0
 run_len_by token rest answer is = ap (λ (begins : Bool). cond (not begins) (1 + prefix_len is_text rest) 0) is
 
--- a run that begins at the token, with the length of the text behind it
+-- a run that begins at the token, with the length of the text after it
 run_more : (token : Token) (rest : List Token) → begins_directive token ≡ false
     → with_text token (pieces rest) ≡ run (token ∷ take (prefix_len is_text rest) rest) ∷ pieces (drop (prefix_len is_text rest) rest)
 run_more token [] text = refl

@@ -1,5 +1,5 @@
--- The reads of steps, one after another. Where what is left of an outcome begins with a step, the step's reads are the
--- outcome's own, behind those before it.
+-- The reads of steps, one after another. If what is left of an outcome begins with a step, the step's reads are the
+-- outcome's own, after those before it.
 --     HasRead ..     the reads so far
 --     Step ..        the same, and the step that the outcome begins with then
 --     read_on, read_refused_on     the reads of a step that was done, and of one that was refused
@@ -50,7 +50,7 @@ module _ {B : Type 0} (told : Option Listing) (outcome : Listing → Result B Re
   AreReads-append known mid read _ later (AreReads.then _ name text names _ next is reads) on =
       AreReads.then known name text (names ++ later) read next is (AreReads-append (known ++ (name, text) ∷ []) mid read names later reads on)
 
-  -- the same where the others end with one that may have given no file
+  -- the same if the others end with one that may have given no file
   AreBegun-append : (known mid : Listing) (names later : List (List ℕ))
       → AreReads told outcome known names mid → AreBegun told outcome mid later → AreBegun told outcome known (names ++ later)
   AreBegun-append known mid names later (AreReads.none _) on = on
@@ -72,7 +72,7 @@ module _ {B : Type 0} (told : Option Listing) (outcome : Listing → Result B Re
       ∙ ap (λ (all : List (List ℕ)). all ++ names) (map-append {B = List ℕ} (λ file. file.0) known ((name, text) ∷ []))
       ∙ append_assoc (map (λ file. file.0) known) (name ∷ []) names
 
--- where more files are listed, so are those in front
+-- if more files are listed, so are those in front
 AreListed-front : (listing known more : Listing) → AreListed listing (known ++ more) → AreListed listing known
 AreListed-front listing [] more listed = tt
 AreListed-front listing (file ∷ known) more listed = (listed.0, AreListed-front listing known more listed.1)
@@ -184,7 +184,7 @@ module _ {F B C : Type 0} {leads : F → List ℕ → ℕ → F → Type 0} {tol
             (λ listing listed. step.same listing (AreListed-agrees listing between listed)) reads'.2),
       )
 
--- the file that is sought is the next one, where its name is not known
+-- the file that is sought is the next one, if its name is not known
 found_next : (name : List ℕ) (old : Progress) → known_from 0 name old.files ≡ None → nat_le 256 (length old.files) ≡ false
     → IsNext (λ listing. found_file listing name old) (listing_of old.files) name
 found_next name old none few = record {
@@ -223,7 +223,7 @@ found_begun leads told first final name old new (Ok value) none few led is = abs
 found_begun leads told first final name old new (Err error) none few led is =
     (name ∷ [], (final, led, refl), AreBegun.last (listing_of old.files) name (found_next name old none few))
 
--- a file that is entered behind its line
+-- a file that is entered after its line
 abbrev entry_behind : State → Named → Listing → Found → Result Entry ReadError
 entry_behind state named listing found = Ok (entry_of (with_left state named.left) found)
 
@@ -247,7 +247,7 @@ entry_step leads told first levels hash line state named name is same some =
     (λ listing. found_file listing name (with_left state named.left).progress) (entry_behind state named)
     (λ listing. entry_finds levels listing hash line state named name is same some)
 
--- a walk where a file is included
+-- a walk if a file is included
 module _ {F : Type 0} {leads : F → List ℕ → ℕ → F → Type 0} {told : Option Listing} {before now : Counts} {first mid : F} {old new : List File}
     {outcome : Listing → Result State ReadError}
     (levels : ℕ) (outer : Option Pos) (part : Part) (it : Bor Token × Bor (List Token)) (rest behind : List Token) (sections : List Section) (state : State)
@@ -257,7 +257,7 @@ module _ {F : Type 0} {leads : F → List ℕ → ℕ → F → Type 0} {told : 
   abbrev entry_ahead : Listing → Result Entry ReadError
   entry_ahead listing = entry levels listing it.0.now it.1.now state
 
-  -- the walks behind it
+  -- the walks after it
   abbrev walks_behind : Listing → Entry → Result State ReadError
   walks_behind listing entered' =
       and_then (walk_of (levels - 1) (Some (place_of outer it.0.now.pos)) entered'.tokens [] entered'.state listing)
@@ -290,7 +290,7 @@ unit_file_step leads told first name progress =
     step_first leads told first progress.files (λ listing. unit_of listing name progress) (λ listing. found_file listing name progress)
     (unit_behind fresh) (λ listing. refl)
 
--- and what is left behind that with its walk
+-- and what is left after that with its walk
 pub unit_walk_step : {F : Type 0} {leads : F → List ℕ → ℕ → F → Type 0} {told : Option Listing} {first mid : F}
     (name : List ℕ) (progress progress' : Progress) (known : Known) (unit : UnitSoFar)
     → HasRead leads told first mid progress.files progress'.files (λ listing. unit_of listing name progress) → unit ≡ fresh
@@ -323,7 +323,7 @@ module _ {F : Type 0} {leads : F → List ℕ → ℕ → F → Type 0} {told : 
         ∙ ap (λ (name'' : List ℕ). and_then (unit_of listing name'' progress) (units_behind names units listing)) (sym named);
   }
 
--- the source of an outcome is the source behind it
+-- the source of an outcome is the source after it
 source_by-then : (outcome : Result Units ReadError) → source_by outcome ≡ and_then outcome (λ units. Ok (source_of units))
 source_by-then (Err error) = refl
 source_by-then (Ok units) = refl

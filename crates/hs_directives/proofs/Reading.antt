@@ -46,7 +46,7 @@ Agrees-longer : (listing more : Listing) (files : List File) → Agrees listing 
 Agrees-longer listing more [] all = tt
 Agrees-longer listing more (file ∷ files) all = (file_of-longer listing more file.name file.text all.0, Agrees-longer listing more files all.1)
 
--- a file whose name was not known is that of its name behind the others
+-- a file whose name was not known is that of its name after the others
 file_of-new : (number : ℕ) (files : List File) (name text : List ℕ) → known_from number name files ≡ None
     → bytes_eq name name ≡ true → file_of (listing_of files ++ (name, text) ∷ []) name ≡ Some text
 file_of-new number [] name text none same = ap (λ (answer : Bool). if answer then Some text else None) same
@@ -105,7 +105,7 @@ seeks_none told old new outcome (BadCondition pos) none = tt
 seeks_none told old new outcome (Limit limit) none = tt
 seeks_none told old new outcome NoMemory none = tt
 
--- what is found where the file was scanned
+-- what is found if the file was scanned
 abbrev scanned : List ℕ → List ℕ → Progress → List Token → Found
 scanned name text progress tokens = record {
   number = length progress.files;
@@ -124,7 +124,7 @@ scan-file name text old new known (Err end) is = absurd cc
 scan-file name text old new known (Ok tokens) is =
     let same : ◌≡◌ {A = Found} (scanned name text old tokens) (found_of new known) = cc in (tokens, sym (ap (λ (it : Found). it.progress.files) same))
 
--- what is found where the file is not known, and listed
+-- what is found if the file is not known, and listed
 found-listed : (listing : Listing) (name text : List ℕ) (old : Progress) → known_from 0 name old.files ≡ None → nat_le 256 (length old.files) ≡ false
     → nat_lt 4194304 (length text) ≡ false → file_of listing name ≡ Some text
     → found_file listing name old ≡ scanned_file name text old (scan_of (length old.files) old.room text)
@@ -177,13 +177,13 @@ unknown_unlisted number name (file ∷ files) none = by (bytes_eq file.name name
   by true later none' = absurd cc
   by false later none' = later none'
 
--- what is found where the file is not known
+-- what is found if the file is not known
 pub found-new : (listing : Listing) (name : List ℕ) (old : Progress) → known_from 0 name old.files ≡ None → nat_le 256 (length old.files) ≡ false
     → found_file listing name old ≡ listed_file name old (file_of listing name)
 found-new listing name old none few =
     ap (known_file listing name old) none ∙ ap (λ (many : Bool). if many then Err (passed Files) else listed_file name old (file_of listing name)) few
 
--- the named file is sought where it is not known
+-- the named file is sought if it is not known
 sought_here : (told : Option Listing) (name : List ℕ) (old : Progress) → known_from 0 name old.files ≡ None → nat_le 256 (length old.files) ≡ false
     → IsSought told old.files old.files (λ listing. found_file listing name old) name
 sought_here told name old none few = record {
@@ -231,7 +231,7 @@ found_unread told before now name old error none few text = (
         by true end = let limit : passed FileBytes ≡ error = cc in ap (λ (error' : ReadError). Err error') limit
         by false end = absurd cc
 
--- a refusal that is handed on
+-- a refusal that is passed on
 pub handed_on : {A B : Type 0} (told : Option Listing) (before now : Counts) (old new : List File) (view : A → B)
     (outcome : Listing → Result B ReadError) (result : Result A ReadError) (error : ReadError)
     → IsErr result × IsErrAnd result (λ error'. error' ≡ error)

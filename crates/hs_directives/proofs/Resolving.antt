@@ -14,7 +14,7 @@ behind_front-push : (front : List Token) (token : Token) (others : Option (List 
 behind_front-push front token None = refl
 behind_front-push front token (Some tokens) = ap (λ (all : List Token). Some all) (append_assoc front (token ∷ []) tokens)
 
--- tokens that belong to a name are passed over
+-- tokens that belong to a name are skipped
 pub resolved_after-drop : (macros : Definitions) (skip : ℕ) (tokens : List Token) → resolved_after macros skip tokens ≡ resolved macros (drop skip tokens)
 resolved_after-drop macros zero tokens = refl
 resolved_after-drop macros (suc skip) [] = refl

@@ -17,7 +17,7 @@ use Rattle.hs_directives.specs.Outcomes.{IsRefusal}
 use Rattle.hs_directives.specs.declared.error.ReadError.{ReadError}
 use Rattle.hs_directives.specs.declared.error.ReadError.TheVariants.{Scan, Macro, BadDirective, OpenIf, IncludeDepth, BadCondition, Missing, ReadFault, Limit, NoMemory}
 
--- a unit behind its root file
+-- a unit after its root file
 abbrev pub unit_behind : UnitSoFar → Listing → Found → Result UnitRead ReadError
 unit_behind unit listing it =
     and_then (walked (entered most_levels listing) None (pieces it.tokens) [] (record { progress = it.progress; unit = unit }))
@@ -51,7 +51,7 @@ unit_reached told told' before mid now name progress progress' known unit unit' 
 abbrev pub units_after : List TranslationUnit → Units → Units
 units_after units later = record { units = units ++ later.units; progress = later.progress }
 
--- the units behind one
+-- the units after one
 abbrev pub units_behind : List (List ℕ) → List TranslationUnit → Listing → UnitRead → Result Units ReadError
 units_behind names units listing it = and_then (units_of listing names it.progress) (λ later. Ok (units_after (units ++ it.unit ∷ []) later))
 
@@ -66,7 +66,7 @@ units_first told counts files names progress =
       by (Err error) = refl
       by (Ok later) = refl
 
--- the next name's unit comes behind those so far
+-- the next name's unit comes after those so far
 pub units_next : (listing : Listing) (name : List ℕ) (names : List (List ℕ)) (progress : Progress) (units : List TranslationUnit)
     → and_then (units_of listing (name ∷ names) progress) (λ later. Ok (units_after units later))
     ≡ and_then (unit_of listing name progress) (units_behind names units listing)
@@ -112,7 +112,7 @@ zip_files : (files : List File) → zip (map (λ file. file.name) files) (map (�
 zip_files [] = refl
 zip_files (file ∷ files) = ap (λ (rest : Listing). (file.name, file.text) ∷ rest) (zip_files files)
 
--- where the listing is told, the files are its own
+-- if the listing is known, the files are its own
 told_files : (told : Option Listing) (names : List (List ℕ)) (files : List File) (source : Source)
     → Grows told [] files → ((listing : Listing) → Agrees listing files → preprocessed listing names ≡ Ok source)
     → IfSome told (λ listing. preprocessed listing names ≡ Ok source)

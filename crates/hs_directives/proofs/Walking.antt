@@ -27,7 +27,7 @@ use Rattle.hs_directives.specs.declared.state.File.{File}
 use Rattle.hs_directives.specs.declared.state.State.{State}
 use Rattle.hs_directives.proofs.Reading.{caused_none, seeks_none, grows_none, Agrees-front}
 
--- the same sections, where a state is given
+-- the same sections, if a state is given
 pub gives_with_sections : (sections : List Section) (state : State) (outcome : Result State ReadError) (result : Result Unit ReadError)
     → Gives (λ _. state) outcome result → Gives (λ _. turn_of sections state) (with_sections sections outcome) result
 gives_with_sections sections state outcome (Ok _) gives = ap (with_sections sections) gives
@@ -180,7 +180,7 @@ with_sections_then : {B : Type 0} (sections : List Section) (outcome : Result St
 with_sections_then sections (Ok state) next = refl
 with_sections_then sections (Err error) next = refl
 
--- a piece, and those behind it
+-- a piece, and those after it
 pub walked_piece : (enter : Option Pos → Token → List ℕ → State → Result State ReadError) (outer : Option Pos) (piece : Piece) (rest : List Piece)
     (sections : List Section) (state : State)
     → walked enter outer (piece ∷ rest) sections state
@@ -206,7 +206,7 @@ entered_named (suc levels) listing outer hash state (Ok it) =
       by state' (Ok file) = refl
       by state' (Err error) = refl
 
--- an `#include` that is reached, and what stands behind it
+-- an `#include` that is reached, and what follows it
 pub walked_inclusion : (levels : ℕ) (listing : Listing) (outer : Option Pos) (hash : Token) (line : List Token) (rest : List Piece)
     (sections : List Section) (state : State)
     → keyword_of line ≡ Include → is_active sections ≡ true
@@ -243,7 +243,7 @@ inclusion_is levels listing outer (Run tokens) it rest sections state is = absur
 inclusion_is levels listing outer (Directive hash line) it rest sections state is =
     rw (is.1, is.2) (walked_inclusion levels listing outer hash.now line.now rest sections state is.0.0 is.0.1)
 
--- what is left to do where a file is included
+-- what is left to do if a file is included
 pub reached_inclusion : (told : Option Listing) (before now : Counts) (old new : List File) (outcome : Listing → Result State ReadError)
     (levels : ℕ) (outer : Option Pos) (part : Part) (it : Bor Token × Bor (List Token)) (rest behind : List Token) (sections : List Section) (state : State)
     → Reached told before now old new outcome (λ listing. walked (entered levels listing) outer (pieces rest) sections state)
@@ -256,7 +256,7 @@ reached_inclusion told before now old new outcome levels outer part it rest behi
     ap (λ (parts : List Piece). walked (entered levels listing) outer parts sections state) first
     ∙ inclusion_is levels listing outer part it (pieces behind) sections state is)
 
--- and where none is
+-- and if none is
 pub reached_piece : (told : Option Listing) (before now : Counts) (old new : List File) (outcome : Listing → Result State ReadError)
     (levels : ℕ) (outer : Option Pos) (part : Part) (rest behind : List Token) (sections : List Section) (state : State)
     → Reached told before now old new outcome (λ listing. walked (entered levels listing) outer (pieces rest) sections state)

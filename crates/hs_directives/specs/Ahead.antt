@@ -1,9 +1,9 @@
 -- What the code's values say, in the definition's words.
 --     piece_of part                     a piece
---     IsFirst tokens part               the first piece of the tokens, and those behind it
+--     IsFirst tokens part               the first piece of the tokens, and those after it
 --     IsInclusionOf part sections it    whether the part includes a file here
 --     piece_outcome ..                  what a piece comes to
---     turn_of sections state            what stands behind a directive
+--     turn_of sections state            what follows a directive
 --     seen_operand, seen_tokens, seen_bytes, seen_name, named_of      what optional values say
 use Rattle.std.specs.Prelude.{◌≡◌, ℕ, ◌<◌, List, [], ◌∷◌, ◌++◌, length, Bool, true, not, Option, Some, None, IsNone, drop, Result, Vec}
 use Rattle.std.specs.String.{string_bytes}
@@ -40,7 +40,7 @@ abbrev pub piece_of : Part → Piece
 piece_of (Run tokens) = run tokens.now
 piece_of (Directive hash line) = directive hash.now line.now
 
--- the first piece, and the tokens behind it, or no piece
+-- the first piece, and the tokens after it, or no piece
 abbrev pub IsFirst : List Token → Option (Part × Bor (List Token)) → Type 0
 IsFirst tokens None = pieces tokens ≡ []
 IsFirst tokens (Some part) = (pieces tokens ≡ piece_of part.0 ∷ pieces part.1.now) × (length part.1.now < length tokens)
@@ -74,7 +74,7 @@ abbrev pub seen_name : Option (Bor (List ℕ)) → Option (List ℕ)
 seen_name None = None
 seen_name (Some name) = Some name.now
 
--- the sections and the state behind a directive
+-- the sections and the state after a directive
 abbrev pub turn_of : List Section → State → Turn
 turn_of sections state = record { sections = sections; state = state }
 
@@ -82,7 +82,7 @@ turn_of sections state = record { sections = sections; state = state }
 abbrev pub IsInclusion : Keyword → List Section → Type 0
 IsInclusion keyword sections = (keyword ≡ Include) × (is_active sections ≡ true)
 
--- whether the part includes a file here: its `#`, and the tokens behind its keyword
+-- whether the part includes a file here: its `#`, and the tokens after its keyword
 abbrev pub IsInclusionOf : Part → List Section → Option (Bor Token × Bor (List Token)) → Type 0
 IsInclusionOf (Run tokens) sections result = IsNone result
 IsInclusionOf (Directive hash line) sections None = IsInclusion (keyword_of line.now) sections → ⊥

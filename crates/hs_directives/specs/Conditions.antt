@@ -1,6 +1,6 @@
 -- The conditions of `#if` and `#elif` (X3.159-1989 3.8.1): first `defined`, then replacement, then the value.
 --     asks token, operand_of tokens            the word `defined`, and the name that it asks for
---     resolved macros tokens                   without `defined`, or nothing where one has no name
+--     resolved macros tokens                   without `defined`, or nothing if one has no name
 --     condition_of macros left pos line        whether the condition holds, and what is left; or why not
 use Rattle.std.specs.Prelude.{ℕ, zero, suc, List, [], ◌∷◌, map, Bool, ◌&&◌, is_some, Option, Some, None, Result, Ok, Err, if◌then◌else◌, codes}
 use Rattle.std.specs.Str.{bytes_eq}
@@ -42,7 +42,7 @@ operand_of (token ∷ rest) =
     else if is_mark (codes "(") token then operand_within rest
     else None
 
--- 1 or 0 in the place of `defined`
+-- 1 or 0 instead of `defined`
 abbrev pub answer : Token → Bool → Token
 answer token holds = record token { kind = Number; text = if holds then codes "1" else codes "0" }
 
@@ -55,7 +55,7 @@ in_front token (Some tokens) = Some (token ∷ tokens)
 abbrev pub asks : Token → Bool
 asks token = is_identifier token && bytes_eq token.text (codes "defined")
 
--- the name's answer, and what stands behind it
+-- the name's answer, and what follows it
 abbrev pub resolved_operand : Definitions → Token → Option Operand → (ℕ → Option (List Token)) → Option (List Token)
 resolved_operand macros token None later = None
 resolved_operand macros token (Some operand) later =

@@ -2,7 +2,7 @@
 --     text_done run state                  a run of text, replaced
 --     line_done outer keyword hash line state     a directive that neither includes nor belongs to a section
 --     if_done, elif_done, else_done, endif_done   those of conditional sections
---     Turn                                 the sections and the state behind a directive
+--     Turn                                 the sections and the state after a directive
 use Rattle.std.specs.Prelude.{ℕ, ◌-◌, nat_lt, Bool, true, false, not, List, [], ◌∷◌, ◌++◌, length, Option, Some, None, Result, Ok, Err, is_some, if◌then◌else◌}
 use Rattle.hs_base.specs.declared.pos.Pos.{Pos}
 use Rattle.hs_base.specs.declared.limit.LimitKind.TheVariants.{Tokens}
@@ -74,7 +74,7 @@ lone_name [] = None
 lone_name (name ∷ []) = if is_identifier name then Some name.text else None
 lone_name (name ∷ next ∷ rest) = None
 
--- 3.8.3.5: a name that has no definition is let be
+-- 3.8.3.5: a name that has no definition is ignored
 abbrev pub undef_done : Option Pos → Token → State → Option (List ℕ) → Result State ReadError
 undef_done outer hash state None = Err (BadDirective hash.pos)
 undef_done outer hash state (Some name) =
@@ -87,12 +87,12 @@ line_done outer Undef hash line state = undef_done outer hash state (lone_name l
 line_done outer Dropped hash line state = Ok state
 line_done outer _ hash line state = Err (BadDirective hash.pos)
 
--- the sections and the state behind a directive
+-- the sections and the state after a directive
 pub record Turn : Type 0 where
   pub sections : List Section
   pub state : State
 
--- the same sections, where the state is reached
+-- the same sections, if the state is reached
 abbrev pub with_sections : List Section → Result State ReadError → Result Turn ReadError
 with_sections sections (Err error) = Err error
 with_sections sections (Ok state) = Ok (record { sections = sections; state = state })
@@ -125,7 +125,7 @@ abbrev pub group_opened : Section → List Section → State → Result Answered
 group_opened section outer state (Err error) = Err error
 group_opened section outer state (Ok it) = Ok (record { sections = elifed section it.holds ∷ outer; state = with_left state it.left })
 
--- C 3.8.1: `#elif` has an `#if` before it, and no `#else`. Behind a group that was kept its condition is not reached.
+-- C 3.8.1: `#elif` has an `#if` before it, and no `#else`. After a group that was kept its condition is not reached.
 abbrev pub elif_done : Token → List Token → List Section → State → Result Turn ReadError
 elif_done hash line [] state = Err (BadDirective hash.pos)
 elif_done hash line (section ∷ outer) state =

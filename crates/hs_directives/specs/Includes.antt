@@ -23,7 +23,7 @@ abbrev pub with_text : List ℕ → Option (List ℕ) → Option (List ℕ)
 with_text text None = None
 with_text text (Some name) = Some (text ++ name)
 
--- nothing stands behind the `>`
+-- nothing follows the `>`
 abbrev pub ended : List Token → Option (List ℕ)
 ended [] = Some []
 ended (token ∷ rest) = None
@@ -57,7 +57,7 @@ pub record Named : Type 0 where
   pub name : List ℕ
   pub left : Budget
 
--- the name, where it is one
+-- the name, if it is one
 abbrev pub checked_name : Pos → Budget → Option (List ℕ) → Result Named ReadError
 checked_name pos left None = Err (BadDirective pos)
 checked_name pos left (Some name) = if is_name name then Ok (record { name = name; left = left }) else Err (BadDirective pos)
@@ -72,6 +72,6 @@ abbrev pub name_by_form : Definitions → Budget → Pos → List Token → Opti
 name_by_form macros left pos line (Some name) = checked_name pos left (Some name)
 name_by_form macros left pos line None = name_replaced pos (replaced macros left line)
 
--- the name of the line behind `include`, of the directive whose `#` stands there
+-- the name of the line after `include`, of the directive whose `#` stands there
 abbrev pub include_name : Definitions → Budget → Pos → List Token → Result Named ReadError
 include_name macros left pos line = name_by_form macros left pos line (plain_name line)

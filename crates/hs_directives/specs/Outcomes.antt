@@ -1,6 +1,6 @@
 -- What an outcome of the code says, in the definition's words: memory may run out, and the rest is exact.
---     Gives view outcome result       the result is the outcome, or want of memory
---     IsRefusal outcome error         the error is want of memory, or the outcome's
+--     Gives view outcome result       the result is the outcome, or that memory ran out
+--     IsRefusal outcome error         the error is that memory ran out, or the outcome's
 --     ReadsNone error                 it says nothing of a read
 use Rattle.std.specs.Prelude.{◌≡◌, ◌⊎◌, Result, Ok, Err}
 use Rattle.hs_directives.specs.declared.error.ReadError.{ReadError}

@@ -1,7 +1,7 @@
 -- The pieces of a file: directives, and the runs of text between them (X3.159-1989 3.8).
 --     begins_directive token      a `#` that is the first token on its line
 --     pieces tokens               the pieces, in order
---     keyword_of line             what the tokens behind a `#` call for
+--     keyword_of line             what the tokens after a `#` call for
 use Rattle.std.specs.Prelude.{ℕ, List, [], ◌∷◌, Bool, true, false, ◌&&◌, not, if◌then◌else◌, codes}
 use Rattle.std.specs.Str.{bytes_eq}
 use Rattle.hs_tokens.specs.declared.token.Token.{Token}
@@ -13,7 +13,7 @@ use Rattle.hs_directives.specs.declared.keyword.Keyword.TheVariants.{If, Ifdef, 
 abbrev pub begins_directive : Token → Bool
 begins_directive token = token.first && is_mark (codes "#") token
 
--- a run of text, or a directive with its `#` and the tokens behind that on its line
+-- a run of text, or a directive with its `#` and the tokens after that on its line
 pub data Piece : Type 0 where
   run : List Token → Piece
   directive : Token → List Token → Piece

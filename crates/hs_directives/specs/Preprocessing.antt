@@ -1,7 +1,7 @@
 -- Preprocessing (X3.159-1989 2.1.1.2 phase 4, and 3.8): the units of named files, or the first refusal. A function from a
 -- listing of files and root names.
 --     walked enter outer pieces sections state    the pieces of a file
---     entered levels listing outer hash name state     an included file, where so many levels may still be opened
+--     entered levels listing outer hash name state     an included file, if so many levels may still be opened
 --     unit_of, units_of, preprocessed             a unit, units, and all
 use Rattle.std.specs.Prelude.{ℕ, zero, suc, List, [], ◌∷◌, map, drop, Option, Some, None, Result, Ok, Err, if◌then◌else◌}
 use Rattle.std.specs.Ordering.{nat_cmp}
@@ -34,7 +34,7 @@ module _ (enter : Option Pos → Token → List ℕ → State → Result State R
   include_named outer hash state (Err error) = Err error
   include_named outer hash state (Ok it) = enter outer hash it.name (with_left state it.left)
 
-  -- a directive that belongs to no section, where it is reached
+  -- a directive that belongs to no section, if it is reached
   abbrev pub reached_done : Option Pos → Keyword → Token → List Token → State → Result State ReadError
   reached_done outer Include hash line state =
       include_named outer hash state (include_name state.unit.macros state.progress.left hash.pos line)
@@ -46,7 +46,7 @@ module _ (enter : Option Pos → Token → List ℕ → State → Result State R
       if is_active sections then with_sections sections (reached_done outer keyword hash line state)
       else Ok (record { sections = sections; state = state })
 
-  -- any directive, with the tokens behind its keyword
+  -- any directive, with the tokens after its keyword
   abbrev pub directive_done : Option Pos → Keyword → Token → List Token → List Section → State → Result Turn ReadError
   directive_done outer If hash line sections state = if_done If hash line sections state
   directive_done outer Ifdef hash line sections state = if_done Ifdef hash line sections state
@@ -56,7 +56,7 @@ module _ (enter : Option Pos → Token → List ℕ → State → Result State R
   directive_done outer Endif hash line sections state = endif_done hash sections state
   directive_done outer keyword hash line sections state = other_done outer keyword hash line sections state
 
-  -- a run of text, where it is kept
+  -- a run of text, if it is kept
   abbrev pub run_done : List Token → List Section → State → Result State ReadError
   run_done tokens sections state = if is_active sections then text_done tokens state else Ok state
 
@@ -78,7 +78,7 @@ module _ (enter : Option Pos → Token → List ℕ → State → Result State R
 abbrev pub included_file : Found → Progress
 included_file found = record found.progress { included = insert_key nat_cmp found.progress.included found.number }
 
--- An included file, where so many levels may still be opened. Its name has its form; the depth comes before the file.
+-- An included file, if so many levels may still be opened. Its name has its form; the depth comes before the file.
 abbrev pub entered : ℕ → Listing → Option Pos → Token → List ℕ → State → Result State ReadError
 entered zero listing outer hash name state = Err (IncludeDepth hash.pos)
 entered (suc levels) listing outer hash name state =

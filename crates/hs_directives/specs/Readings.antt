@@ -1,12 +1,12 @@
 -- What a step says that may read files. Its outcome is the definition's, of any listing that has the files that were read.
 --     Agrees listing files       the files are listed, with their texts
 --     listing_of files           the files, as a listing
---     Grows told old new         more files were read: those of the listing, where one is told
---     IsCaused before now error  a miss or a fault was counted where the error says so
+--     Grows told old new         more files were read: those of the listing, if one is known
+--     IsCaused before now error  a miss or a fault was counted if the error says so
 --     Seeks ..                   the file that a refusal names is the next one that the definition reads
 --     IsReading ..               what each result says
 --     IsText ..                  what a read of a text says
---     entry levels listing ..    the file of an `#include`, and the state behind it
+--     entry levels listing ..    the file of an `#include`, and the state after it
 --     IsPreprocessed ..          what each answer of `preprocess` says
 use Rattle.std.specs.Prelude.{◌≡◌, List, [], ◌∷◌, ◌++◌, map, Option, Some, None, Result, Ok, Err, ℕ, zero, suc, ◌≤◌, length, nat_lt, if◌then◌else◌, IfSome, Vec, zip}
 use Rattle.std.specs.declared.alloc.Global.{Global}
@@ -44,18 +44,18 @@ listing_of files = map (λ file. (file.name, file.text)) files
 pub record Grows (told : Option Listing) (old new : List File) : Type 0 where
   pub more : List File
   pub longer : new ≡ old ++ more
-  -- they are the listing's, where one is told
+  -- they are the listing's, if one is known
   pub told_agrees : (listing : Listing) → told ≡ Some listing → Agrees listing old → Agrees listing new
   -- no name stands for two texts
   pub own_agrees : Agrees (listing_of old) old → Agrees (listing_of new) new
 
--- a miss or a fault was counted, where the error says so
+-- a miss or a fault was counted, if the error says so
 abbrev pub IsCaused : Counts → Counts → ReadError → Type 0
 IsCaused before now (Missing name) = HasRisen before.misses now.misses
 IsCaused before now (ReadFault name) = HasRisen before.faults now.faults
 IsCaused before now _ = Unit {0}
 
--- a file of that name is sought, once the files are read: where it is not listed, it is missing
+-- a file of that name is sought, once the files are read: if it is not listed, it is missing
 pub record IsSought {B : Type 0} (told : Option Listing) (old new : List File) (outcome : Listing → Result B ReadError) (name : List ℕ) : Type 0 where
   pub grows : Grows told old new
   pub unknown : file_of (listing_of new) name ≡ None
@@ -68,7 +68,7 @@ Seeks told old new outcome (ReadFault name) = IsSought told old new outcome name
 Seeks told old new outcome _ = Unit {0}
 
 -- A result that was returned, of a definition over listings: it is that of any listing that has the files that were read. A
--- refusal is that of the listing that is told, where no fault was counted.
+-- refusal is that of the known listing, if no fault was counted.
 abbrev pub IsReading : {A B : Type 0} → Option Listing → Counts → Counts → List File → List File → (A → B) → (Listing → Result B ReadError)
     → Result A ReadError → Type 0
 IsReading told before now old new view outcome (Ok value) =
@@ -77,7 +77,7 @@ IsReading told before now old new view outcome (Err error) =
     IsCaused before now error × Seeks told old new outcome error
     × ((listing : Listing) → told ≡ Some listing → IsSteady before.faults now.faults → Agrees listing old → IsRefusal (outcome listing) error)
 
--- the bytes of a named file, where it is listed and has not too many
+-- the bytes of a named file, if it is listed and has not too many
 abbrev pub text_of_listed : List ℕ → Option (List ℕ) → Result (List ℕ) ReadError
 text_of_listed name None = Err (Missing name)
 text_of_listed name (Some text) = if nat_lt (number_of FileBytes) (length text) then Err (passed FileBytes) else Ok text
@@ -112,7 +112,7 @@ abbrev pub seen_text : Result (Vec ℕ Global) ReadError → Result (List ℕ) R
 seen_text (Ok text) = Ok text.items
 seen_text (Err error) = Err error
 
--- the tokens of an included file, and the state behind its `#include`
+-- the tokens of an included file, and the state after its `#include`
 pub record Entry : Type 0 where
   pub tokens : List Token
   pub state : State
@@ -121,7 +121,7 @@ pub record Entry : Type 0 where
 abbrev pub entry_of : State → Found → Entry
 entry_of state found = record { tokens = found.tokens; state = record state { progress = included_file found } }
 
--- the file of that name, where so many levels may still be opened
+-- the file of that name, if so many levels may still be opened
 abbrev pub entry_named : ℕ → Listing → Token → List ℕ → State → Result Entry ReadError
 entry_named zero listing hash name state = Err (IncludeDepth hash.pos)
 entry_named (suc levels) listing hash name state = and_then (found_file listing name state.progress) (λ found. Ok (entry_of state found))
@@ -131,11 +131,11 @@ abbrev pub entry_by : ℕ → Listing → Token → State → Result Named ReadE
 entry_by levels listing hash state (Err error) = Err error
 entry_by levels listing hash state (Ok it) = entry_named levels listing hash it.name (with_left state it.left)
 
--- the file of the line behind `include`
+-- the file of the line after `include`
 abbrev pub entry : ℕ → Listing → Token → List Token → State → Result Entry ReadError
 entry levels listing hash line state = entry_by levels listing hash state (include_name state.unit.macros state.progress.left hash.pos line)
 
--- tokens that are shared, and the state behind them
+-- tokens that are shared, and the state after them
 abbrev pub entered_by : State → List Token → Entry
 entered_by state tokens = record { tokens = tokens; state = state }
 
@@ -156,7 +156,7 @@ abbrev pub AreListed : Listing → Listing → Type 0
 AreListed listing [] = Unit {0}
 AreListed listing (file ∷ files) = (file_of listing file.0 ≡ Some file.1) × AreListed listing files
 
--- some files, of the listing where one is told, of which alone the definition says that one of this name is missing
+-- some files, of the listing if one is known, of which alone the definition says that one of this name is missing
 abbrev pub IsUnread : Option Listing → List (List ℕ) → List ℕ → Type 0
 IsUnread told names name = (files : Listing) × IfSome told (λ listing. AreListed listing files) × (preprocessed files names ≡ Err (Missing name))
 
@@ -166,9 +166,9 @@ IsCausedBy told before now names (Missing name) = HasRisen before.misses now.mis
 IsCausedBy told before now names (ReadFault name) = HasRisen before.faults now.faults × IsUnread told names name
 IsCausedBy told before now names _ = Unit {0}
 
--- What a reader of sources answers, of the listing where it is told, and of the source's own files in any case.
+-- What a reader of sources answers, of the listing if it is known, and of the source's own files in any case.
 --     a source is the definition's
---     a refusal is the definition's, or want of memory, where no fault was counted
+--     a refusal is the definition's, or that memory ran out, if no fault was counted
 abbrev pub IsPreprocessed : Option Listing → Counts → Counts → List (List ℕ) → Result Source ReadError → Type 0
 IsPreprocessed told before now names (Ok source) =
     IfSome told (λ listing. preprocessed listing names ≡ Ok source) × (preprocessed (own_listing source) names ≡ Ok source)

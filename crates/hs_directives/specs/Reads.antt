@@ -1,5 +1,5 @@
 -- The reads that a step makes, in their order. Which file is read next is said by the definition alone: it is the one that is
--- missing where the files that were read before it are listed and it is not.
+-- missing if the files that were read before it are listed and it is not.
 --     IsNext outcome known name              the file of that name is the next one
 --     AreReads told outcome known names read each of the names was the next one, and the files are what was read
 --     AreBegun told outcome known names      the same, but that the last read may have given no file
@@ -18,12 +18,12 @@ use Rattle.hs_directives.specs.declared.error.ReadError.TheVariants.{Missing}
 use Rattle.hs_directives.specs.declared.source.Source.{Source}
 use Rattle.hs_directives.specs.declared.state.File.{File}
 
--- where these files are listed and the named one is not, it is missing
+-- if these files are listed and the named one is not, it is missing
 pub record IsNext {B : Type 0} (outcome : Listing → Result B ReadError) (known : Listing) (name : List ℕ) : Type 0 where
   pub unknown : file_of known name ≡ None
   pub missing : (listing : Listing) → AreListed listing known → file_of listing name ≡ None → outcome listing ≡ Err (Missing name)
 
--- the file of that name has these bytes, where the listing is told
+-- the file of that name has these bytes, if the listing is known
 abbrev pub IsTold : Option Listing → List ℕ → List ℕ → Type 0
 IsTold told name text = IfSome told (λ listing. file_of listing name ≡ Some text)
 

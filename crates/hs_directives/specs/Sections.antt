@@ -29,14 +29,14 @@ opened pos holds = record { pos = pos; reached = true; kept = holds; done = hold
 abbrev pub skipped : Pos → Section
 skipped pos = record { pos = pos; reached = false; kept = false; done = true; closed = false }
 
--- behind `#else`: the group is kept where none was
+-- after `#else`: the group is kept if none was
 abbrev pub elsed : Section → Section
 elsed section = record section { kept = not section.done; done = true; closed = true }
 
--- behind an `#elif` whose condition was not reached, since a group was kept
+-- after an `#elif` whose condition was not reached, since a group was kept
 abbrev pub passed_over : Section → Section
 passed_over section = record section { kept = false }
 
--- behind an `#elif` whose condition was reached
+-- after an `#elif` whose condition was reached
 abbrev pub elifed : Section → Bool → Section
 elifed section holds = record section { kept = holds; done = holds }

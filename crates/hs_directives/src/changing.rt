@@ -46,7 +46,7 @@ pub(crate) fn lone_name(line: &[Token]) -> Option<&[u8]>
     }
 }
 
-/// Where a change of macros counts as standing: at the root file's outermost open `#include`, where one is open.
+/// Where a change of macros counts as standing: at the root file's outermost open `#include`, if one is open.
 pub(crate) fn place_of(outer: Option<Pos>, pos: Pos) -> Pos
     ensures { result ≡ place_of outer pos }
 {
@@ -88,7 +88,7 @@ pub(crate) fn define_done(
     }
 }
 
-/// An `#undef` that is reached: a name that has no definition is let be (X3.159-1989 3.8.3.5).
+/// An `#undef` that is reached: a name that has no definition is ignored (X3.159-1989 3.8.3.5).
 pub(crate) fn undef_done(
     alloc: Global,
     outer: Option<Pos>,

@@ -45,7 +45,7 @@ fn asks(token: &Token) -> bool
     is_identifier(token) && token.text.items() == b"defined".as_slice()
 }
 
-/// The name behind `defined`, in parentheses or not (X3.159-1989 3.8.1).
+/// The name after `defined`, in parentheses or not (X3.159-1989 3.8.1).
 fn operand_of(tokens: &[Token]) -> Option<Asked<'_>>
     ensures { seen_operand result ≡ operand_of tokens.now }
 {
@@ -65,7 +65,7 @@ fn operand_of(tokens: &[Token]) -> Option<Asked<'_>>
     }
 }
 
-/// 1 or 0 in the place of `defined`.
+/// 1 or 0 instead of `defined`.
 fn answer(alloc: Global, token: &Token, holds: bool) -> Result<Token, AllocError>
     ensures { IfOk result (λ copy. copy ≡ answer token.now holds) }
 {
@@ -79,7 +79,7 @@ fn answer(alloc: Global, token: &Token, holds: bool) -> Result<Token, AllocError
     })
 }
 
-/// The tokens without `defined`, or nothing where one has no name (X3.159-1989 3.8.1).
+/// The tokens without `defined`, or nothing if one has no name (X3.159-1989 3.8.1).
 fn resolved(
     alloc: Global,
     macros: &Macros,

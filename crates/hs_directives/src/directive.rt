@@ -20,7 +20,7 @@ use hs_base::Pos;
 use hs_tokens::Token;
 use std::alloc::Global;
 
-/// A run of text, where it is kept.
+/// A run of text, if it is kept.
 pub(crate) fn run_done(
     tokens: &[Token],
     sections: &Sections,
@@ -37,7 +37,7 @@ pub(crate) fn run_done(
     }
 }
 
-/// A directive that neither includes nor belongs to a section, where it is reached.
+/// A directive that neither includes nor belongs to a section, if it is reached.
 fn line_done(
     alloc: Global,
     outer: Option<Pos>,
@@ -84,7 +84,7 @@ pub(crate) fn directive_done(
     }
 }
 
-/// The tokens behind the keyword of a directive.
+/// The tokens after the keyword of a directive.
 fn operands(line: &[Token]) -> &[Token]
     ensures { result.now ≡ drop 1 line.now }
 {
@@ -94,7 +94,7 @@ fn operands(line: &[Token]) -> &[Token]
     }
 }
 
-/// The `#` of a directive that includes a file here, and the tokens behind its keyword.
+/// The `#` of a directive that includes a file here, and the tokens after its keyword.
 pub(crate) fn inclusion<'a>(part: Part<'a>, sections: &Sections) -> Option<(&'a Token, &'a [Token])>
     ensures { IsInclusionOf part.entry sections.now result }
 {

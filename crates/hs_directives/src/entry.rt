@@ -12,7 +12,7 @@ use hs_base::Files;
 use hs_tokens::Token;
 use std::alloc::Global;
 
-/// The file that an `#include` names, where so many levels may still be opened (X3.159-1989 3.8.2).
+/// The file that an `#include` names, if so many levels may still be opened (X3.159-1989 3.8.2).
 pub(crate) fn entry<F: Files>(
     alloc: Global,
     files: &mut F,

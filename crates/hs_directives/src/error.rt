@@ -7,7 +7,7 @@ use std::alloc::{AllocError, AllocFailed};
 /// Why a text has no tokens (X3.159-1989 3.1).
 #[derive(Clone, Copy, Debug, PartialEq, Eq)]
 pub enum ScanKind {
-    /// A byte that no token may have there, or an escape that is none.
+    /// A byte that no token may have there, or a malformed escape.
     BadByte,
     /// A comment that the text leaves open.
     OpenComment,

@@ -80,7 +80,7 @@ pub(crate) fn if_done(
     Ok(())
 }
 
-/// An `#elif`, which has an `#if` before it, and no `#else` (X3.159-1989 3.8.1). Behind a group that was kept its condition is
+/// An `#elif`, which has an `#if` before it, and no `#else` (X3.159-1989 3.8.1). After a group that was kept its condition is
 /// not reached.
 pub(crate) fn elif_done(
     alloc: Global,

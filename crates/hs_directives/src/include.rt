@@ -73,7 +73,7 @@ fn is_name(name: &[u8]) -> bool
     !name.is_empty() && are_printable(name)
 }
 
-/// The name, where it is one.
+/// The name, if it is one.
 #[tactic(auto, using(crate::proofs::Printable::utf8_from_name))]
 fn checked_name(
     alloc: Global,
@@ -103,7 +103,7 @@ fn tokens_of(alloc: Global, sources: Vec<SourceToken>) -> Result<Vec<Token>, All
     Ok(tokens)
 }
 
-/// The name of the line behind `include`, of the directive whose `#` stands there. A line of neither form is replaced first
+/// The name of the line after `include`, of the directive whose `#` stands there. A line of neither form is replaced first
 /// (X3.159-1989 3.8.2).
 pub(crate) fn include_name(
     alloc: Global,

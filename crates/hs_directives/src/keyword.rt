@@ -50,7 +50,7 @@ fn named(name: &[u8]) -> Keyword
     }
 }
 
-/// What the tokens behind a `#` call for.
+/// What the tokens after a `#` call for.
 pub(crate) fn keyword_of(line: &[Token]) -> Keyword
     ensures { result ≡ keyword_of line.now }
 {

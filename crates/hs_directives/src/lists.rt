@@ -82,7 +82,7 @@ impl SourceTokens {
         SourceTokens { vec: items }
     }
 
-    /// More items behind them.
+    /// More items after them.
     pub(crate) fn append(&mut self, items: Vec<SourceToken>) -> Result<(), AllocError>
         ensures { OnOk result (self.new ≡ self.old ++ items.items) }
     {

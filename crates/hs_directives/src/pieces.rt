@@ -10,7 +10,7 @@ use hs_tokens::{Token, is_mark};
 pub(crate) enum Part<'a> {
     /// A run of text.
     Run(&'a [Token]),
-    /// A directive: its `#`, and the tokens behind that on its line.
+    /// A directive: its `#`, and the tokens after that on its line.
     Directive(&'a Token, &'a [Token]),
 }
 
@@ -55,7 +55,7 @@ fn run_len(tokens: &[Token]) -> usize
     len
 }
 
-/// The first piece, and the tokens behind it.
+/// The first piece, and the tokens after it.
 #[tactic(auto, using(crate::proofs::Cuts::cut_directive, crate::proofs::Cuts::cut_run))]
 pub(crate) fn first_piece(tokens: &[Token]) -> Option<(Part<'_>, &[Token])>
     ensures { IsFirst tokens.now result }

@@ -45,7 +45,7 @@ impl Section {
         }
     }
 
-    /// Behind its `#else`.
+    /// After its `#else`.
     pub(crate) fn elsed(self) -> Section
         ensures { result ≡ elsed self }
     {
@@ -57,7 +57,7 @@ impl Section {
         }
     }
 
-    /// Behind an `#elif` whose condition was not reached, since a group was kept.
+    /// After an `#elif` whose condition was not reached, since a group was kept.
     pub(crate) fn passed_over(self) -> Section
         ensures { result ≡ passed_over self }
     {
@@ -67,7 +67,7 @@ impl Section {
         }
     }
 
-    /// Behind an `#elif` whose condition was reached.
+    /// After an `#elif` whose condition was reached.
     pub(crate) fn elifed(self, holds: bool) -> Section
         ensures { result ≡ elifed self holds }
     {

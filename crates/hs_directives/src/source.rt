@@ -5,7 +5,7 @@ use hs_base::{Bytes, Pos};
 /// A `#define` or `#undef` that was reached.
 #[derive(Debug, Drop)]
 pub struct MacroChange {
-    /// Its `#`, or that of the root file's outermost open `#include` where one is open.
+    /// Its `#`, or that of the root file's outermost open `#include` if one is open.
     pub pos: Pos,
     /// The macro's name.
     pub name: Bytes,

@@ -107,7 +107,7 @@ fn source_of(
 ///
 /// # Errors
 ///
-/// The first refusal, as [`ReadError`] says: where it has a place, that is in the file of its number.
+/// The first refusal, as [`ReadError`] says: if it has a place, that is in the file of its number.
 pub fn preprocess<F: Files>(
     alloc: Global,
     files: &mut F,

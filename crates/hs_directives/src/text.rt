@@ -9,7 +9,7 @@ use hs_base::LimitKind;
 use hs_macros::Budget;
 use hs_tokens::{SourceToken, Token};
 
-/// Puts the tokens of a run behind those of the unit, which takes them from what is left.
+/// Puts the tokens of a run after those of the unit, which takes them from what is left.
 fn with_tokens(state: &mut State, left: Budget, tokens: Vec<SourceToken>) -> Result<(), ReadError>
     ensures gives { Gives (λ _. state.new) (with_tokens state.old (record { tokens = tokens.items; left = left })) result }
     ensures files_stay { state.new.progress.files ≡ state.old.progress.files }

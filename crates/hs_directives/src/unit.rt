@@ -39,7 +39,7 @@ pub(crate) fn fresh(alloc: Global) -> Result<UnitSoFar, ReadError>
     }
 }
 
-/// The unit of a root file, where the state's unit is a fresh one, and is again a fresh one behind it.
+/// The unit of a root file, if the state's unit is a fresh one, and is again a fresh one after it.
 pub(crate) fn unit_of<F: Files>(
     alloc: Global,
     files: &mut F,

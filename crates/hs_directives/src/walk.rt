@@ -16,7 +16,7 @@ use crate::state::State;
 use hs_base::{Files, Pos};
 use std::alloc::Global;
 
-/// The pieces of a file, one after another, where so many levels may still be opened. A section that is still open at the end
+/// The pieces of a file, one after another, if so many levels may still be opened. A section that is still open at the end
 /// is tried last.
 pub(crate) fn walk<F: Files>(
     alloc: Global,

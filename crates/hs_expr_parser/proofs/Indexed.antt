@@ -14,16 +14,16 @@ Key = Vec ℕ Global
 abbrev pub is_key : List Key → List ℕ → Bool
 is_key keys text = list_any (λ key. pointwise nat_eq text key.items) keys
 
--- the one test or the other, where the other is not passed
+-- the one test or the other, if the other is not passed
 or_no : (b : Bool) → b ≡ (b || false)
 or_no true = refl
 or_no false = refl
 
--- the one test or the other, where the one is passed
+-- the one test or the other, if the one is passed
 or_yes : (b c : Bool) → b ≡ true → b ≡ (b || c)
 or_yes b c passed = passed ∙ sym (ap (λ b. b || c) passed)
 
--- a text is among the names and one more where it is among the names, or is that one
+-- a text is among the names and one more if it is among the names, or is that one
 is_among-with : (names : List (List ℕ)) (name text : List ℕ) → is_among (names ++ name ∷ []) text ≡ (is_among names text || pointwise nat_eq name text)
 is_among-with names name text = list_any-append (λ word. pointwise nat_eq word text) names (name ∷ [])
     ∙ ap (λ b. is_among names text || b) (sym (or_no (pointwise nat_eq name text)))
@@ -40,7 +40,7 @@ known keys names name text false is here alike = or_no (is_among names text)
 known keys names name text true is here alike =
     or_yes (is_among names text) true (sym (is text) ∙ subst (λ text. is_key keys text ≡ true) (same_text name text alike) here)
 
--- the index takes a name that it has not, and stays where it has it
+-- the index takes a name that it has not, and stays if it has it
 by : (keys : List Key) (names : List (List ℕ)) (key : Key) (text : List ℕ) (here : Bool) → IsIndexOf keys names → is_key keys key.items ≡ here
     → is_key (cond here keys (keys ++ key ∷ [])) text ≡ is_among (names ++ key.items ∷ []) text
 by keys names key text true is here =

@@ -340,7 +340,7 @@ pub specifiers_nothing : (known : Known) (typed : Bool) (earlier : List Specifie
 unfolding specifiers_at
 specifiers_nothing known typed earlier = refl
 
--- what follows specifiers so far, where one more begins
+-- what follows specifiers so far, if one more begins
 specifiers_step : (known : Known) (typed : Bool) (earlier : List Specified) (source : SourceToken) (rest : List SourceToken)
     → begins_specifier known typed source ≡ true
     → specifiers_at known typed earlier (source ∷ rest)
@@ -681,7 +681,7 @@ members_fails known its rest is read =
     let more : OneMember × List SourceToken → Read (List OneMember) = λ it. members_on known (its ++ it.0 ∷ []) it.1 in
     ap (λ test. if test then Some (its, rest) else members_at known its rest) is ∙ members_step known its rest ∙ ap (λ found. found >>= more) read
 
--- behind a comma stands no `}`
+-- after a comma stands no `}`
 constants_behind : (known : Known) (its : List OneConstant) (rest : List SourceToken) (comma : Place) (next : List SourceToken)
     → mark_at (codes ",") rest ≡ Some (comma, next) → is_mark_ahead (codes "}") next ≡ false → constants_on known its rest ≡ constants_at known its next
 constants_behind known its rest comma next is other =

@@ -37,7 +37,7 @@ variable text = tree.name (word text)
 abbrev binary : Expression → BinaryOperator → Expression → Expression
 binary left operator right = tree.binary left operator nowhere right
 
--- what is read, where T is a typedef name or nothing is
+-- what is read, if T is a typedef name or nothing is
 abbrev read : List SourceToken → Read Expression
 read = reading [] goal.expression
 
@@ -139,7 +139,7 @@ product_first : read (a ∷ star ∷ b ∷ plus ∷ c ∷ []) ≡ Some (binary (
 unfolding reading keywords specifier_words
 product_first = refl
 
--- `(T)-1` is a cast where T is a typedef name, and a subtraction where it is none
+-- `(T)-1` is a cast if T is a typedef name, and a subtraction if it is not
 casts : read_with_T (open_ ∷ type ∷ close_ ∷ minus ∷ one ∷ []) ≡ Some (tree.cast nowhere type_T (tree.prefix Minus nowhere one_read), [])
 unfolding reading keywords specifier_words
 casts = refl
@@ -167,7 +167,7 @@ assigns : read (a ∷ equals ∷ b ∷ equals ∷ c ∷ []) ≡ Some (tree.assig
 unfolding reading keywords specifier_words
 assigns = refl
 
--- `&*a`, a cast behind them, and adjacent literals
+-- `&*a`, a cast after them, and adjacent literals
 prefixes : read_with_T (amp ∷ star ∷ open_ ∷ type ∷ close_ ∷ a ∷ [])
     ≡ Some (tree.prefix Address nowhere (tree.prefix Dereference nowhere (tree.cast nowhere type_T a_read)), [])
 unfolding reading keywords specifier_words

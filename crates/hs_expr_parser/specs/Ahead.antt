@@ -143,7 +143,7 @@ place_if false source = None
 abbrev pub mark_at : List ℕ → List SourceToken → Read Place
 mark_at text = first_at (λ source. place_if (is_punctuator text source) source)
 
--- the word that an identifier is, where it is no keyword
+-- the word that an identifier is, if it is no keyword
 abbrev pub name_of : SourceToken → Option Word
 name_of source = if is_same_kind source.token.kind Identifier && is_name source.token.text then Some (word_of source) else None
 
@@ -158,7 +158,7 @@ literals_at (source ∷ rest) =
 
 -- ---- specifiers
 
--- The token begins a specifier, where a type specifier stands before it or not.
+-- The token begins a specifier, with a type specifier before it or without.
 abbrev pub begins_specifier : List (List ℕ) → Bool → SourceToken → Bool
 begins_specifier known typed source =
     is_same_kind source.token.kind Identifier
@@ -175,7 +175,7 @@ begins_type known (source ∷ rest) = is_punctuator (codes "(") source && is_ahe
 abbrev pub postfix_marks : List (List ℕ)
 postfix_marks = codes "[" ∷ codes "(" ∷ codes "." ∷ codes "->" ∷ codes "++" ∷ codes "--" ∷ []
 
--- How loose an expression is that goes on with the token behind its first part: 16 for a literal behind a literal, 15 for the operators
+-- How loose an expression is that goes on with the token after its first part: 16 for a literal after a literal, 15 for the operators
 -- of postfix expressions, 3 to 12 for the binary operators, 2 for `?`, 1 for the operators of assignments and 0 for a comma.
 abbrev pub joins_by : Bool → Option BinaryOperator → Option AssignOperator → SourceToken → Option ℕ
 joins_by true operator assigned source = Some 15

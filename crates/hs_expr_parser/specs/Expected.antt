@@ -1,4 +1,4 @@
--- What is shown of each phrase that stands at the front of tokens: it is read, where what follows ends it.
+-- What is shown of each phrase that stands at the front of tokens: it is read, if what follows ends it.
 --     ended rest                      a punctuator follows that ends a declarator
 --     specifiers_in, members_in, ..   the entries of a list
 --     ReadsType, ReadsSpecifier, ..   the phrases
@@ -69,7 +69,7 @@ ReadsSpecifier known table it =
     × (specifier_rule known table source others ≡ Some (it, rest))
     × ((typed : Bool) → (typed && is_named_type it) ≡ false → begins_specifier known typed source ≡ true)
 
--- specifiers behind earlier ones, up to a token that begins none
+-- specifiers after earlier ones, up to a token that begins none
 abbrev pub ReadsSpecification : Known → Shorter → Specification → Type 0
 ReadsSpecification known table its =
     (typed : Bool) (earlier : List Specified) (front rest : List SourceToken) → IsOf (specification_form known typed its) front
@@ -96,7 +96,7 @@ ReadsDeclarator known table it =
     (inner : Bool) (front rest : List SourceToken) → IsOf (declarator_form known inner it) front → (inner || is_named it) ≡ true → ended rest ≡ true
     → declarator_rule known table inner (front ++ rest) ≡ Some (it, rest)
 
--- what a declarator has behind its pointers: behind it more of the same is read
+-- what a declarator has after its pointers: after it more of the same is read
 abbrev pub directly : Known → Shorter → Bool → List SourceToken → Read Directly
 directly known table inner tokens = do
   base ← base_rule known table inner tokens

@@ -1,5 +1,5 @@
 -- What it means that something was found at a place: the tokens in front are a phrase of the grammar.
---     Found known goal it front rest      `it` is what the tokens of front are, with rest behind them
+--     Found known goal it front rest      `it` is what the tokens of front are, with rest after them
 --     IsFound table                       so it is wherever the table reads something
 use Rattle.std.specs.Prelude.{◌≡◌, ◌≤◌, Bool, true, false, ◌||◌, List, ◌∷◌, ◌++◌, Some}
 use Rattle.hs_tokens.specs.declared.token.SourceToken.{SourceToken}
@@ -14,7 +14,7 @@ use Rattle.hs_expr_parser.specs.Goals as goal
 use Rattle.hs_expr_parser.specs.Goals.{Goal, Tree}
 use Rattle.hs_expr_parser.specs.Reading.{Known, Shorter}
 
--- more entries behind the earlier ones, at least one
+-- more entries after the earlier ones, at least one
 abbrev pub Grown : {A : Type 0} → List A → List A → (List A → Type 0) → Type 0
 Grown {A = A} earlier all Holds = (first : A) × (others : List A) × (all ≡ earlier ++ first ∷ others) × Holds (first ∷ others)
 
@@ -25,7 +25,7 @@ Found known goal.conditional e front rest = IsOf (as_conditional e (expression_f
 Found known (goal.binary least) e front rest = least ≤ 11 → IsOf (as_operand least e (expression_form known e)) front
 Found known goal.cast e front rest = IsOf (as_cast e (expression_form known e)) front
 Found known goal.unary e front rest = IsOf (as_unary e (expression_form known e)) front
--- behind what was read before
+-- after what was read before
 Found known (goal.commas lefts right) e front rest =
     (before : List SourceToken) → IsOf (lefts_form known (lefts_from lefts) ⨾ as_assignment right (expression_form known right)) before
     → IsOf (expression_form known e) (before ++ front)
@@ -36,7 +36,7 @@ Found known (goal.suffixes base) e front rest =
     (before : List SourceToken) → IsOf (as_postfix base (expression_form known base)) before → IsOf (as_postfix e (expression_form known e)) (before ++ front)
 Found known (goal.arguments earlier) all front rest = Grown earlier all (λ its. IsOf (arguments_form known (expressions_from its)) front)
 Found known goal.type_name type front rest = IsOf (type_form known type) front
--- the tokens behind specifiers begin none
+-- the tokens after specifiers begin none
 Found known (goal.specifiers typed earlier) all front rest =
     (its : List Specified) × (all ≡ earlier ++ its) × IsOf (specification_form known typed (specification_from its)) front
     × (is_ahead (begins_specifier known (typed || is_typed (specification_from its))) rest ≡ false)

@@ -1,6 +1,6 @@
 -- What a function of the code gives, beside what is read.
---     Gives view result read      it found what is read, or nothing where nothing is; or memory was refused
---     Seen view found read        the same where no memory is taken
+--     Gives view result read      it found what is read, or nothing if nothing is; or memory was refused
+--     Seen view found read        the same if no memory is taken
 use Rattle.std.specs.Prelude.{◌≡◌, Option, Some, None, Result, Ok, Err}
 use Rattle.hs_expr_parser.specs.declared.parse_end.ParseEnd.{ParseEnd}
 use Rattle.hs_expr_parser.specs.declared.parse_end.ParseEnd.TheVariants.{NotExpr, NoMemory}

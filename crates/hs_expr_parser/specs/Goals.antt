@@ -1,5 +1,5 @@
 -- What is read at a place, and what is found there.
---     Goal         a phrase, or the rest of one behind its parts so far
+--     Goal         a phrase, or the rest of one after its parts so far
 --     Tree goal    what is found
 use Rattle.std.specs.Prelude.{ℕ, Bool, List}
 use Rattle.hs_syntax.specs.RowViews.{OneLeft, OneMember, OneConstant, OneParameter}
@@ -13,26 +13,26 @@ pub data Goal : Type 0 where
   binary : ℕ → Goal
   cast : Goal
   unary : Goal
-  -- the rest of an expression behind its commas so far and the last operand
+  -- the rest of an expression after its commas so far and the last operand
   commas : List OneLeft → Expression → Goal
-  -- the rest behind a left operand: operators of at least the first level and at most the second
+  -- the rest after a left operand: operators of at least the first level and at most the second
   climb : ℕ → ℕ → Expression → Goal
   -- the rest of a postfix expression
   suffixes : Expression → Goal
-  -- arguments behind earlier ones
+  -- arguments after earlier ones
   arguments : List Expression → Goal
-  -- type names, and specifiers behind earlier ones, whether a type specifier was among them
+  -- type names, and specifiers after earlier ones, whether a type specifier was among them
   type_name : Goal
   specifiers : Bool → List Specified → Goal
-  -- members and enumeration constants behind earlier ones
+  -- members and enumeration constants after earlier ones
   members : List OneMember → Goal
   constants : List OneConstant → Goal
-  -- a declarator, in a parameter or a type name or not; declarators behind earlier ones
+  -- a declarator, in a parameter or a type name or not; declarators after earlier ones
   declarator : Bool → Goal
   declarators : List Declared → Goal
-  -- the rest of a declarator behind its name
+  -- the rest of a declarator after its name
   directs : Directly → Goal
-  -- parameters behind earlier ones
+  -- parameters after earlier ones
   parameters : List OneParameter → Goal
 
 abbrev pub Tree : Goal → Type 0

@@ -1,7 +1,7 @@
 -- How the grammar's phrases are read from left to right (X3.159-1989 3.3 and 3.5): a rule for each, over a table of readings for
 -- shorter lists. `Grammar.antt` of hs_syntax says what is right; the clauses of `expr` have that the reading agrees with it.
---     rule known goal         the rule of a goal, where these typedef names are known
---     reading known goal      what is read, and the tokens behind it
+--     rule known goal         the rule of a goal, if these typedef names are known
+--     reading known goal      what is read, and the tokens after it
 use Rattle.std.specs.Prelude.{ℕ, suc, nat_le, Bool, true, false, not, ◌&&◌, ◌||◌, List, [], ◌∷◌, ◌++◌, codes, Option, Some, None, is_some, if◌then◌else◌}
 use Rattle.hs_constants.specs.Numbers.{number_value}
 use Rattle.hs_tokens.specs.declared.token.SourceToken.{SourceToken}
@@ -45,7 +45,7 @@ abbrev pub ◌>>=◌ : {A B : Type 0} → Option A → (A → Option B) → Opti
 None >>= f = None
 (Some x) >>= f = f x
 
--- more, where something was read; else it stops
+-- more, if something was read; else it stops
 abbrev pub going_on : {A B : Type 0} → Read A → (A → List SourceToken → B) → B → B
 going_on None more stop = stop
 going_on (Some it) more stop = more it.0 it.1
@@ -92,7 +92,7 @@ member_rule base (Some access) operator at rest = do
 member_rule base None (Some operator) at rest = Some (tree.postfix base operator at, rest)
 member_rule base None None at rest = None
 
--- what is read behind a postfix expression, and it
+-- what is read after a postfix expression, and it
 abbrev pub suffix_rule : Shorter → Expression → List SourceToken → Read Expression
 suffix_rule table base [] = None
 suffix_rule table base (source ∷ rest) =
@@ -173,7 +173,7 @@ abbrev pub operand_rule : Shorter → ℕ → ℕ → List SourceToken → Read 
 operand_rule table least most [] = None
 operand_rule table least most (source ∷ rest) = operand_by table least most (binary_of source) (place_of source) rest
 
--- Behind an operator of some level no tighter one follows: its right operand would have taken it.
+-- After an operator of some level no tighter one follows: its right operand would have taken it.
 abbrev pub climb_rule : Shorter → ℕ → ℕ → Expression → List SourceToken → Read Expression
 climb_rule table least most left tokens =
     going_on (operand_rule table least most tokens)
@@ -256,7 +256,7 @@ arguments_rule known table earlier tokens = do
 
 -- ---- specifiers (3.5.1 to 3.5.3)
 
--- a tag, where one stands there
+-- a tag, if one stands there
 abbrev pub tag_at : List SourceToken → Option Word × List SourceToken
 tag_at tokens = going_on (name_at tokens) (λ name rest. (Some name, rest)) (None, tokens)
 
@@ -320,7 +320,7 @@ pointer_by false None at = None
 abbrev pub pointer_of : SourceToken → Option Pointer
 pointer_of source = pointer_by (is_punctuator (codes "*") source) (dropped_of source) (place_of source)
 
--- one more in front, where there is one
+-- one more in front, if there is one
 abbrev pub with_pointer : Option Pointer → SourceToken → List SourceToken → List Pointer × List SourceToken → List Pointer × List SourceToken
 with_pointer None source rest others = ([], source ∷ rest)
 with_pointer (Some it) source rest others = (it ∷ others.0, others.1)
@@ -330,7 +330,7 @@ abbrev pub pointers_at : List SourceToken → List Pointer × List SourceToken
 pointers_at [] = ([], [])
 pointers_at (source ∷ rest) = with_pointer (pointer_of source) source rest (pointers_at rest)
 
--- a list of parameters stands behind a `(`
+-- a list of parameters follows a `(`
 abbrev pub begins_list : Known → List SourceToken → Bool
 begins_list known rest = is_mark_ahead (codes ")") rest || is_ahead (begins_specifier known false) rest
 
@@ -345,7 +345,7 @@ inside_rule table inner rest = do
   close ← mark_at (codes ")") it.1
   filled it.0 close.1
 
--- nothing, where a name may be missing
+-- nothing, if a name may be missing
 abbrev pub nothing_there : Bool → List SourceToken → Read Directly
 nothing_there true tokens = Some (tree.nothing, tokens)
 nothing_there false tokens = None
@@ -356,12 +356,12 @@ base_by known table inner None source rest =
     if is_punctuator (codes "(") source && not (inner && begins_list known rest) then inside_rule table inner rest
     else nothing_there inner (source ∷ rest)
 
--- what the rest of a declarator stands behind: a name, a declarator in parentheses, or nothing
+-- what the rest of a declarator follows: a name, a declarator in parentheses, or nothing
 abbrev pub base_rule : Known → Shorter → Bool → List SourceToken → Read Directly
 base_rule known table inner [] = nothing_there inner []
 base_rule known table inner (source ∷ rest) = base_by known table inner (name_of source) source rest
 
--- behind a `[`
+-- after a `[`
 abbrev pub length_rule : Shorter → Directly → List SourceToken → Read Directly
 length_rule table base rest =
     going_on (mark_at (codes "]") rest) (λ close others. Some (tree.array base, others)) (do
@@ -377,7 +377,7 @@ void_alone (source ∷ rest) = do
   close ← mark_at (codes ")") rest
   Some (void, close.1)
 
--- behind a `(`
+-- after a `(`
 abbrev pub list_rule : Shorter → Directly → List SourceToken → Read Directly
 list_rule table base rest =
     going_on (mark_at (codes ")") rest) (λ close others. Some (tree.function base tree.no_parameters, others))
@@ -476,6 +476,6 @@ rule known table (goal.declarators earlier) tokens = declarators_rule known tabl
 rule known table (goal.directs base) tokens = directs_rule table base tokens
 rule known table (goal.parameters earlier) tokens = parameters_rule known table earlier tokens
 
--- what is read, and the tokens behind it
+-- what is read, and the tokens after it
 unfoldable pub reading : Known → Shorter
 reading known = fixed (rule known)

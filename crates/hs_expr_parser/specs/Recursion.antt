@@ -1,5 +1,5 @@
 -- Readings that call one another on shorter lists of tokens.
---     Table Read          for each goal a reading: what is read, and the tokens behind it, or nothing
+--     Table Read          for each goal a reading: what is read, and the tokens after it, or nothing
 --     below limit table   the same on shorter lists than the limit alone
 --     fixed rule          the table in which each goal is read by its rule, which reads the others on shorter lists
 use Rattle.std.specs.Prelude.{ℕ, zero, suc, nat_lt, List, length, Option, None, if◌then◌else◌}

@@ -43,11 +43,11 @@ postfix_at known tokens = postfix_rule known (reading known) tokens
 unfoldable pub primary_at : Known → List SourceToken → Read Expression
 primary_at known tokens = primary_rule known (reading known) tokens
 
--- an expression in parentheses, behind the first
+-- an expression in parentheses, after the first
 unfoldable pub parens_at : Known → Place → List SourceToken → Read Expression
 parens_at known at rest = parens_rule (reading known) at rest
 
--- what is read behind a postfix expression, and it
+-- what is read after a postfix expression, and it
 unfoldable pub suffix_at : Known → Expression → List SourceToken → Read Expression
 suffix_at known base tokens = suffix_rule (reading known) base tokens
 
@@ -63,7 +63,7 @@ operand_of known operator rest = operand_at (reading known) operator rest
 unfoldable pub type_in_parens_at : Known → List SourceToken → Read (Place × NamedType)
 type_in_parens_at known tokens = type_in_parens (reading known) tokens
 
--- what stands behind `sizeof`, and it
+-- what follows `sizeof`, and it
 unfoldable pub sizeof_at : Known → Place → List SourceToken → Read Expression
 sizeof_at known at rest = sizeof_rule known (reading known) at rest
 
@@ -71,7 +71,7 @@ sizeof_at known at rest = sizeof_rule known (reading known) at rest
 unfoldable pub infix_at : Known → ℕ → ℕ → List SourceToken → Read Operand
 infix_at known least most tokens = operand_rule (reading known) least most tokens
 
--- the rest behind a left operand
+-- the rest after a left operand
 unfoldable pub climb_at : Known → ℕ → ℕ → Expression → List SourceToken → Read Expression
 climb_at known least most left tokens = climb_rule (reading known) least most left tokens
 
@@ -87,11 +87,11 @@ value_at known tokens = value_rule (reading known) tokens
 unfoldable pub another_at : Known → List SourceToken → Read (Place × Expression)
 another_at known tokens = another_rule (reading known) tokens
 
--- the rest behind commas so far
+-- the rest after commas so far
 unfoldable pub commas_at : Known → List OneLeft → Expression → List SourceToken → Read Expression
 commas_at known lefts right tokens = commas_rule (reading known) lefts right tokens
 
--- arguments behind earlier ones
+-- arguments after earlier ones
 unfoldable pub arguments_at : Known → List Expression → List SourceToken → Read (List Expression)
 arguments_at known earlier tokens = arguments_rule known (reading known) earlier tokens
 
@@ -103,7 +103,7 @@ some_arguments_at known tokens = if is_mark_ahead (codes ")") tokens then Some (
 unfoldable pub type_at : Known → List SourceToken → Read NamedType
 type_at known tokens = type_rule known (reading known) tokens
 
--- specifiers behind earlier ones
+-- specifiers after earlier ones
 unfoldable pub specifiers_at : Known → Bool → List Specified → List SourceToken → Read (List Specified)
 specifiers_at known typed earlier tokens = specifiers_rule known (reading known) typed earlier tokens
 
@@ -115,15 +115,15 @@ some_specifiers_at known tokens = some_specifiers_rule known (reading known) tok
 unfoldable pub specifier_at : Known → SourceToken → List SourceToken → Read Specified
 specifier_at known source rest = specifier_rule known (reading known) source rest
 
--- a struct, behind its tag
+-- a struct, after its tag
 unfoldable pub struct_at : Known → Place → Option Word → List SourceToken → Read Specified
 struct_at known at tag rest = struct_by (reading known) at tag rest
 
--- an enumeration, behind its tag
+-- an enumeration, after its tag
 unfoldable pub enum_at : Known → Place → Option Word → List SourceToken → Read Specified
 enum_at known at tag rest = enum_by (reading known) at tag rest
 
--- members behind earlier ones
+-- members after earlier ones
 unfoldable pub members_at : Known → List OneMember → List SourceToken → Read (List OneMember)
 members_at known earlier tokens = members_rule known (reading known) earlier tokens
 
@@ -131,7 +131,7 @@ members_at known earlier tokens = members_rule known (reading known) earlier tok
 unfoldable pub member_at : Known → List SourceToken → Read OneMember
 member_at known tokens = member_rule_of known (reading known) tokens
 
--- enumeration constants behind earlier ones
+-- enumeration constants after earlier ones
 unfoldable pub constants_at : Known → List OneConstant → List SourceToken → Read (List OneConstant × Bool)
 constants_at known earlier tokens = constants_rule (reading known) earlier tokens
 
@@ -143,11 +143,11 @@ constant_at known tokens = constant_rule (reading known) tokens
 unfoldable pub declarator_at : Known → Bool → List SourceToken → Read Declared
 declarator_at known inner tokens = declarator_rule known (reading known) inner tokens
 
--- what the rest of a declarator stands behind
+-- what the rest of a declarator follows
 unfoldable pub base_at : Known → Bool → List SourceToken → Read Directly
 base_at known inner tokens = base_rule known (reading known) inner tokens
 
--- a declarator in parentheses, behind the first
+-- a declarator in parentheses, after the first
 unfoldable pub inside_at : Known → Bool → List SourceToken → Read Directly
 inside_at known inner rest = inside_rule (reading known) inner rest
 
@@ -155,19 +155,19 @@ inside_at known inner rest = inside_rule (reading known) inner rest
 unfoldable pub directs_at : Known → Directly → List SourceToken → Read Directly
 directs_at known base tokens = directs_rule (reading known) base tokens
 
--- the length of an array, behind the `[`
+-- the length of an array, after the `[`
 unfoldable pub length_at : Known → Directly → List SourceToken → Read Directly
 length_at known base rest = length_rule (reading known) base rest
 
--- a list of parameters, behind the `(`
+-- a list of parameters, after the `(`
 unfoldable pub list_at : Known → Directly → List SourceToken → Read Directly
 list_at known base rest = list_rule (reading known) base rest
 
--- declarators behind earlier ones
+-- declarators after earlier ones
 unfoldable pub declarators_at : Known → List Declared → List SourceToken → Read (List Declared)
 declarators_at known earlier tokens = declarators_rule known (reading known) earlier tokens
 
--- parameters behind earlier ones
+-- parameters after earlier ones
 unfoldable pub parameters_at : Known → List OneParameter → List SourceToken → Read (List OneParameter)
 parameters_at known earlier tokens = parameters_rule known (reading known) earlier tokens
 

@@ -1,4 +1,4 @@
--- What a suffix makes of the postfix expression that it stands behind.
+-- What a suffix makes of the postfix expression that it follows.
 use Rattle.std.specs.Prelude.{map}
 use Rattle.hs_syntax.specs.RowViews.{expressions_from}
 use Rattle.hs_syntax.specs.Trees as tree

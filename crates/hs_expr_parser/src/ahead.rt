@@ -83,7 +83,7 @@ pub(crate) fn begins_type(known: &TypeNames, tokens: &[SourceToken]) -> bool
     }
 }
 
-/// Whether a list of parameters stands there, behind a `(` (X3.159-1989 3.5.4.3).
+/// Whether a list of parameters stands there, after a `(` (X3.159-1989 3.5.4.3).
 pub(crate) fn begins_list(known: &TypeNames, tokens: &[SourceToken]) -> bool
     ensures { result ≡ begins_list known.now tokens.now }
 {
@@ -135,7 +135,7 @@ pub(crate) fn name<'a>(
     }
 }
 
-/// The string literals in front, and the tokens behind them (X3.159-1989 2.1.1.2 phase 6).
+/// The string literals in front, and the tokens after them (X3.159-1989 2.1.1.2 phase 6).
 pub(crate) fn literals<'a>(
     alloc: Global,
     tokens: &'a [SourceToken],
@@ -155,7 +155,7 @@ pub(crate) fn literals<'a>(
     Ok((literals, rest))
 }
 
-/// A tag, where one stands there, and the tokens behind it (X3.159-1989 3.5.2.3).
+/// A tag, if one stands there, and the tokens after it (X3.159-1989 3.5.2.3).
 pub(crate) fn tag<'a>(
     alloc: Global,
     tokens: &'a [SourceToken],
@@ -183,7 +183,7 @@ fn pointer_of(source: &SourceToken) -> Option<Pointer>
     }
 }
 
-/// The pointers in front, and the tokens behind them (X3.159-1989 3.5.4.1).
+/// The pointers in front, and the tokens after them (X3.159-1989 3.5.4.1).
 pub(crate) fn pointers<'a>(
     alloc: Global,
     tokens: &'a [SourceToken],
@@ -203,7 +203,7 @@ pub(crate) fn pointers<'a>(
     Ok((pointers, rest))
 }
 
-/// The place of a `void` that a `)` follows, and the tokens behind both (X3.159-1989 3.5.4.3).
+/// The place of a `void` that a `)` follows, and the tokens after both (X3.159-1989 3.5.4.3).
 pub(crate) fn void_alone<'a>(tokens: &'a [SourceToken]) -> Option<(Place, &'a [SourceToken])>
     ensures read { Seen (λ x. (x.0, x.1.now)) result (void_alone tokens.now) }
     ensures shorter { IfSome result (λ x. suc (suc (length x.1.now)) ≡ length tokens.now) }
@@ -216,7 +216,7 @@ pub(crate) fn void_alone<'a>(tokens: &'a [SourceToken]) -> Option<(Place, &'a [S
     Some((place_of(source), behind))
 }
 
-/// What was read, or nothing where no expression starts there.
+/// What was read, or nothing if no expression starts there.
 pub(crate) fn found<T: Drop>(read: Result<T, ParseEnd>) -> Result<Option<T>, ParseEnd>
     ensures there { IfOk read (λ it. result ≡ Ok (Some it)) }
     ensures nothing { read ≡ Err ParseEnd.NotExpr → result ≡ Ok None }

@@ -37,7 +37,7 @@ pub fn declarator<'a>(
     Ok((Declarator { pointers, direct }, rest))
 }
 
-/// Reads what the rest of a declarator stands behind: a name, a declarator in parentheses, or nothing where a name may
+/// Reads what the rest of a declarator follows: a name, a declarator in parentheses, or nothing if a name may
 /// be missing. There a `(` that may begin a list of parameters does.
 #[cycle(read)]
 #[tactic(auto, using(crate::proofs::Stepping::base_nothing, crate::proofs::Stepping::base_step))]
@@ -64,7 +64,7 @@ fn base<'a>(
     Err(ParseEnd::NotExpr)
 }
 
-/// Reads a declarator in parentheses, behind the first of them: it is not empty.
+/// Reads a declarator in parentheses, after the first of them: it is not empty.
 #[cycle(read)]
 #[tactic(auto, using(crate::proofs::Stepping::inside_step))]
 fn inside<'a>(
@@ -114,7 +114,7 @@ fn directs<'a>(
     Ok((direct, rest))
 }
 
-/// Reads the length of an array, if it has one, behind the `[` (X3.159-1989 3.5.4.2).
+/// Reads the length of an array, if it has one, after the `[` (X3.159-1989 3.5.4.2).
 #[cycle(read)]
 #[tactic(auto, using(crate::proofs::Stepping::length_step))]
 fn array_length<'a>(
@@ -136,7 +136,7 @@ fn array_length<'a>(
     Ok((Direct::Sized { base, length }, left))
 }
 
-/// Reads a list of parameters behind the `(`: none, `void` alone, or some (X3.159-1989 3.5.4.3).
+/// Reads a list of parameters after the `(`: none, `void` alone, or some (X3.159-1989 3.5.4.3).
 #[cycle(read)]
 #[tactic(auto, using(crate::proofs::Stepping::list_step, crate::proofs::Seen::parameters_seen))]
 fn parameter_list<'a>(

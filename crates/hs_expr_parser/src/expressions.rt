@@ -66,7 +66,7 @@ pub fn expression<'a>(
     }
 }
 
-/// The expression of left operands and the last right one: that alone, where there are none.
+/// The expression of left operands and the last right one: that alone, if there are none.
 #[tactic(auto, using(crate::proofs::Seen::lefts_seen))]
 fn sequence(alloc: Global, lefts: Vec<Left>, right: Expr) -> Result<Expr, NoMemory>
     ensures { IfOk result (λ e. view e ≡ joined (map view_left lefts.items) (view right)) }
@@ -197,7 +197,7 @@ fn branches<'a>(
 }
 
 /// Reads operands of binary operators that bind at that level or more tightly (X3.159-1989 3.3.5 to 3.3.14). They
-/// group to the left: behind an operator of some level no tighter one follows, since its right operand would have
+/// group to the left: after an operator of some level no tighter one follows, since its right operand would have
 /// taken it.
 #[cycle(read)]
 #[tactic(auto, using(crate::proofs::Stepping::binary_step, crate::proofs::Stepping::climb_end))]

@@ -26,7 +26,7 @@ pub fn reading_is_the_longest()
         → IsExpression known (take n tokens) other → n ≤ length tokens - length rest }
 {}
 
-/// Nothing is read only where no expression starts.
+/// Nothing is read only if no expression starts.
 pub fn nothing_is_read_where_none_starts()
     ensures { (known : Known) (tokens : List SourceToken) → reading known goal.expression tokens ≡ None → (n : ℕ)
         (other : Expression) → IsExpression known (take n tokens) other → ⊥ }

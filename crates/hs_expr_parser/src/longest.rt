@@ -12,10 +12,10 @@ use hs_syntax::Expr;
 use hs_tokens::SourceToken;
 use std::alloc::Global;
 
-/// Reads the longest expression from the token numbered `at`, where these typedef names are known (X3.159-1989 3.3), and
-/// gives the number of the token behind it. The tokens nest 256 deep at most, so that the stack is deep enough.
+/// Reads the longest expression from the token numbered `at`, if these typedef names are known (X3.159-1989 3.3), and
+/// gives the number of the token after it. The tokens nest 256 deep at most, so that the stack is deep enough.
 ///
-/// Errors: `NotExpr` where no expression starts there; `NoMemory`.
+/// Errors: `NotExpr` if no expression starts there; `NoMemory`.
 pub fn expr(
     alloc: Global,
     tokens: &[SourceToken],

@@ -11,7 +11,7 @@ pub(crate) fn is_named(declarator: &Declarator) -> bool
     names(&declarator.direct)
 }
 
-/// Whether what stands behind the pointers of a declarator names something.
+/// Whether what follows the pointers of a declarator names something.
 #[cycle(names)]
 fn names(direct: &Direct) -> bool
     ensures { result ≡ names (view_direct direct.now) }

@@ -142,7 +142,7 @@ pub(crate) fn prefix_of(source: &SourceToken) -> Option<PrefixOperator>
     }
 }
 
-/// The operator behind an operand of that spelling (X3.159-1989 3.3.2.4).
+/// The operator after an operand of that spelling (X3.159-1989 3.3.2.4).
 fn postfix_spelled(text: &[u8]) -> Option<PostfixOperator>
     ensures { result ≡ spelled_so postfix_text postfix_operators text.now }
 {
@@ -155,7 +155,7 @@ fn postfix_spelled(text: &[u8]) -> Option<PostfixOperator>
     }
 }
 
-/// The operator behind an operand that the token is (X3.159-1989 3.3.2.4).
+/// The operator after an operand that the token is (X3.159-1989 3.3.2.4).
 pub(crate) fn postfix_of(source: &SourceToken) -> Option<PostfixOperator>
     ensures { result ≡ postfix_of source.now }
 {

@@ -22,7 +22,7 @@ use hs_syntax::{Access, Expr, Place, PostfixOperator, Word};
 use hs_tokens::{SourceToken, TokenKind};
 use std::alloc::Global;
 
-/// What stands behind a postfix expression and makes another of it (X3.159-1989 3.3.2).
+/// What follows a postfix expression and makes another of it (X3.159-1989 3.3.2).
 #[derive(Drop)]
 pub(crate) enum Suffix {
     Index {
@@ -97,7 +97,7 @@ fn with_suffix(alloc: Global, base: Expr, suffix: Suffix) -> Result<Expr, NoMemo
     })
 }
 
-/// Reads what stands behind a postfix expression.
+/// Reads what follows a postfix expression.
 #[cycle(read)]
 #[tactic(auto, using(crate::proofs::Stepping::suffix_nothing, crate::proofs::Stepping::suffix_index, crate::proofs::Stepping::suffix_call, crate::proofs::Stepping::suffix_other))]
 fn next_suffix<'a>(
@@ -132,7 +132,7 @@ fn next_suffix<'a>(
     Ok((Suffix::Postfix { operator, at }, behind))
 }
 
-/// Reads a primary expression (X3.159-1989 3.3.1): a typedef name is none, and a number is an integer of 32 bits.
+/// Reads a primary expression (X3.159-1989 3.3.1): a typedef name is not one, and a number is an integer of 32 bits.
 #[cycle(read)]
 #[tactic(auto, using(crate::proofs::Stepping::primary_nothing, crate::proofs::Stepping::primary_step, crate::proofs::Stepping::primary_parens))]
 fn primary<'a>(
@@ -166,7 +166,7 @@ fn primary<'a>(
     }
 }
 
-/// Reads an expression in parentheses, behind the first of them (X3.159-1989 3.3.1).
+/// Reads an expression in parentheses, after the first of them (X3.159-1989 3.3.1).
 #[cycle(read)]
 #[tactic(auto, using(crate::proofs::Stepping::parens_step))]
 fn parens<'a>(

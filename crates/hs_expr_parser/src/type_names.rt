@@ -7,7 +7,7 @@ use std::alloc::Global;
 use std::marker::Model;
 
 /// The typedef names that are known (X3.159-1989 3.5.6), in the order in which they became so. To look for one takes no
-/// longer where there are many.
+/// longer if there are many.
 #[derive(Drop)]
 pub struct TypeNames {
     names: Vec<Bytes>,
@@ -36,7 +36,7 @@ impl TypeNames {
         }
     }
 
-    /// The names, and this one behind them. One that is known already stands there once more.
+    /// The names, and this one after them. One that is known already stands there once more.
     pub fn with(self, alloc: Global, name: &[u8]) -> Result<TypeNames, NoMemory>
         ensures { IfOk result (λ names. names ≡ self ++ name.now ∷ []) }
     {

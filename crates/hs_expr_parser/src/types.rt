@@ -48,7 +48,7 @@ pub(crate) fn type_name<'a>(
     ))
 }
 
-/// Reads specifiers, at least one, up to a token that begins none (X3.159-1989 3.5). A typedef name is one only where
+/// Reads specifiers, at least one, up to a token that begins none (X3.159-1989 3.5). A typedef name is one only if
 /// no type specifier stands before it.
 #[cycle(read)]
 #[tactic(auto, using(crate::proofs::Stepping::some_specifiers_nothing, crate::proofs::Stepping::some_specifiers_none, crate::proofs::Stepping::some_specifiers_some, crate::proofs::Stepping::specifiers_nothing, crate::proofs::Stepping::specifiers_end))]
@@ -125,7 +125,7 @@ fn specifier<'a>(
     Ok((Specifier::Named(word_of(alloc, source)?), rest))
 }
 
-/// Reads the rest of a struct behind its tag, if it has one: its members, or nothing (X3.159-1989 3.5.2.1, 3.5.2.3).
+/// Reads the rest of a struct after its tag, if it has one: its members, or nothing (X3.159-1989 3.5.2.1, 3.5.2.3).
 #[cycle(read)]
 #[tactic(auto, using(crate::proofs::Stepping::struct_body, crate::proofs::Stepping::struct_tag, crate::proofs::Seen::members_seen))]
 fn struct_specifier<'a>(
@@ -203,7 +203,7 @@ fn member<'a>(
     ))
 }
 
-/// Reads the rest of an enumeration behind its tag, if it has one: its constants, or nothing (X3.159-1989 3.5.2.2,
+/// Reads the rest of an enumeration after its tag, if it has one: its constants, or nothing (X3.159-1989 3.5.2.2,
 /// 3.5.2.3).
 #[cycle(read)]
 #[tactic(auto, using(crate::proofs::Stepping::enum_body, crate::proofs::Stepping::enum_tag, crate::proofs::Seen::constants_seen))]
@@ -237,7 +237,7 @@ fn enum_specifier<'a>(
     ))
 }
 
-/// Reads enumeration constants, at least one, up to a `}`, and whether a comma stands behind the last one
+/// Reads enumeration constants, at least one, up to a `}`, and whether a comma follows the last one
 /// (X3.159-1989 3.5.2.2; the last comma is own).
 #[cycle(read)]
 #[tactic(auto, using(crate::proofs::Stepping::constants_step))]

@@ -90,7 +90,7 @@ pub(crate) fn unary<'a>(
     postfix(alloc, known, tokens)
 }
 
-/// Reads the operand of an operator: a unary expression behind `++` and `--`, and a cast behind the others.
+/// Reads the operand of an operator: a unary expression after `++` and `--`, and a cast after the others.
 #[cycle(read)]
 #[tactic(auto, using(crate::proofs::Stepping::operand_increment, crate::proofs::Stepping::operand_decrement, crate::proofs::Stepping::operand_address, crate::proofs::Stepping::operand_dereference, crate::proofs::Stepping::operand_plus, crate::proofs::Stepping::operand_minus, crate::proofs::Stepping::operand_complement, crate::proofs::Stepping::operand_not))]
 fn operand<'a>(
@@ -113,7 +113,7 @@ fn operand<'a>(
     }
 }
 
-/// Reads what stands behind a `sizeof` at that place: a type name in parentheses, or a unary expression.
+/// Reads what follows a `sizeof` at that place: a type name in parentheses, or a unary expression.
 #[cycle(read)]
 #[tactic(auto, using(crate::proofs::Stepping::sizeof_step, crate::proofs::Seen::boxed_type_seen))]
 fn sizeof_operand<'a>(

@@ -59,7 +59,7 @@ pub(crate) fn is_type_name(known: &TypeNames, text: &[u8]) -> bool
     is_name(text) && known.is_known(text)
 }
 
-/// Whether the token begins a specifier, where a type specifier stands before it or not (X3.159-1989 3.5).
+/// Whether the token begins a specifier, with a type specifier before it or without (X3.159-1989 3.5).
 pub(crate) fn begins_specifier(known: &TypeNames, typed: bool, source: &SourceToken) -> bool
     ensures { result ≡ begins_specifier known.now typed source.now }
 {

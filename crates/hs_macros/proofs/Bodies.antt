@@ -23,7 +23,7 @@ length_more {X} {A} f xs at x within is =
       length-append (f x) [],
     )
 
--- where the next tokens do not fit, all do not
+-- if the next tokens do not fit, all do not
 pub too_many : {X A : Type 0} (f : X → List A) (xs : List X) (at room left : ℕ) (x : X) → at < length xs → x ≡ get_or xs at x
     → left + length (flat_map f (take at xs)) ≡ room → left < length (f x) → room_after room (length (flat_map f xs)) ≡ None
 too_many f xs at room left x within is so_far over =

@@ -107,7 +107,7 @@ FindsBoth-Equal found more (name ∷ own) (other ∷ others) s t equal pushed le
     shared false true o p = refl
     shared f false o p = refl
 
--- where a row has no more names, all are found
+-- if a row has no more names, all are found
 pub FindsBoth-end : (found own others : List Name) (s t : HideSet) → (length own < 1) ⊎ (length others < 1) → FindsBoth found own others s t
     → set_of found ≡ set.intersection s t
 FindsBoth-end found own others s t ended left = same_set _ _ (λ q.
@@ -231,7 +231,7 @@ FindsEither-end found own others s t left = same_set _ _ (λ q.
     ∙ left.same q
     ∙ sym (set.contains-union nat_list_cmp_total s t q))
 
--- and they rise where a row has no more names
+-- and they rise if a row has no more names
 pub FindsEither-rises : (found own others : List Name) (s t : HideSet) → (length own < 1) ⊎ (length others < 1) → FindsEither found own others s t
     → IsRising (bytes_of ((found ++ own) ++ others))
 FindsEither-rises found [] others s t ended left =

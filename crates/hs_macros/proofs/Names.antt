@@ -124,12 +124,12 @@ get_or-insert_past names place name d at past within =
     let back : at ≡ at - 1 + 1 = omega arith in
     ap (λ n. get_or (insert names place name) n d) back ∙ get_or-insert_above names place name d (at - 1) (omega arith) within
 
--- two names are in order where those that they equal are
+-- two names are in order if those that they equal are
 order_of : (first second : Name) {before after : Name} → first ≡ before → second ≡ after → order before.now after.now ≡ Less
     → order first.now second.now ≡ Less
 order_of first second first_is second_is rising = (λ i. order (first_is i).now (second_is i).now) ∙ rising
 
--- neighbours are in order where a name is put at its place
+-- neighbours are in order if a name is put at its place
 neighbours-insert : (name : Name) (names : List Name) (place : ℕ) → place ≤ length names → IsPlace name names place → IsRising (bytes_of names)
     → (at : ℕ) (d : Name) → at < length names → order (get_or (insert names place name) at d).now (get_or (insert names place name) (at + 1) d).now ≡ Less
 neighbours-insert name names place within around rising at d inside =

@@ -28,7 +28,7 @@ passes : (names : List Lent) → list_all (λ _. true) names ≡ true
 passes [] = refl
 passes (name ∷ names) = passes names
 
--- where none was seen, the names are new if they are distinct
+-- if none was seen, the names are new if they are distinct
 pub are_new-none : (names : List Lent) → are_new (λ _. false) names ≡ is_distinct (names_of names)
 are_new-none names = rw (passes names) refl
 
@@ -48,7 +48,7 @@ list_all-more was_seen is_seen name more (other ∷ names) =
     rw (more other, list_all-more was_seen is_seen name more names)
     (apart (are_alike name other) (was_seen other) (list_all (λ other. not (was_seen other)) names) (list_any (pointwise nat_eq name.now) (names_of names)))
 
--- a name that is new, and the names behind it
+-- a name that is new, and the names after it
 pub are_new-more : (was_seen is_seen : Lent → Bool) (name : Lent) (names : List Lent) → was_seen name ≡ false
     → ((other : Lent) → is_seen other ≡ cond (are_alike name other) true (was_seen other)) → are_new is_seen names ≡ are_new was_seen (name ∷ names)
 are_new-more was_seen is_seen name names here more =

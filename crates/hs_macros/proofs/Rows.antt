@@ -1,5 +1,5 @@
 -- Rows of names that rise, of which a walk takes the first names: what they hold, and what rises.
---     first names, rest names         the first name of a row, and those behind it
+--     first names, rest names         the first name of a row, and those after it
 --     Compares own others answer      both rows have a first name, and the two compare so
 --     holds row q                     the row has the name
 --     IsBelow name row                each name of the row is greater than this one
@@ -19,7 +19,7 @@ use Rattle.hs_macros.proofs.Names.{Name, no_name, order, bytes_of, set_of, IsRis
 abbrev pub first : List Name → Name
 first names = get_or names 0 no_name
 
--- those behind it
+-- those after it
 abbrev pub rest : List Name → List Name
 rest names = take (length names - 1) (drop 1 names)
 
@@ -31,7 +31,7 @@ Compares own others answer = (1 ≤ length own) × (1 ≤ length others) × (ord
 abbrev pub holds : List Name → List ℕ → Bool
 holds row q = set.contains (set_of row) q
 
--- behind the first name stand the others
+-- after the first name stand the others
 pub rest-cons : (name : Name) (names : List Name) → rest (name ∷ names) ≡ names
 rest-cons name names = take_all (length (name ∷ names) - 1) names (omega arith)
 
@@ -88,7 +88,7 @@ contains_below name (other ∷ row) above =
     ∙ ap (λ answer. is_eq answer || set.contains (set.from_list {R = order} row) name) above.0
     ∙ contains_below name row above.1
 
--- the first name of a row that rises is not behind itself
+-- the first name of a row that rises is not after itself
 pub contains_behind : (name : List ℕ) (row : List (List ℕ)) → IsRising (name ∷ row) → set.contains (set.from_list {R = order} row) name ≡ false
 contains_behind name row rising = contains_below name row (sorted_head order name row rising)
 
@@ -112,13 +112,13 @@ unfolding IsStrictlySortedBy
 IsRising-skip [] middle row rising = rising.1
 IsRising-skip (name ∷ front) middle row rising = (IsBelow-skip name front middle row rising.0, IsRising-skip front middle row rising.1)
 
--- what is less than the names in front is less than all, where it is less than those behind
+-- what is less than the names in front is less than all, if it is less than those after them
 IsBelow-between : (name : List ℕ) (front : List (List ℕ)) (less : List ℕ) (others row : List (List ℕ))
     → IsBelow name (front ++ less ∷ others) → IsBelow name (front ++ row) → IsBelow name (front ++ less ∷ row)
 IsBelow-between name [] less others row above above' = (above.0, above')
 IsBelow-between name (other ∷ front) less others row above above' = (above.0, IsBelow-between name front less others row above.1 above'.1)
 
--- a name goes before the first of a row where it is less than that
+-- a name goes before the first of a row if it is less than that
 pub IsRising-between : (front : List (List ℕ)) (less : List ℕ) (others : List (List ℕ)) (name : List ℕ) (row : List (List ℕ)) → order less name ≡ Less
     → IsRising (front ++ less ∷ others) → IsRising (front ++ name ∷ row) → IsRising (front ++ less ∷ name ∷ row)
 unfolding IsStrictlySortedBy
@@ -137,12 +137,12 @@ IsRising-front (name ∷ front) row rising = (below_front front rising.0, IsRisi
     below_front [] above = tt
     below_front (other ∷ front') above = (above.0, below_front front' above.1)
 
--- the names behind rise by themselves
+-- the names after rise by themselves
 pub IsRising-back : (front row : List (List ℕ)) → IsRising (front ++ row) → IsRising row
 IsRising-back [] row rising = rising
 IsRising-back (name ∷ front) row rising = IsRising-back front row (sorted_tail order name (front ++ row) rising)
 
--- the first of what is left goes behind the names found
+-- the first of what is left goes after the names found
 pub IsRising-push : (found : List Name) (name : Name) (row : List (List ℕ)) → IsRising (bytes_of found ++ name.now ∷ row)
     → IsRising (bytes_of (found ++ name ∷ []) ++ row)
 IsRising-push found name row rising =

@@ -175,7 +175,7 @@ stays_done macros before more token rest left pushed =
     ap (λ (front : List Hidden). with_front front (expanded macros left rest)) (ap done pushed ∙ map-append hidden before (token ∷ []))
     ∙ front_front (done before) (hidden token ∷ []) (expanded macros left rest)
 
--- what begins at the next token, with those behind it
+-- what begins at the next token, with those after it
 pub whole_at : (macros : Definitions) (before : List Hidden) (token : Pending) (rest : List Hidden) (left : Budget) (what : Found)
     → found macros (hidden token) rest ≡ what
     → with_front before (expanded macros left (hidden token ∷ rest)) ≡ with_front before (expanded_at (expanded macros) left (hidden token) rest what)
@@ -234,7 +234,7 @@ whole_refused macros calls before token rest left error (inr (is, named)) = inr 
     ∙ resumed-Err macros calls (ArgCount token.pos)
     ∙ ap (λ (error' : MacroError). Err error') (sym named))
 
--- what an invocation holds stood behind its name
+-- what an invocation holds followed its name
 pub held_behind : (macros : Definitions) (token : Pending) (tokens : List Pending) (call : Call)
     → (found macros (hidden token) (ahead tokens) ≡ invoked (invocation call) (waiting call.waiting.items)) × (call.ready.items ≡ [])
     → load (waiting call.waiting.items) + length call.behind.items ≤ length tokens
@@ -271,7 +271,7 @@ all_done macros sources calls level none given empty =
     ∙ ap (λ (outcome : Outcome). with_sources sources (replaced_by outcome)) (whole_done macros [] level.left)
     ∙ ap (λ (tokens : List SourceToken). Ok (record { tokens = tokens; left = level.left })) (append-nil sources)
 
--- the next token, in front of those behind it
+-- the next token, in front of those after it
 pub next_ahead : (macros : Definitions) (sources : List SourceToken) (calls : List Suspended) (level : Level) (rest : List Pending) (token : Pending)
     → level.tokens.items ≡ rest ++ token ∷ []
     → with_sources sources (replaced_by (resumed macros calls (with_front (done level.before.items) (expanded macros level.left (hidden token ∷ ahead rest)))))

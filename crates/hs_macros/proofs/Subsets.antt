@@ -117,14 +117,14 @@ Decides-Less (name ∷ own) (other ∷ others) s t less left =
     (contains_before name.now other.now (bytes_of others) less.2 left.others_rise))
     ∙ left.same
 
--- and so does one of the first where the second has none left
+-- and so does one of the first if the second has none left
 pub Decides-no_others : (own others : List Name) (s t : HideSet) → 1 ≤ length own → length others < 1 → Decides own others s t → false ≡ set.is_subset s t
 Decides-no_others [] others s t own_some no_others left = absurd (omega arith)
 Decides-no_others (name ∷ own) (other ∷ others) s t own_some no_others left = absurd (omega arith)
 Decides-no_others (name ∷ own) [] s t own_some no_others left =
     sym (is_subset_not (set_of (name ∷ own)) set.empty name.now (contains_first name own) (set.contains-empty order name.now)) ∙ left.same
 
--- where the first has none left, it is in the second
+-- if the first has none left, it is in the second
 pub Decides-no_own : (own others : List Name) (s t : HideSet) → length own < 1 → Decides own others s t → true ≡ set.is_subset s t
 Decides-no_own (name ∷ own) others s t no_own left = absurd (omega arith)
 Decides-no_own [] others s t no_own left = sym (is_subset-empty (set_of others)) ∙ left.same

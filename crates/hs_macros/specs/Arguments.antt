@@ -1,8 +1,8 @@
 -- The arguments of a function-like invocation (X3.159-1989 3.8.3).
 --     Hidden                     a token on its way, and what it hides
 --     role_of depth token        what a token does among the arguments
---     arguments_from depth tokens    the arguments behind the opening parenthesis, if it is closed
---     bound names given          the arguments with their parameters, where there are as many
+--     arguments_from depth tokens    the arguments after the opening parenthesis, if it is closed
+--     bound names given          the arguments with their parameters, if there are as many
 use Rattle.std.specs.Prelude.{ℕ, ◌+◌, ◌-◌, ◌==◌, ◌&&◌, List, [], ◌∷◌, Option, Some, None, if◌then◌else◌, codes}
 use Rattle.hs_tokens.specs.declared.token.Token.{Token}
 use Rattle.hs_tokens.specs.declared.token.Origin.{Origin}
@@ -17,7 +17,7 @@ pub record Hidden : Type 0 where
   pub origin : Origin
   pub hides : HideSet
 
--- the arguments as they stand, at least one; the closing parenthesis, and what stands behind it
+-- the arguments as they stand, at least one; the closing parenthesis, and what follows it
 pub record Arguments : Type 0 where
   pub first : List Hidden
   pub others : List (List Hidden)
@@ -38,7 +38,7 @@ with_comma (Some found) = Some (record found { first = []; others = found.first 
 abbrev pub closed : Hidden → List Hidden → Arguments
 closed close behind = record { first = []; others = []; close = close; behind = behind }
 
--- What a token does among the arguments, where so many parentheses are open beside that of the invocation: a comma
+-- What a token does among the arguments, if so many parentheses are open beside that of the invocation: a comma
 -- between those separates nothing.
 abbrev pub role_of : ℕ → Token → Role
 role_of depth token =
@@ -47,13 +47,13 @@ role_of depth token =
     else if is_mark (codes ",") token && (depth == 0) then Separates
     else Inside depth
 
--- by what the token does, with the arguments that are found behind it
+-- by what the token does, with the arguments that are found after it
 abbrev pub arguments_at : Hidden → List Hidden → (ℕ → Option Arguments) → Role → Option Arguments
 arguments_at token rest later Ends = Some (closed token rest)
 arguments_at token rest later Separates = with_comma (later 0)
 arguments_at token rest later (Inside depth) = with_token token (later depth)
 
--- the arguments up to the closing parenthesis, where so many are open beside it
+-- the arguments up to the closing parenthesis, if so many are also open
 abbrev pub arguments_from : ℕ → List Hidden → Option Arguments
 arguments_from depth [] = None
 arguments_from depth (token ∷ rest) = arguments_at token rest (λ depth'. arguments_from depth' rest) (role_of depth token.token)

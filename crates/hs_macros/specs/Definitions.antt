@@ -1,6 +1,6 @@
 -- Macro definitions (X3.159-1989 3.8.3). A macro's tokens have no `#` and no `##` (own: the two operators are left out).
 --     Definitions             the macros that are defined, by name
---     definition_of line      the name and the definition that the tokens behind `define` are, if they are one
+--     definition_of line      the name and the definition that the tokens after `define` are, if they are one
 --     is_same old new         the same parameters and the same tokens, but for places and white space
 --     defined macros line     the macros after such a line, or why there are none
 use Rattle.std.specs.Prelude.{ℕ, List, [], ◌∷◌, Bool, true, false, not, ◌&&◌, ◌||◌, Option, Some, None, Result, Ok, Err, if◌then◌else◌, codes}
@@ -24,7 +24,7 @@ abbrev pub is_distinct : List (List ℕ) → Bool
 is_distinct [] = true
 is_distinct (name ∷ names) = not (list_any (bytes_eq name) names) && is_distinct names
 
--- parameters, and the tokens behind their closing parenthesis
+-- parameters, and the tokens after their closing parenthesis
 pub record Parameters : Type 0 where
   pub names : List (List ℕ)
   pub behind : List Token
@@ -67,7 +67,7 @@ abbrev pub with_parameters : Option Parameters → Option Definition
 with_parameters None = None
 with_parameters (Some parameters) = with_body (Some parameters.names) parameters.behind
 
--- what stands behind the name. A parenthesis directly behind it opens parameters.
+-- what follows the name. A parenthesis directly after it opens parameters.
 abbrev pub definition_from : List Token → Option Definition
 definition_from [] = with_body None []
 definition_from (token ∷ rest) =
@@ -83,7 +83,7 @@ abbrev pub with_definition : List ℕ → Option Definition → Option Named
 with_definition name None = None
 with_definition name (Some definition) = Some (record { name = name; definition = definition })
 
--- the tokens behind `define`. `defined` is no macro's name (3.8.8).
+-- the tokens after `define`. `defined` is no macro's name (3.8.8).
 abbrev pub definition_of : List Token → Option Named
 definition_of [] = None
 definition_of (name ∷ rest) =
@@ -114,6 +114,6 @@ abbrev pub defined_as : Definitions → Option Named → Result Definitions Macr
 defined_as macros None = Err BadMacro
 defined_as macros (Some new) = defined_beside macros new (map.get macros new.name)
 
--- the macros after the tokens behind `define`
+-- the macros after the tokens after `define`
 abbrev pub defined : Definitions → List Token → Result Definitions MacroError
 defined macros line = defined_as macros (definition_of line)

@@ -1,4 +1,4 @@
--- The equations of an expansion, without a count of steps: what it is of no tokens, and of a token and those behind it.
+-- The equations of an expansion, without a count of steps: what it is of no tokens, and of a token and those after it.
 --     spent_tokens                       a replacement takes its tokens from what is left
 --     expanded-none, expanded-token      the equations
 use Rattle.std.proofs.Common.{◌≡◌, ℕ, zero, suc, ◌+◌, ◌-◌, ◌<◌, ◌≤◌, Bool, true, false, List, [], ◌∷◌, ◌++◌, length, Result, Ok, Err, refl, ap, ◌∙◌, arith, length-append, if◌then◌else◌}
@@ -36,11 +36,11 @@ Way = Budget → List Hidden → Outcome
 abbrev Falls : Way → Type 0
 Falls way = (left : Budget) (tokens : List Hidden) (done : Expansion) → way left tokens ≡ Ok done → done.left.tokens ≤ left.tokens
 
--- two ways agree where there are fewer than so many tokens, with those left
+-- two ways agree if there are fewer than so many tokens, with those left
 abbrev Agree : Way → Way → ℕ → Type 0
 Agree way other size = (left : Budget) (tokens : List Hidden) → length tokens + left.tokens < size → way left tokens ≡ other left tokens
 
--- tokens in place leave no more, with what stands behind them
+-- tokens in place leave no more, with what follows them
 placed_falls : (way : Way) (falls : Falls way) (call : Invocation) (tokens : List Hidden) (left : Budget) (after : Result Budget MacroError) (done : Expansion)
     → spent left (length tokens) ≡ after → placed_again way call tokens after ≡ Ok done → done.left.tokens ≤ left.tokens
 placed_falls way falls call tokens left (Err error) done is same = absurd cc
@@ -170,7 +170,7 @@ expanded_falls : (macros : Definitions) → Falls (expanded macros)
 unfolding expanded
 expanded_falls macros left tokens = within_falls (length tokens + left.tokens) macros left tokens
 
--- a token, and those behind it
+-- a token, and those after it
 pub expanded-token : (macros : Definitions) (left : Budget) (token : Hidden) (rest : List Hidden)
     → expanded macros left (token ∷ rest) ≡ expanded_at (expanded macros) left token rest (found macros token rest)
 unfolding expanded

@@ -1,9 +1,9 @@
 -- Where the code stands, in the words of the definition. It keeps its own stack: an invocation waits there while one of its
 -- arguments is expanded.
 --     level_outcome macros level          what comes of the tokens done and those ahead
---     call_outcome macros before call left    what comes of an invocation behind those
---     resumed macros calls outcome        what comes of all, where that comes of the innermost
---     with_sources front replaced         what comes behind the tokens that all gave already
+--     call_outcome macros before call left    what comes of an invocation after those
+--     resumed macros calls outcome        what comes of all, if that comes of the innermost
+--     with_sources front replaced         what comes after the tokens that all gave already
 --     IsStep whole later result           the result decides what the whole comes to
 --     weights calls, weight level         how many steps are left at most
 use Rattle.std.specs.Prelude.{◌≡◌, ℕ, ◌+◌, List, [], ◌∷◌, ◌++◌, length, Result, Ok, Err}

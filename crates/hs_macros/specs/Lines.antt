@@ -1,7 +1,7 @@
 -- What the parts that were read from a line are in the words of its definition (X3.159-1989 3.8.3). They are lent by the tokens.
 --     names_of names          the names, each by its bytes
 --     form_of names           the names of a function-like macro's parameters
---     parameters_of read      the parameters, and the tokens behind them
+--     parameters_of read      the parameters, and the tokens after them
 --     named line              the name, and its definition
 --     Gives view result read  what a function returned is what the definition reads
 --     defined_by macros line  the macros with what the line defines
@@ -21,7 +21,7 @@ names_of names = map (λ name. name.now) names
 abbrev pub form_of : Option (Vec (Bor (List ℕ)) Global) → Option (List (List ℕ))
 form_of names = option_map (λ names. names_of names.items) names
 
--- the parameters, and the tokens behind them
+-- the parameters, and the tokens after them
 abbrev pub parameters_of : Read → Parameters
 parameters_of read = record { names = names_of read.names.items; behind = read.behind.now }
 

@@ -1,7 +1,7 @@
--- How many tokens an invocation holds: no more than what stands behind its name. So each step of an expansion has less to do.
+-- How many tokens an invocation holds: no more than what follows its name. So each step of an expansion has less to do.
 --     load arguments          how many tokens the arguments have, and one more for each
---     held call arguments     the same with what stands behind the invocation
---     held_of_found           an invocation holds no more than what stands behind its name
+--     held call arguments     the same with what follows the invocation
+--     held_of_found           an invocation holds no more than what follows its name
 use Rattle.std.proofs.Common.{◌≡◌, ℕ, suc, ◌+◌, ◌≤◌, Bool, true, false, List, [], ◌∷◌, length, Option, Some, None, refl, arith, if◌then◌else◌}
 use Rattle.std.specs.Prelude.{codes}
 use Rattle.std.specs.FinMap as finite
@@ -24,7 +24,7 @@ abbrev load_of : List (List Hidden) → ℕ
 load_of [] = 0
 load_of (tokens ∷ given) = length tokens + 1 + load_of given
 
--- how many tokens the arguments of a found parenthesis have, with their ends, and what stands behind
+-- how many tokens the arguments of a found parenthesis have, with their ends, and what follows
 abbrev extent : Arguments → ℕ
 extent between = load_of (between.first ∷ between.others) + length between.behind
 
@@ -59,7 +59,7 @@ extent_at token rest later Ends between inner is = extent_closed token rest betw
 extent_at token rest later Separates between inner is = extent_comma (length rest) (later 0) between (inner 0) is
 extent_at token rest later (Inside depth) between inner is = extent_token token (length rest) (later depth) between (inner depth) is
 
--- the arguments, their ends and what stands behind are what stands behind the opening parenthesis
+-- the arguments, their ends and what follows are what follows the opening parenthesis
 extent_of_arguments : (depth : ℕ) (tokens : List Hidden) (between : Arguments) → arguments_from depth tokens ≡ Some between → extent between ≡ length tokens
 extent_of_arguments depth [] between is = absurd cc
 extent_of_arguments depth (token ∷ rest) between is =
@@ -94,7 +94,7 @@ load_bound [] ([] ∷ tokens ∷ given) arguments is = absurd cc
 load_bound [] ((token ∷ tokens) ∷ given) arguments is = absurd cc
 load_bound (name ∷ names) given arguments is = omega (arith, load_paired (name ∷ names) given arguments is)
 
--- what an invocation holds: its arguments, and what stands behind it
+-- what an invocation holds: its arguments, and what follows it
 abbrev pub held : Invocation → List Argument → ℕ
 held call arguments = load arguments + length call.behind
 
@@ -146,6 +146,6 @@ open_holds : (open_to : Bool) (name : Hidden) (rest : List Hidden) (definition :
 open_holds true name rest definition it given same = defined_holds name rest definition it given same
 open_holds false name rest definition it given same = absurd cc
 
--- an invocation holds no more than stands behind its name
+-- an invocation holds no more than follows its name
 pub held_of_found : (macros : Definitions) (token : Hidden) (rest : List Hidden) → HoldsAtMost (length rest) (found macros token rest)
 held_of_found macros token rest = open_holds _ token rest (finite.get macros token.token.text)

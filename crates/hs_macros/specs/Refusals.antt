@@ -1,4 +1,4 @@
--- What an error says: want of memory, which is free, or the definition's refusal.
+-- What an error says: that memory ran out, which may always be, or the definition's refusal.
 use Rattle.std.specs.Prelude.{◌≡◌, ◌⊎◌, Result, Err}
 use Rattle.hs_macros.specs.declared.error.MacroError.{MacroError}
 use Rattle.hs_macros.specs.declared.error.MacroError.TheVariants.{NoMemory}

@@ -26,7 +26,7 @@ use Rattle.hs_macros.specs.declared.budget.Budget.{Budget}
 use Rattle.hs_macros.specs.declared.error.MacroError.{MacroError}
 use Rattle.hs_macros.specs.declared.error.MacroError.TheVariants.{ArgCount, Limit}
 
--- a macro's tokens, where they will stand, what they will hide, and what stands behind the invocation
+-- a macro's tokens, where they will stand, what they will hide, and what follows the invocation
 pub record Invocation : Type 0 where
   pub body : List Token
   pub pos : Pos
@@ -52,12 +52,12 @@ abbrev pub call : Hidden → List Token → Arguments → Invocation
 call name body between =
     record { body = body; pos = name.token.pos; hides = call_hides name.hides between.close.hides name.token.text; behind = between.behind }
 
--- the arguments with their parameters, where there are as many
+-- the arguments with their parameters, if there are as many
 abbrev pub found_bound : Hidden → List Token → Arguments → Option (List Argument) → Found
 found_bound name body between None = wrong
 found_bound name body between (Some arguments) = invoked (call name body between) arguments
 
--- the arguments, where the parenthesis is closed
+-- the arguments, if the parenthesis is closed
 abbrev pub found_call : Hidden → List Token → List (List ℕ) → Option Arguments → Found
 found_call name body names None = wrong
 found_call name body names (Some between) = found_bound name body between (bound names (between.first ∷ between.others))
@@ -148,7 +148,7 @@ and_then (Err error) next = Err error
 and_then (Ok done) next = next done
 
 module _ (again : Budget → List Hidden → Outcome) where
-  -- the tokens in place are looked at again, with what stands behind them
+  -- the tokens in place are looked at again, with what follows them
   abbrev pub placed_again : Invocation → List Hidden → Result Budget MacroError → Outcome
   placed_again call tokens (Err error) = Err error
   placed_again call tokens (Ok left) = again left (tokens ++ call.behind)

@@ -1,8 +1,8 @@
--- What the code's parts stand for, in the words of the definition. Where tokens are still ahead, the next one is the last
+-- What the code's parts stand for, in the words of the definition. If tokens are still ahead, the next one is the last
 -- of its list, so that it is taken and put without moving the others.
 --     hidden pending                the token
 --     done tokens, ahead tokens     tokens in order, and tokens that are still ahead
---     collected given argument found     the arguments so far and those that are found, with what is behind them
+--     collected given argument found     the arguments so far and those that are found, with what is after them
 --     seen found behind             what was found between the parentheses of an invocation
 use Rattle.std.specs.Prelude.{ℕ, List, [], ◌∷◌, ◌++◌, map, reverse, Option, Some, None, Result, Ok, Err, Vec, ◌≡◌, ◌⊎◌, ◌-◌, nat_lt, if◌then◌else◌}
 use Rattle.std.specs.Borrow.{Bor}
@@ -32,7 +32,7 @@ done tokens = map hidden tokens
 abbrev pub ahead : List Pending → List Hidden
 ahead tokens = map hidden (reverse tokens)
 
--- the arguments of an invocation, and what stands behind them
+-- the arguments of an invocation, and what follows them
 pub record Collected : Type 0 where
   pub given : List (List Hidden)
   pub close : Hidden
@@ -44,7 +44,7 @@ collected given argument None = None
 collected given argument (Some found) =
     Some (record { given = given ++ (argument ++ found.first) ∷ found.others; close = found.close; behind = found.behind })
 
--- what was found, and what stands behind it
+-- what was found, and what follows it
 abbrev pub seen : Option Between → List Hidden → Option Collected
 seen None behind = None
 seen (Some between) behind = Some (record { given = map (λ argument. done argument.items) between.given.items; close = hidden between.close; behind = behind })
@@ -61,7 +61,7 @@ ready arguments = map argument arguments
 abbrev pub waiting : List Supplied → List Argument
 waiting arguments = map argument (reverse arguments)
 
--- more arguments behind those that were paired
+-- more arguments after those that were paired
 abbrev pub with_later : Option (List Argument) → List Argument → Option (List Argument)
 with_later None later = None
 with_later (Some arguments) later = Some (arguments ++ later)
@@ -75,7 +75,7 @@ seen_waiting (Some arguments) = Some (waiting arguments.items)
 abbrev pub invocation : Call → Invocation
 invocation call = record { body = call.body.now; pos = call.pos; hides = call.hides.value; behind = ahead call.behind.items }
 
--- What is said of what begins at a token at that place, with the tokens behind it.
+-- What is said of what begins at a token at that place, with the tokens after it.
 abbrev pub IsFound : spec.Found → Pos → List Hidden → Result Found MacroError → Type 0
 IsFound found pos rest (Ok (Stays tokens)) = (found ≡ stays) × (ahead tokens.items ≡ rest)
 IsFound found pos rest (Ok (Invoked call)) = (found ≡ invoked (invocation call) (waiting call.waiting.items)) × (call.ready.items ≡ [])

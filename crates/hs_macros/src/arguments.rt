@@ -30,11 +30,11 @@ pub(crate) enum Role {
     Ends,
     /// A comma between two arguments.
     Separates,
-    /// A token of an argument; so many parentheses are open behind it, beside that of the invocation.
+    /// A token of an argument; so many parentheses are open after it, beside that of the invocation.
     Inside(usize),
 }
 
-/// What the token does, where so many parentheses are open before it.
+/// What the token does, if so many parentheses are open before it.
 fn role_of(depth: usize, token: &Token) -> Role
     requires { depth < 2 ^ 63 }
     ensures { result ≡ role_of depth token.now }
@@ -54,7 +54,7 @@ fn role_of(depth: usize, token: &Token) -> Role
     }
 }
 
-/// Takes the arguments of an invocation, behind its opening parenthesis, or nothing where no parenthesis closes it
+/// Takes the arguments of an invocation, after its opening parenthesis, or nothing if no parenthesis closes it
 /// (X3.159-1989 3.8.3).
 pub(crate) fn arguments_ahead<'a>(
     alloc: Global,
@@ -111,7 +111,7 @@ fn paired<'a>(
     Ok(given.is_empty().then_some(waiting))
 }
 
-/// The arguments with their parameters, where there are as many. No parameters take nothing between the parentheses
+/// The arguments with their parameters, if there are as many. No parameters take nothing between the parentheses
 /// (X3.159-1989 3.8.3).
 pub(crate) fn bound<'a>(
     alloc: Global,

@@ -27,14 +27,14 @@ pub(crate) struct Call<'a> {
     pub(crate) ready: Vec<Supplied<'a>>,
     /// Those that wait, the next one last.
     pub(crate) waiting: Vec<Supplied<'a>>,
-    /// The tokens behind the invocation, the next one last.
+    /// The tokens after the invocation, the next one last.
     pub(crate) behind: Vec<Pending<'a>>,
 }
 
 /// What begins at a token.
 #[derive(Drop)]
 pub(crate) enum Found<'a> {
-    /// The token stays. Behind it are these, the next one last.
+    /// The token stays. After it are these, the next one last.
     Stays(Vec<Pending<'a>>),
     /// An invocation.
     Invoked(Call<'a>),
@@ -91,7 +91,7 @@ fn function_call<'a>(
     let Some(waiting) = bound(alloc, parameters, given)? else {
         return Err(MacroError::ArgCount(name.pos));
     };
-    // What was taken leaves room behind, which would stay while the arguments are expanded.
+    // What was taken leaves room, which would stay while the arguments are expanded.
     if behind.len() < behind.capacity() / 2 {
         behind.shrink_to_fit();
     }
@@ -106,7 +106,7 @@ fn function_call<'a>(
     })
 }
 
-/// What begins at a token with these behind it, the next one last (X3.159-1989 3.8.3). A token that hides its own name
+/// What begins at a token with these after it, the next one last (X3.159-1989 3.8.3). A token that hides its own name
 /// stays, and so does the name of a function-like macro that no parenthesis follows.
 pub(crate) fn invocation_at<'a>(
     alloc: Global,

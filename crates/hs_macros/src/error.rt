@@ -7,10 +7,10 @@ use std::alloc::{AllocError, AllocFailed};
 /// Why a definition or an expansion is refused.
 #[derive(Clone, Copy, Debug, PartialEq, Eq)]
 pub enum MacroError {
-    /// The tokens behind `define` are no definition, or another one of the name stands.
+    /// The tokens after `define` are no definition, or another one of the name stands.
     BadMacro,
     /// An invocation has the wrong number of arguments, or no closing parenthesis in its run. At the macro's name, or at
-    /// the outermost name where it arises in replaced text.
+    /// the outermost name if it arises in replaced text.
     ArgCount(Pos),
     /// The replacements, or the tokens that they put in place, passed what was left of their limit.
     Limit(Limit),

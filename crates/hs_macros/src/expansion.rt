@@ -43,7 +43,7 @@ pub(crate) struct Replaced {
     pub(crate) left: Budget,
 }
 
-/// Begins the next argument that the macro uses, or puts its tokens in place where none waits.
+/// Begins the next argument that the macro uses, or puts its tokens in place if none waits.
 fn proceed<'a>(
     alloc: Global,
     calls: &mut Vec<Suspended<'a>>,
@@ -84,7 +84,7 @@ fn proceed<'a>(
     })
 }
 
-/// Takes the next token, with the level's tokens behind it: it stays, or the invocation that it begins is begun.
+/// Takes the next token, with the level's tokens after it: it stays, or the invocation that it begins is begun.
 fn take_token<'a>(
     alloc: Global,
     macros: &'a Macros,
@@ -145,7 +145,7 @@ fn take_up<'a>(
     proceed(alloc, calls, before, call, level.left)
 }
 
-/// Where no invocation waits, gives the level's tokens that are done to the sources: what they hide is of no use any more.
+/// If no invocation waits, gives the level's tokens that are done to the sources: what they hide is of no use any more.
 fn give_done<'a>(
     alloc: Global,
     calls: &[Suspended<'a>],

@@ -146,7 +146,7 @@ impl<'a> HideSet<'a> {
         Ok(HideSet { names })
     }
 
-    /// What the tokens of an object-like replacement of the name hide, where the name hid this.
+    /// What the tokens of an object-like replacement of the name hide, if the name hid this.
     pub(crate) fn object_hides(&self, name: &'a [u8]) -> Result<HideSet<'a>, AllocError>
         ensures { IfOk result (λ hides. hides ≡ object_hides self.now name.now) }
     {
@@ -155,7 +155,7 @@ impl<'a> HideSet<'a> {
         Ok(hides)
     }
 
-    /// What the tokens of a function-like replacement of the name hide, where the name hid this and the closing
+    /// What the tokens of a function-like replacement of the name hide, if the name hid this and the closing
     /// parenthesis that.
     pub(crate) fn call_hides(
         &self,

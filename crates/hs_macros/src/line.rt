@@ -19,7 +19,7 @@ pub(crate) struct Line<'a> {
     pub(crate) body: &'a [Token],
 }
 
-/// Parameters, and the tokens behind their closing parenthesis.
+/// Parameters, and the tokens after their closing parenthesis.
 #[derive(Drop)]
 struct Parameters<'a> {
     names: Vec<&'a [u8]>,
@@ -100,7 +100,7 @@ fn has_operator(body: &[Token]) -> bool
     body.iter().any(is_operator)
 }
 
-/// The definition of these parts, where its tokens have no operator.
+/// The definition of these parts, if its tokens have no operator.
 fn with_body<'a>(
     name: &'a [u8],
     parameters: Option<Vec<&'a [u8]>>,
@@ -119,7 +119,7 @@ fn with_body<'a>(
     })
 }
 
-/// What stands behind the name. A parenthesis directly behind it opens parameters.
+/// What follows the name. A parenthesis directly after it opens parameters.
 fn definition_from<'a>(
     alloc: Global,
     name: &'a [u8],
@@ -139,7 +139,7 @@ fn definition_from<'a>(
     }
 }
 
-/// Reads the tokens behind `define`. `None` where they are no definition. `defined` is no macro's name (3.8.8).
+/// Reads the tokens after `define`. `None` if they are no definition. `defined` is no macro's name (3.8.8).
 pub(crate) fn definition_of<'a>(
     alloc: Global,
     line: &'a [Token],

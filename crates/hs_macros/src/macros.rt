@@ -54,7 +54,7 @@ impl Macros {
         self.definitions.contains_key(name)
     }
 
-    /// Takes the name's definition away, where it has one (X3.159-1989 3.8.3.5).
+    /// Takes the name's definition away, if it has one (X3.159-1989 3.8.3.5).
     pub fn undef(&mut self, name: &[u8])
         ensures { self.new ≡ map.remove self.old name.now }
     {
@@ -68,7 +68,7 @@ impl Macros {
         self.definitions.get(name)
     }
 
-    /// Takes the definition that the tokens behind `define` are (X3.159-1989 3.8.3).
+    /// Takes the definition that the tokens after `define` are (X3.159-1989 3.8.3).
     pub fn define(&mut self, line: &[Token]) -> Result<(), MacroError>
         ensures defined { OnOk result (defined self.old line.now ≡ Ok self.new) }
         ensures refused { IfErr result (IsRefusal (defined self.old line.now)) }

@@ -67,7 +67,7 @@ pub(crate) fn tokens_ahead<'a>(
     Ok(tokens)
 }
 
-/// Puts the tokens behind the sources, without what they hide.
+/// Puts the tokens after the sources, without what they hide.
 pub(crate) fn put_sources(
     alloc: Global,
     tokens: &[Pending<'_>],

@@ -131,7 +131,7 @@ fn placed_len(token: &Token, arguments: &[Supplied]) -> usize
     }
 }
 
-/// What is left of the room for tokens after those that the macro puts in place, or nothing where they pass it. Counting
+/// What is left of the room for tokens after those that the macro puts in place, or nothing if they pass it. Counting
 /// stops there, so no sum grows past the room.
 fn room_left(room: u64, body: &[Token], arguments: &[Supplied]) -> Option<u64>
     ensures { (pos : Pos) (hides : HideSet)
@@ -162,7 +162,7 @@ impl<'a> Call<'a> {
         })
     }
 
-    /// Puts the macro's tokens in place, before those behind the invocation.
+    /// Puts the macro's tokens in place, before those after the invocation.
     pub(crate) fn place(self, alloc: Global) -> Result<Vec<Pending<'a>>, AllocError>
         ensures { IfOk result (λ tokens. ahead tokens.items
             ≡ placed (invocation self.entry) (ready self.entry.ready.items) ++ ahead self.entry.behind.items) }

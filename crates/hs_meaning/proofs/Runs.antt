@@ -1,4 +1,4 @@
--- The runs of straight trees: what a moving run keeps, and that it goes as the still one where no use is stale.
+-- The runs of straight trees: what a moving run keeps, and that it goes as the still one if no use is stale.
 pub mod Still
 pub mod Alike
 pub mod Blocks

@@ -1,5 +1,5 @@
 -- The heap of the reference machine: a list of blocks, numbered from 1 (Inside Macintosh: Memory, narrowed).
---     with_new_block heap size     the heap with one block more, or unchanged where the limit of live bytes is passed
+--     with_new_block heap size     the heap with one block more, or unchanged if the limit of live bytes is passed
 --     used heap spot               the block that a pointer reaches, or the stop
 --     master heap pos number       what the master pointer of a handle holds, or the stop
 use Rattle.std.specs.Prelude.{ℕ, zero, suc, ◌+◌, ◌==◌, nat_lt, nat_le, Bool, true, false, not, List, length, replicate, sum_by, slice_get, slice_set, Option, Some, None, Result, Ok, Err, if◌then◌else◌}
@@ -17,7 +17,7 @@ abbrev pub block_at : List Block → ℕ → Option Block
 block_at heap zero = None
 block_at heap (suc place) = slice_get heap place
 
--- the heap with that block in place of the one of that number
+-- the heap with that block instead of the one of that number
 abbrev pub put_block : List Block → ℕ → Block → List Block
 put_block heap zero block = heap
 put_block heap (suc place) block = slice_set heap place block

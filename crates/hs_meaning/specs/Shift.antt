@@ -1,6 +1,6 @@
 -- The shift: what a decision of the schedule does to the heap (Inside Macintosh: Memory; epochs are own).
--- A block that is named to move, present and unlocked is moved where the routine moves or purges: its epoch rises.
--- A block that is named to purge, present, unlocked and purgeable is purged where the routine purges: its epoch rises.
+-- A block that is named to move, present and unlocked is moved if the routine moves or purges: its epoch rises.
+-- A block that is named to purge, present, unlocked and purgeable is purged if the routine purges: its epoch rises.
 -- All other entries of a decision count for nothing.
 --     is_named which number                     the decision names the block of that number
 --     is_present, is_loose                      a block that has its cells; one that may move
@@ -45,7 +45,7 @@ is_moved powers decision number block = (powers.moves || powers.purges) && is_na
 abbrev pub is_purged : Powers → Decision → ℕ → Block → Bool
 is_purged powers decision number block = powers.purges && is_named decision.purges number && is_loose block && block.purgeable
 
--- one block after the decision; its epoch rises once, also where it is named twice
+-- one block after the decision; its epoch rises once, also if it is named twice
 abbrev pub shifted : Powers → Decision → ℕ → Block → Block
 shifted powers decision number block =
     if is_purged powers decision number block then record block { epoch = block.epoch + 1; presence = Purged }

@@ -173,7 +173,7 @@ fn read(alloc: Global, text: &[u8]) -> Result<(Vec<u8>, usize), Fail> {
     }
 }
 
-/// The first text of the rows that is not read so, if any. A row has a text, what is read of it where `T` is a typedef name,
+/// The first text of the rows that is not read so, if any. A row has a text, what is read of it if `T` is a typedef name,
 /// and the number of tokens after that.
 fn misread<'a>(alloc: Global, rows: &[(&'a str, &str, usize)]) -> Result<Option<&'a str>, Fail> {
     for (text, expected, after) in rows {
@@ -210,7 +210,7 @@ const GROUPING: [(&str, &str, usize); 8] = [
     ("a, b, c", "(a,b,c)", 0),
 ];
 
-/// What a parenthesis is, where `T` is a typedef name.
+/// What a parenthesis is, if `T` is a typedef name.
 const PARENTHESES: [(&str, &str, usize); 9] = [
     ("f(a, b)(c)", "f(a;b;)(c;)", 0),
     ("f()", "f()", 0),

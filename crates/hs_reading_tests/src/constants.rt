@@ -149,7 +149,7 @@ fn identifiers_are_0(rt: HostRuntime) -> Result<(), Fail> {
     )
 }
 
-/// Each text is a condition with the value next to it, and that is unsigned where it says so.
+/// Each text is a condition with the value next to it, and that is unsigned if it says so.
 fn have_types(rt: &impl Abort, alloc: Global, rows: &[(&[u8], u32, bool)]) -> Result<(), Fail> {
     for (text, bits, unsigned) in rows {
         let value = Value {
@@ -195,7 +195,7 @@ fn unary_operators_keep_the_type(rt: HostRuntime) -> Result<(), Fail> {
     )
 }
 
-// X3.159-1989 3.2.1.5: both operands come to unsigned long where one is; 3.3.8 and 3.3.9: a comparison is of type int.
+// X3.159-1989 3.2.1.5: both operands come to unsigned long if one is; 3.3.8 and 3.3.9: a comparison is of type int.
 #[test]
 fn comparisons_are_of_type_int(rt: HostRuntime) -> Result<(), Fail> {
     have_types(
@@ -277,7 +277,7 @@ fn branches_have_one_type(rt: HostRuntime) -> Result<(), Fail> {
     )
 }
 
-/// Each text is a condition, and its evaluation divides by 0 where it says so.
+/// Each text is a condition, and its evaluation divides by 0 if it says so.
 fn divide_by_0(rt: &impl Abort, alloc: Global, rows: &[(&[u8], bool)]) -> Result<(), Fail> {
     for (text, fails) in rows {
         let value = value_of(alloc, text)?;
@@ -447,7 +447,7 @@ fn wide_constants_are_no_conditions(rt: HostRuntime) -> Result<(), Fail> {
     )
 }
 
-/// Each text is an integer constant with the value next to it, and is decimal, unsigned and long where it says so.
+/// Each text is an integer constant with the value next to it, and is decimal, unsigned and long if it says so.
 fn are_numbers(rt: &impl Abort, rows: &[(&[u8], u32, bool, bool, bool)]) {
     for (text, value, decimal, unsigned, long) in rows {
         let number = Number {

@@ -191,7 +191,7 @@ fn a_section_has_its_form(rt: HostRuntime) -> Result<(), Fail> {
     )
 }
 
-// Own: a section that is open at the end is refused at the outermost, and only where nothing before is. X3.159-1989 3.8.1:
+// Own: a section that is open at the end is refused at the outermost, and only if nothing before is. X3.159-1989 3.8.1:
 // `#ifdef` and `#ifndef` have one name.
 #[test]
 fn an_open_section_is_refused(rt: HostRuntime) -> Result<(), Fail> {

@@ -185,8 +185,8 @@ fn a_name_stays_wherever_it_goes(rt: HostRuntime) -> Result<(), Fail> {
     )
 }
 
-// Own: a token hides as many names as replaced it, in whatever order they come: here up to six. Where they come from a
-// call's name and its closing parenthesis, those that both hide count; where from an argument, those of both.
+// Own: a token hides as many names as replaced it, in whatever order they come: here up to six. If they come from a
+// call's name and its closing parenthesis, those that both hide count; if from an argument, those of both.
 #[test]
 fn a_token_hides_any_number_of_names(rt: HostRuntime) -> Result<(), Fail> {
     are_replaced_under(
@@ -255,7 +255,7 @@ const INVOKED: [&[u8]; 7] = [
     b"begun f(",
 ];
 
-// X3.159-1989 3.8.3: a function-like macro is invoked where the next token is a parenthesis; white space between, and
+// X3.159-1989 3.8.3: a function-like macro is invoked if the next token is a parenthesis; white space between, and
 // lines' ends, count for nothing.
 #[test]
 fn an_invocation_has_its_parenthesis_next(rt: HostRuntime) -> Result<(), Fail> {
@@ -710,7 +710,7 @@ fn are_limited(
     Ok(())
 }
 
-// Own: each replacement takes one of those left, and its tokens; where both limits would be passed, it is that of the
+// Own: each replacement takes one of those left, and its tokens; if both limits would be passed, it is that of the
 // replacements.
 #[test]
 fn replacements_and_their_tokens_are_limited(rt: HostRuntime) -> Result<(), Fail> {

@@ -23,22 +23,22 @@ use Rattle.hs_syntax.specs.declared.expr.Member.{Member, out-Member}
 use Rattle.hs_syntax.specs.declared.expr.Parameter.{Parameter}
 use Rattle.hs_syntax.specs.RowLaws.{view_member-out}
 
--- Pieces behind pieces are written one after the other.
+-- Pieces after pieces are written one after the other.
 pub twice : (old : List Token) (first rest : List Piece) → old ++ map token_of (first ++ rest) ≡ (old ++ map token_of first) ++ map token_of rest
 twice old first rest = rw (map-append, append_assoc) refl
 
--- What is written twice stands behind the old ones.
+-- What is written twice follows the old ones.
 pub behind : (old mid new : List Token) (first rest : List Piece) → mid ≡ old ++ map token_of first → new ≡ mid ++ map token_of rest
     → new ≡ old ++ map token_of (first ++ rest)
 behind old mid new first rest before after = after ∙ ap (λ tokens. tokens ++ map token_of rest) before ∙ sym (twice old first rest)
 
--- And where the second call alone may have failed.
+-- And if the second call alone may have failed.
 pub after : (result : Result (Unit {0}) NoMemory) (old mid new : List Token) (first rest : List Piece) → mid ≡ old ++ map token_of first
     → OnOk result (new ≡ mid ++ map token_of rest) → OnOk result (new ≡ old ++ map token_of (first ++ rest))
 after (Ok done) old mid new first rest before last = behind old mid new first rest before last
 after (Err refused) old mid new first rest before last = tt
 
--- Where the first pieces are written, the others are left.
+-- If the first pieces are written, the others are left.
 pub next : (old new whole : List Token) (left first rest : List Piece) → old ++ map token_of left ≡ whole → left ≡ first ++ rest
     → new ≡ old ++ map token_of first → new ++ map token_of rest ≡ whole
 next old new whole left first rest before split written =
@@ -50,12 +50,12 @@ pub untyped : (known : List (List ℕ)) (typed other : Bool) (its : Specificatio
 untyped known typed other tree.no_specifiers = refl
 untyped known typed other (tree.more_specifiers it rest) = ap (λ pieces. (specifier_form known it).pieces ++ pieces) (untyped known _ _ rest)
 
--- others stand behind
+-- others follow
 abbrev pub has_more : {A : Type 0} → List A → Bool
 has_more [] = false
 has_more (it ∷ rest) = true
 
--- Others stand behind where their number is not 0.
+-- Others follow if their number is not 0.
 has_more-lt : {A : Type 0} (rest : List A) → has_more rest ≡ nat_lt 0 (length rest)
 has_more-lt [] = refl
 has_more-lt (it ∷ rest) = more (length rest)
@@ -75,7 +75,7 @@ module _ {A : Type 0} (pieces : List A → List Piece) (all : List A) (i : ℕ) 
       → new ++ map token_of (pieces (drop (i + 1) all)) ≡ whole
   one_on old new first before split written = next old new whole _ first _ before (ap pieces here ∙ split) written
 
-  -- One element is written, and a comma where others follow.
+  -- One element is written, and a comma if others follow.
   pub comma_on : (left : ℕ) (old mid new : List Token) (first : List Piece) → left + i ≡ length all → old ++ map token_of (pieces (drop i all)) ≡ whole
       → pieces (it ∷ drop (i + 1) all) ≡ first ++ ((comma_form (has_more (drop (i + 1) all))).pieces ++ pieces (drop (i + 1) all))
       → mid ≡ old ++ map token_of first → new ≡ mid ++ map token_of (comma_form (nat_lt 0 (left - 1))).pieces

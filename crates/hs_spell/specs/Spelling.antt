@@ -1,5 +1,5 @@
 -- The tokens that are made of pieces.
---     token_of piece, source_of piece      a token, with the place of the piece where it has one
+--     token_of piece, source_of piece      a token, with the place of the piece if it has one
 --     spelling externals                   the tokens of a unit
 use Rattle.std.specs.Prelude.{true, false, List, [], map, Option, Some, None}
 use Rattle.hs_tokens.specs.declared.token.SourceToken.{SourceToken}

@@ -314,7 +314,7 @@ fn declarators(alloc: Global, tokens: &mut Vec<Token>, its: &[Declarator]) -> Re
     Ok(())
 }
 
-/// Appends what stands behind the pointers of a declarator.
+/// Appends what follows the pointers of a declarator.
 #[cycle(spell_expression)]
 fn direct(alloc: Global, tokens: &mut Vec<Token>, it: &Direct) -> Result<(), NoMemory>
     ensures { (known : List (List ℕ)) (inner : Bool) → Appends result

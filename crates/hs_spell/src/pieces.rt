@@ -155,7 +155,7 @@ pub(crate) fn tag(alloc: Global, tokens: &mut Vec<Token>, it: &Option<Word>) -> 
     }
 }
 
-/// Appends a comma where one stands.
+/// Appends a comma if one stands.
 pub(crate) fn comma(alloc: Global, tokens: &mut Vec<Token>, stands: bool) -> Result<(), NoMemory>
     ensures { Appends result tokens.old.items tokens.new.items (comma_form stands) }
 {

@@ -41,7 +41,7 @@ fn labels(alloc: Global, tokens: &mut Vec<Token>, its: &[Label]) -> Result<(), N
     Ok(())
 }
 
-/// Appends an expression where there is one.
+/// Appends an expression if there is one.
 fn optional(alloc: Global, tokens: &mut Vec<Token>, it: &Option<Expr>) -> Result<(), NoMemory>
     ensures { (known : List (List ℕ)) → Appends result tokens.old.items tokens.new.items
         (optional_form known (option_map view it.now)) }

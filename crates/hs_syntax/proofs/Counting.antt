@@ -1,6 +1,6 @@
 -- What the rules do to marks they do to their numbers.
 --     stays_turns, going_turns, over_turns     at a `,`;  at the end of a statement that goes on, and of one that does not
---     list_any_dos                             a `do` is open where the number of them is not 0
+--     list_any_dos                             a `do` is open if the number of them is not 0
 --     all_marks_counts                         the numbers together are the nesting
 --     length_all_marks                         levels with marks are no more than the marks
 use Rattle.std.proofs.Common.{◌≡◌, ◌≤◌, ltb, true, false, List, [], ◌∷◌, map, length, sym, refl, ap, ◌∙◌, arith}

@@ -20,7 +20,7 @@ groups_left known a b c first second at place = (
       omega (arith, leb-true (2 + suc (level_of first)) (2 + level_of second) high),
 )
 
--- a test that fails, behind another
+-- a test that fails, after another
 none_behind : (one : Bool) → (one && false) ≡ false
 none_behind true = refl
 none_behind false = refl

@@ -29,7 +29,7 @@ first_decides : (levels : Levels) (source : SourceToken) (rest : List SourceToke
     → stays_shallow levels (source ∷ rest) ≡ (answer && stays_shallow (after levels source rest) rest)
 first_decides levels source rest answer is = ap (λ (first : Bool). first && stays_shallow (after levels source rest) rest) is
 
--- Behind a token that leaves the nesting at most 256, the rest decides.
+-- After a token that leaves the nesting at most 256, the rest decides.
 pub stands_behind : (rows now : List Level) (left rest tokens : List SourceToken) (source : SourceToken) → Stands rows left tokens
     → left ≡ source ∷ rest → Follows rows now (λ levels. after levels source rest) → all_marks now ≤ 256 → Stands now rest tokens
 stands_behind rows now left rest tokens source stands split follows within =

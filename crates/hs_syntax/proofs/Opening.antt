@@ -1,7 +1,7 @@
 -- What an opening bracket does.
 --     mark_of_open               it counts as another punctuator
 --     room_left, slot_taken      there is an entry for the level around, and it takes it
---     open_follows               the rows behind it are the numbers of the levels behind it
+--     open_follows               the rows after it are the numbers of the levels after it
 use Rattle.std.proofs.Common.{◌≡◌, ℕ, ◌-◌, ◌≤◌, true, List, [], ◌∷◌, map, length, drop, Some, inl, inr, refl, ap, ap₂, ◌∙◌, length-drop, arith}
 use Rattle.std.specs.Prelude.{codes, ◌||◌, slice_set}
 use Rattle.std.proofs.lemmas.Bool.{and_parts, or_cases}

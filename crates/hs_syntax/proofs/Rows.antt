@@ -42,7 +42,7 @@ groups_not_right : (expression_form [] right_grouped).fits ≡ false
 unfolding keywords
 groups_not_right = refl
 
--- no pointers, and nothing behind them
+-- no pointers, and nothing after them
 abbrev nothing_declared : Declared
 nothing_declared = tree.pointing [] tree.nothing
 
@@ -52,7 +52,7 @@ named_type = tree.more_specifiers (tree.named (word (codes "T"))) tree.no_specif
 abbrev one : Expression
 one = tree.number (word (codes "1"))
 
--- `(T)-1` is a cast of a unary minus where T is a typedef name, and a subtraction where it is none
+-- `(T)-1` is a cast of a unary minus if T is a typedef name, and a subtraction if it is not
 abbrev cast_of_minus : Expression
 cast_of_minus = tree.cast nowhere (tree.typed_as named_type nothing_declared) (tree.prefix Minus nowhere one)
 
@@ -140,7 +140,7 @@ known_behind : ((unit_form [] (makes_type ∷ uses_type ∷ [])).fits ≡ true) 
 unfolding keywords specifier_words
 known_behind = (refl, refl)
 
--- the parameter of `f(int (T))` is a function of a T where T is a typedef name, and a T is what it names where it is none
+-- the parameter of `f(int (T))` is a function of a T if T is a typedef name, and a T is what it names if it is not
 abbrev in_parentheses : Declared
 in_parentheses = tree.pointing [] (tree.parens_of (tree.pointing [] (tree.identifier (word (codes "T")))))
 

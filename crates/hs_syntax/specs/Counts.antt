@@ -48,7 +48,7 @@ abbrev pub AllMarked : List Level → Type 0
 AllMarked [] = Unit {0}
 AllMarked (level ∷ levels) = (0 < marks_on level) × AllMarked levels
 
--- Where the numbers are those of marks, they become those of the changed marks.
+-- If the numbers are those of marks, they become those of the changed marks.
 abbrev pub Turns : Level → Level → (List Mark → List Mark) → Type 0
 Turns before now change = (marks : List Mark) → before ≡ counts marks → now ≡ counts (change marks)
 

@@ -18,7 +18,7 @@ use Rattle.hs_syntax.specs.declared.word.Word.{Word}
 abbrev pub nowhere : Place
 nowhere = record { pos = record { file = 0; line = 0; col = 0 }; origin = Plain }
 
--- a token: its kind and its text, and its place where the tree has it
+-- a token: its kind and its text, and its place if the tree has it
 pub record Piece : Type 0 where
   pub kind : TokenKind
   pub text : List ℕ
@@ -30,7 +30,7 @@ pub record Form : Type 0 where
   pub pieces : List Piece
 
 infixr 20 ◌⨾◌
--- one phrase behind another
+-- one phrase after another
 abbrev pub ◌⨾◌ : Form → Form → Form
 first ⨾ second = record { fits = first.fits && second.fits; pieces = first.pieces ++ second.pieces }
 

@@ -1,8 +1,8 @@
 -- The grammar: the tokens of each tree, and whether the tree is one of the grammar (X3.159-1989 3.3, 3.5 to 3.7). Each
 -- case has its production; (own) marks where it is not the standard's. Of an expression the production is the loosest
--- that it is of; where a tighter one is asked for, the case says so. What is left out of the standard's grammar is in
+-- that it is of; if a tighter one is asked for, the case says so. What is left out of the standard's grammar is in
 -- docs/SYNTAX.md.
---     expression_form known e           an expression, where these typedef names are known
+--     expression_form known e           an expression, if these typedef names are known
 --     declaration_form known it         a declaration; statement_form, external_form likewise
 --     unit_form known externals         a unit, whose typedef names become known one declaration after another
 --     IsExpression, IsUnit              the relations of trees and tokens
@@ -95,7 +95,7 @@ abbrev mutual
       (specification_form known false specification
       ⨾ ends_before known specification (declarator_form known true declared))
 
-  -- specifiers = specifier { specifier }: a typedef name is one only where no type specifier stands before it (3.5.6)
+  -- specifiers = specifier { specifier }: a typedef name is one only if no type specifier stands before it (3.5.6)
   pub specification_form : List (List ℕ) → Bool → Specification → Form
   specification_form known typed tree.no_specifiers = nothing_at_all
   specification_form known typed (tree.more_specifiers it rest) =
@@ -283,12 +283,12 @@ external_form known (tree.function_definition specification declared it) =
     (when (is_named declared) (declarator_form known false declared) ⨾ block_form known it)
 external_form known (tree.declaration it) = declaration_form known it
 
--- unit = { external }: the typedef names of a declaration are known behind it
+-- unit = { external }: the typedef names of a declaration are known after it
 abbrev pub unit_form : List (List ℕ) → TranslationUnit → Form
 unit_form known [] = nothing_at_all
 unit_form known (it ∷ rest) = external_form known it ⨾ unit_form (known ++ made_by it) rest
 
--- the tokens are an expression, where these typedef names are known
+-- the tokens are an expression, if these typedef names are known
 abbrev pub IsExpression : List (List ℕ) → List SourceToken → Expression → Type 0
 IsExpression known sources e = IsOf (expression_form known e) sources
 

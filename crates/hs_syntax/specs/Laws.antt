@@ -14,8 +14,8 @@ use Rattle.hs_syntax.specs.Trees.{Expression, Declared, Declaration, Statement}
 use Rattle.hs_syntax.specs.declared.operators.BinaryOperator.{BinaryOperator}
 use Rattle.hs_syntax.specs.declared.word.Place.{Place}
 
--- Of two binary operators in a row, the first one is applied first where it binds as tightly as the second, and the
--- second one where it binds tighter.
+-- Of two binary operators in a row, the first one is applied first if it binds as tightly as the second, and the
+-- second one if it binds tighter.
 abbrev pub GroupsLeft : Type 0
 GroupsLeft = (known : List (List ℕ)) (a b c : Expression) (first second : BinaryOperator) (at place : Place)
     → ((expression_form known (tree.binary (tree.binary a first at b) second place c)).fits ≡ true
@@ -23,7 +23,7 @@ GroupsLeft = (known : List (List ℕ)) (a b c : Expression) (first second : Bina
     × ((expression_form known (tree.binary a first at (tree.binary b second place c))).fits ≡ true
     → level_of first < level_of second)
 
--- an `else` behind an `if` without one is not that of an outer `if`
+-- an `else` after an `if` without one is not that of an outer `if`
 abbrev pub ElseIsNearest : Type 0
 ElseIsNearest = (known : List (List ℕ)) (outer inner : Expression) (body otherwise : Statement) (at place : Place)
     → (statement_form known (tree.if_else at outer (tree.if_ place inner body) otherwise)).fits ≡ false

@@ -1,4 +1,4 @@
--- Identifiers (X3.159-1989 3.1.2), and the words that are none: keywords (3.1.1), and `pascal`, a keyword of the
+-- Identifiers (X3.159-1989 3.1.2), and the words that are not: keywords (3.1.1), and `pascal`, a keyword of the
 -- Macintosh's compilers.
 use Rattle.std.specs.Prelude.{ℕ, Bool, not, ◌&&◌, List, [], ◌∷◌, codes}
 use Rattle.std.specs.List.{list_any}

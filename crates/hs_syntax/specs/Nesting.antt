@@ -4,7 +4,7 @@
 -- punctuators but `,` `;` `:` `)` `]` `}`. A mark counts on the level on which it stands; so does an opening bracket,
 -- which then begins the next one.
 --     mark_of token           the mark that the token is
---     after levels token next the marks on each open level behind the token
+--     after levels token next the marks on each open level after the token
 --     nestings levels tokens  the nesting at each token
 --     IsShallow tokens        it is at most 256 at every token
 use Rattle.std.specs.Prelude.{◌≡◌, ◌+◌, ℕ, nat_le, Bool, true, false, ◌&&◌, ◌||◌, List, [], ◌∷◌, length, codes, Option}
@@ -88,12 +88,12 @@ abbrev pub stays_at_comma : Mark → Bool
 stays_at_comma other = false
 stays_at_comma _ = true
 
--- The statement goes on behind its end: the next token is `else`, or it is `while` and a `do` is open.
+-- The statement goes on after its end: the next token is `else`, or it is `while` and a `do` is open.
 abbrev pub goes_on : List Mark → List SourceToken → Bool
 goes_on marks [] = false
 goes_on marks (next ∷ rest) = is_word (codes "else") next || (is_word (codes "while") next && list_any is_do marks)
 
--- the marks of a level behind a statement's end
+-- the marks of a level after a statement's end
 abbrev pub ended : List Mark → List SourceToken → List Mark
 ended marks rest = if goes_on marks rest then filter is_keyword marks else []
 
@@ -119,7 +119,7 @@ abbrev pub marked : Option Mark → Levels → Levels
 marked None levels = levels
 marked (Some mark) levels = on_level (λ marks. mark ∷ marks) levels
 
--- the levels behind a token, where these tokens follow it
+-- the levels after a token, if these tokens follow it
 abbrev pub after : Levels → SourceToken → List SourceToken → Levels
 after levels source rest =
     if is_punctuator (codes ",") source then on_level (filter stays_at_comma) levels

@@ -46,11 +46,11 @@ abbrev pub comma_form : Bool → Form
 comma_form true = mark (codes ",")
 comma_form false = nothing_at_all
 
--- a comma, where more follows
+-- a comma, if more follows
 abbrev pub behind_comma : Bool → Form → Form
 behind_comma true form = mark (codes ",") ⨾ form
 behind_comma false form = nothing_at_all
 
--- In a parameter or a type name, what follows a `(` directly begins a parameter list where it can.
+-- In a parameter or a type name, what follows a `(` directly begins a parameter list if it can.
 abbrev pub in_parens : List (List ℕ) → Bool → Form → Form
 in_parens known inner form = when (not (inner && begins_parameters known form.pieces)) form

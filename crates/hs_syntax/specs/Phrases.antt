@@ -4,7 +4,7 @@
 --     is_typed specification     a type specifier stands in it
 --     ends_before known specification form     the list of specifiers ends there
 --     is_named, is_empty         of declarators
---     ends_open statement        an `else` behind it would be its own
+--     ends_open statement        an `else` after it would be its own
 --     made_by external           the typedef names that an external declaration makes
 use Rattle.std.specs.Prelude.{ℕ, suc, ◌+◌, nat_le, Bool, true, false, not, ◌&&◌, ◌||◌, List, [], ◌∷◌, codes, map}
 use Rattle.std.specs.Prelude.{length, ◌==◌, if◌then◌else◌}
@@ -91,7 +91,7 @@ specifier_words =
     ∷ codes "volatile" ∷ codes "pascal" ∷ codes "void" ∷ codes "char" ∷ codes "short" ∷ codes "int" ∷ codes "long"
     ∷ codes "signed" ∷ codes "unsigned" ∷ codes "struct" ∷ codes "enum" ∷ []
 
--- The token begins a specifier: by its word, or as a typedef name where no type specifier stands before.
+-- The token begins a specifier: by its word, or as a typedef name if no type specifier stands before.
 abbrev pub begins_specifier : List (List ℕ) → Bool → Piece → Bool
 begins_specifier known typed piece =
     is_same_kind piece.kind Identifier
@@ -183,7 +183,7 @@ has_initialisers (tree.more_initialisers it rest) = true
 
 -- ---- statements
 
--- An `if` without an `else` stands at its end: an `else` behind it would be that one's.
+-- An `if` without an `else` stands at its end: an `else` after it would be that one's.
 abbrev pub ends_open : Statement → Bool
 ends_open (tree.if_ at test body) = true
 ends_open (tree.if_else at test taken otherwise) = ends_open otherwise

@@ -1,7 +1,7 @@
 -- The view of a row of a list is made of the views of the list's entries.
 --     views-row, view_specifiers-row, ..     the row of a list
 --     views-same, view_members-same, ..      lists with the same views
---     view_member-out, boxed_type            a struct behind a row or a pointer
+--     view_member-out, boxed_type            a struct after a row or a pointer
 use Rattle.std.proofs.Common.{◌≡◌, List, [], ◌∷◌, ◌++◌, map, drop, length, ◌≤◌, refl, ap, sym, ◌∙◌, Vec, ℕ, arith}
 use Rattle.std.specs.Global.{Global}
 use Rattle.std.proofs.lemmas.Grind.{common_steps}
@@ -102,7 +102,7 @@ pub view_parameters-row : (v : Vec Parameter Global) → view_parameters (hidden
 view_parameters-row v = parameters_row _ (hidden-the_row-Parameter-1 v)
     ∙ ap (λ its. parameters_from (map view_parameter its)) (items_hidden-the_row-Parameter-1 v)
 
--- A type name behind a pointer has the view of the type name.
+-- A type name after a pointer has the view of the type name.
 pub boxed_type : (it : TypeName) → tree.typed_as (view_specifiers (hidden-the_row-Specifier-0 it.specifiers)) (view_declarator it.declarator) ≡ view_type it
 boxed_type it = ap (λ specification. tree.typed_as specification (view_declarator it.declarator)) (view_specifiers-row it.specifiers)
 
@@ -151,7 +151,7 @@ pub view_parameters-same : (v w : Vec Parameter Global) → map view_parameter v
     → view_parameters (hidden-the_row-Parameter-1 v) ≡ view_parameters (hidden-the_row-Parameter-1 w)
 view_parameters-same v w same = view_parameters-row v ∙ ap parameters_from same ∙ sym (view_parameters-row w)
 
--- Where no entry is left, the views of the copies are all.
+-- If no entry is left, the views of the copies are all.
 pub views-done : {X Y : Type 0} (f : X → Y) (copies all : List X) (n : ℕ) → length all ≤ n → map f copies ++ map f (drop n all) ≡ map f all
     → map f copies ≡ map f all
 views-done f copies all n le invariant = grind (arith, common_steps)

@@ -82,7 +82,7 @@ mutual
     no_declarators : Declarators
     more_declarators : Declared → Declarators → Declarators
 
-  -- what stands behind the pointers of a declarator
+  -- what follows the pointers of a declarator
   pub data Directly : Type 0 where
     nothing : Directly
     identifier : Word → Directly

@@ -149,7 +149,7 @@ pub enum Constant {
     Valued { name: Word, value: Box<Expr> },
 }
 
-/// A declarator (3.5.4), or one that names nothing (3.5.5). It is empty where nothing stands in it.
+/// A declarator (3.5.4), or one that names nothing (3.5.5). It is empty if nothing stands in it.
 #[cycle(expr)]
 #[derive(Drop)]
 pub struct Declarator {
@@ -157,11 +157,11 @@ pub struct Declarator {
     pub direct: Direct,
 }
 
-/// What stands behind the pointers of a declarator.
+/// What follows the pointers of a declarator.
 #[cycle(expr)]
 #[derive(Drop)]
 pub enum Direct {
-    /// Nothing, where a declarator names nothing.
+    /// Nothing, if a declarator names nothing.
     Empty,
     Name(Word),
     Parens(Box<Declarator>),

@@ -11,8 +11,8 @@ pub fn else_belongs_to_the_nearest_if()
     ensures { ElseIsNearest }
 {}
 
-/// A law on the grammar: in a parameter or a type name, a typedef name or a word that means nothing begins a parameter list where it
-/// stands directly behind a `(` (3.5.4.3).
+/// A law on the grammar: in a parameter or a type name, a typedef name or a word that means nothing begins a parameter list if it
+/// directly follows a `(` (3.5.4.3).
 pub fn typedef_names_begin_parameter_lists()
     ensures { TypesBeginParameters }
 {}

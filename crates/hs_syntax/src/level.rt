@@ -64,7 +64,7 @@ impl Level {
         }
     }
 
-    /// The level behind a `,`.
+    /// The level after a `,`.
     #[tactic(auto, using(crate::proofs::Counting::stays_turns))]
     pub(crate) fn behind_comma(self) -> Level
         ensures turns { Turns self result (filter stays_at_comma) }
@@ -84,7 +84,7 @@ impl Level {
         }
     }
 
-    /// The level behind a statement's end, where these tokens follow.
+    /// The level after a statement's end, if these tokens follow.
     #[tactic(auto, using(crate::proofs::Counting::going_turns, crate::proofs::Counting::over_turns))]
     pub(crate) fn ended(self, rest: &[SourceToken]) -> Level
         ensures turns { Turns self result (λ marks. ended marks rest.now) }

@@ -18,7 +18,7 @@ const AROUND: usize = 257;
 struct Nesting {
     /// The innermost level.
     level: Level,
-    /// The levels around it, the innermost first, behind the entries that are free.
+    /// The levels around it, the innermost first, after the entries that are free.
     around: [Level; AROUND],
     free: usize,
     /// The number of marks on the levels around.
@@ -115,7 +115,7 @@ impl Nesting {
         }
     }
 
-    /// A token, where these follow it.
+    /// A token, if these follow it.
     #[tactic(auto, using(crate::proofs::Opening::mark_of_open))]
     fn pass(&mut self, source: &SourceToken, rest: &[SourceToken])
         requires { all_marks self.old ≤ 256 }

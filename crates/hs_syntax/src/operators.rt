@@ -143,7 +143,7 @@ impl PrefixOperator {
     }
 }
 
-/// `++` or `--` behind its operand (3.3.2.4).
+/// `++` or `--` after its operand (3.3.2.4).
 #[derive(Clone, Copy, Debug, PartialEq, Eq)]
 pub enum PostfixOperator {
     Increment,

@@ -81,7 +81,7 @@ next_of pos next rest after (suc left) byte some same =
     let less : suc left - 1 ≡ left = omega arith in
     rw (same, less) refl
 
--- nothing is ahead where no byte counts
+-- nothing is ahead if no byte counts
 pub none_left : (pos : Pos) (rest : List ℕ) (left : ℕ) → left ≡ 0 → ahead_of pos rest left ≡ []
 unfolding ahead_of
 none_left pos rest left none = rw none refl

@@ -70,7 +70,7 @@ octal_start bytes front ahead =
     let same : bytes_of front ≡ take 3 (bytes_of bytes) = ap bytes_of ahead ∙ sym (take-map (λ (placed : Placed). placed.byte) 3 bytes) in
     ap (octal_from 0 0) same ∙ octal_front (bytes_of bytes) (prefix_len is_octal (take 3 (bytes_of bytes))) refl
 
--- hexadecimal digits of that number and value, where there are some
+-- hexadecimal digits of that number and value, if there are some
 abbrev pub hex_some : ℕ → ℕ → Option ℕ
 hex_some len value = if len == 0 then None else one_more (byte_escape len value)
 

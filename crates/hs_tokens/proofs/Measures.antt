@@ -1,4 +1,4 @@
--- How far a measure has come: so many bytes behind it, and what the rest has.
+-- How far a measure has come: so many bytes after it, and what the rest has.
 use Rattle.std.proofs.Common.{ℕ, ◌+◌, Option, Some, None}
 
 -- so many bytes and those that are counted from there

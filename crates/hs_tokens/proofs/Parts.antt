@@ -74,7 +74,7 @@ limit_of limit is_kind is_reached =
     let of_reached : ℕ → Limit = λ reached. record { kind = limit.kind; reached = reached } in
     ap of_kind (sym is_kind) ∙ ap of_reached (sym is_reached)
 
--- the answer where one more token comes than there is room for, and where what comes has room
+-- the answer if one more token comes than there is room for, and if what comes has room
 module _ (file room : ℕ) (text : List ℕ) (done : List Token) where
   scan_full : (last : Token) (later : Scan) → joined done (with_token last later) ≡ scanned file text → length done ≡ room
       → scan_of file room text ≡ Err (error.Limit (record { kind = Scanned; reached = number_of Scanned }))
@@ -93,7 +93,7 @@ module _ (file room : ℕ) (text : List ℕ) (done : List Token) where
       let under : nat_lt room (length (scanned file text).tokens) ≡ false = grind (arith, nat_tests) in
       rw (under, tokens, same) refl
 
-  -- the answer where nothing is ahead
+  -- the answer if nothing is ahead
   pub scan_done : (bytes : List Placed) (first spaced : Bool) → joined done (to_come bytes first spaced) ≡ scanned file text → bytes ≡ []
       → length done ≤ room → scan_of file room text ≡ Ok done
   scan_done bytes first spaced so_far ahead fits = scan_fits None (sym (ap (joined done) (to_come_none bytes first spaced ahead)) ∙ so_far) fits

@@ -2,16 +2,16 @@
 --     ahead cursor                    the bytes ahead, with their places
 --     bytes_ahead cursor              without
 --     placed_at step                  the byte of a step
---     bytes_at step                   that byte, and those behind it
+--     bytes_at step                   that byte, and those after it
 --     IsLine cursor step              the step is at the first byte of phase 1
 --     IsNext cursor step              the step is at the first byte of phase 2
---     IsSplice step behind            the cursor is behind the splice that begins there
---     IsCharacter step behind         the cursor is behind the character that begins there
+--     IsSplice step behind            the cursor is after the splice that begins there
+--     IsCharacter step behind         the cursor is after the character that begins there
 --     HasCharacters content count     so many characters, or the place of the first bad escape
 --     form part                       the form that a part of the code stands for
 --     comment_ahead pos cursor, character_ahead pos cursor, literal_ahead pos cursor
 --                                     the form of a comment, a character constant and a literal, at the place of its
---                                     opening, with the cursor behind that
+--                                     opening, with the cursor after that
 use Rattle.std.specs.Prelude.{ℕ, ◌+◌, ◌-◌, ◌<◌, ◌≤◌, ◌≡◌, true, false, List, [], ◌∷◌, length, drop, Option, Some, None, Result, Ok, Err}
 use Rattle.hs_base.specs.declared.pos.Pos.{Pos}
 use Rattle.hs_tokens.specs.Lines.{Placed, placed_from, unspliced}
@@ -39,7 +39,7 @@ lines_ahead cursor = placed_from cursor.pos cursor.rest.now
 abbrev pub placed_at : Step → Placed
 placed_at step = record { byte = step.byte; pos = step.pos }
 
--- that byte, and those behind it
+-- that byte, and those after it
 abbrev pub bytes_at : Step → List ℕ
 bytes_at step = step.byte ∷ bytes_ahead step.after
 
@@ -55,14 +55,14 @@ abbrev pub IsNext : Cursor → Option Step → Type 0
 IsNext cursor None = ahead cursor ≡ []
 IsNext cursor (Some step) = (ahead cursor ≡ placed_at step ∷ ahead step.after) × (step.after.left + 1 ≡ cursor.left)
 
--- behind the splice that the byte of phase 1 begins, or none where it begins none
+-- after the splice that the byte of phase 1 begins, or none if it begins none
 abbrev pub IsSplice : Step → Option Cursor → Type 0
 IsSplice step None = unspliced (placed_at step ∷ lines_ahead step.after) ≡ placed_at step ∷ unspliced (lines_ahead step.after)
 IsSplice step (Some behind) =
     (unspliced (placed_at step ∷ lines_ahead step.after) ≡ unspliced (lines_ahead behind))
     × (length behind.rest.now < length step.after.rest.now)
 
--- behind the character that the byte begins, or none where that is a bad escape
+-- after the character that the byte begins, or none if that is a bad escape
 abbrev pub IsCharacter : Step → Option Cursor → Type 0
 IsCharacter step None = is_bad_character (bytes_at step) ≡ true
 IsCharacter step (Some behind) =
@@ -82,14 +82,14 @@ form (Comment len) = comment len
 form (Token kind len) = token kind len
 form (Refused error) = refused error
 
--- a comment behind its opening
+-- a comment after its opening
 abbrev pub comment_ahead : Pos → Cursor → Form
 comment_ahead pos cursor = comment_form pos (comment_len_after false (bytes_ahead cursor))
 
--- a character constant behind its opening quote
+-- a character constant after its opening quote
 abbrev pub character_ahead : Pos → Cursor → Form
 character_ahead pos cursor = character_form pos (ahead cursor) (content_len 39 (bytes_ahead cursor))
 
--- a literal behind its opening quote
+-- a literal after its opening quote
 abbrev pub literal_ahead : Pos → Cursor → Form
 literal_ahead pos cursor = literal_form pos (ahead cursor) (content_len 34 (bytes_ahead cursor))

@@ -1,11 +1,11 @@
 -- What begins at a byte of a text without splices: white space, a comment, a token, or what is refused there
 -- (X3.159-1989 2.1.1.2 phase 3, and 3.1). A token is the longest that can be made.
---     cuts len skip bytes           the rests at which a part begins, where `len` is the length of the part at the front
+--     cuts len skip bytes           the rests at which a part begins, if `len` is the length of the part at the front
 --     Form, form_of, form_len       what begins at the front, and how many bytes it has
 --     comment_form pos len          a comment
 --     number_len, punctuator_len    how many bytes such a token has at the front
 --     characters content            the characters of a literal, and `first_bad` its first bad escape
---     character_form pos rest len   a character constant, where its content has so many bytes
+--     character_form pos rest len   a character constant, if its content has so many bytes
 --     literal_form pos rest len     a literal, likewise
 --     plain_form pos bytes          any other token
 use Rattle.std.specs.Prelude.{ℕ, zero, suc, ◌+◌, ◌-◌, ◌==◌, nat_lt, nat_eq, max, Bool, true, false, ◌&&◌, ◌||◌, List, [], ◌∷◌, length, map, find, take, drop, codes, Option, Some, None, if◌then◌else◌}
@@ -42,7 +42,7 @@ pub data Form : Type 0 where
   -- what is refused, at its place
   refused : ScanError → Form
 
--- the bytes of a comment behind its opening, up to the first `*/`; `star` says that a `*` stands before
+-- the bytes of a comment after its opening, up to the first `*/`; `star` says that a `*` stands before
 abbrev pub comment_len_after : Bool → List ℕ → Option ℕ
 comment_len_after star [] = None
 comment_len_after star (byte ∷ rest) = if star && (byte == 47) then Some 1 else one_more (comment_len_after (byte == 42) rest)
@@ -58,7 +58,7 @@ begins_number [] = false
 begins_number (byte ∷ []) = is_digit byte
 begins_number (byte ∷ next ∷ rest) = is_digit byte || ((byte == 46) && is_digit next)
 
--- digits, letters, dots, and a sign behind an e or E; `exponent` says that an e or E stands before
+-- digits, letters, dots, and a sign after an e or E; `exponent` says that an e or E stands before
 abbrev pub number_len_after : Bool → List ℕ → ℕ
 number_len_after exponent [] = 0
 number_len_after exponent (byte ∷ rest) =
@@ -79,7 +79,7 @@ punctuators =
     ∷ codes "+=" ∷ codes "-=" ∷ codes "<<=" ∷ codes ">>=" ∷ codes "&=" ∷ codes "^=" ∷ codes "|="
     ∷ codes "," ∷ codes "#" ∷ codes "##" ∷ codes ";" ∷ codes "..." ∷ []
 
--- how long the longest of the texts is that the bytes begin with; 0 where they begin with none
+-- how long the longest of the texts is that the bytes begin with; 0 if they begin with none
 abbrev pub longest_of : List (List ℕ) → List ℕ → ℕ
 longest_of [] bytes = 0
 longest_of (text ∷ texts) bytes = if starts_with nat_eq bytes text then max (length text) (longest_of texts bytes) else longest_of texts bytes

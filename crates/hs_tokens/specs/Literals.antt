@@ -1,8 +1,8 @@
 -- String literals and character constants (X3.159-1989 3.1.3.4 and 3.1.4), on bytes without splices.
 --     content_len quote bytes     how many bytes stand before the closing quote, if it stands on the line
---     escape_len bytes            how many bytes an escape has behind its backslash, or nothing where it is none
+--     escape_len bytes            how many bytes an escape has after its backslash, or nothing if it is malformed
 --     character_len bytes         how many bytes the character at the front has, its backslash included
--- An escape that exceeds a byte is none (own).
+-- An escape that exceeds a byte is malformed (own).
 use Rattle.std.specs.Prelude.{ℕ, ◌+◌, ◌-◌, ◌*◌, ◌==◌, nat_le, Bool, true, false, ◌||◌, List, [], ◌∷◌, Option, Some, None, if◌then◌else◌, take}
 use Rattle.std.specs.List.{prefix_len}
 use Rattle.hs_tokens.specs.Characters.{is_octal, is_hex}
@@ -12,7 +12,7 @@ abbrev pub one_more : Option ℕ → Option ℕ
 one_more None = None
 one_more (Some n) = Some (n + 1)
 
--- `escaped` says that the first byte stands behind a backslash, so that it closes nothing
+-- `escaped` says that the first byte follows a backslash, so that it closes nothing
 abbrev pub content_len_after : Bool → ℕ → List ℕ → Option ℕ
 content_len_after escaped quote [] = None
 content_len_after escaped quote (byte ∷ rest) =
@@ -31,7 +31,7 @@ is_simple_escape byte =
     (byte == 39) || (byte == 34) || (byte == 63) || (byte == 92) || (byte == 97) || (byte == 98)
     || (byte == 102) || (byte == 110) || (byte == 114) || (byte == 116) || (byte == 118)
 
--- the value of octal digits, and of hexadecimal ones, behind digits of that value
+-- the value of octal digits, and of hexadecimal ones, after digits of that value
 abbrev pub octal_value : ℕ → List ℕ → ℕ
 octal_value value [] = value
 octal_value value (digit ∷ digits) = octal_value (8 * value + (digit - 48)) digits
@@ -45,7 +45,7 @@ abbrev pub hex_value : ℕ → List ℕ → ℕ
 hex_value value [] = value
 hex_value value (digit ∷ digits) = hex_value (16 * value + hex_digit_value digit) digits
 
--- that many digits, where their value is a byte
+-- that many digits, if their value is a byte
 abbrev pub byte_escape : ℕ → ℕ → Option ℕ
 byte_escape len value = if nat_le value 255 then Some len else None
 
@@ -53,14 +53,14 @@ byte_escape len value = if nat_le value 255 then Some len else None
 abbrev pub octal_escape : List ℕ → Option ℕ
 octal_escape bytes = byte_escape (prefix_len is_octal (take 3 bytes)) (octal_value 0 (take (prefix_len is_octal (take 3 bytes)) bytes))
 
--- hexadecimal digits, behind the x, at least one
+-- hexadecimal digits, after the x, at least one
 abbrev pub hex_escape : List ℕ → Option ℕ
 hex_escape bytes =
     if prefix_len is_hex bytes == 0
     then None
     else one_more (byte_escape (prefix_len is_hex bytes) (hex_value 0 (take (prefix_len is_hex bytes) bytes)))
 
--- how many bytes an escape has behind its backslash, or nothing where it is none
+-- how many bytes an escape has after its backslash, or nothing if it is malformed
 abbrev pub escape_len : List ℕ → Option ℕ
 escape_len [] = None
 escape_len (byte ∷ rest) =
@@ -79,7 +79,7 @@ abbrev pub character_len : List ℕ → ℕ
 character_len [] = 0
 character_len (byte ∷ rest) = if byte == 92 then backslash_len (escape_len rest) else 1
 
--- it is none
+-- it is malformed
 abbrev pub is_bad_escape : Option ℕ → Bool
 is_bad_escape None = true
 is_bad_escape (Some n) = false

@@ -2,7 +2,7 @@
 --     parts_of bytes             the parts of a text: white space, comments and tokens
 --     scan_parts parts           their tokens up to the first refusal, and that refusal
 --     scanned file text          the same of a text
---     scan_of file room text     the tokens, or the first error, where there is room for so many tokens
+--     scan_of file room text     the tokens, or the first error, if there is room for so many tokens
 use Rattle.std.specs.Prelude.{ℕ, nat_lt, Bool, true, false, List, [], ◌∷◌, length, take, Option, Some, None, Result, Ok, Err, if◌then◌else◌}
 use Rattle.hs_base.specs.declared.limit.LimitKind.TheVariants.{Scanned}
 use Rattle.hs_base.specs.Limit.{number_of}
@@ -53,12 +53,12 @@ parts_of bytes = cuts (λ rest. form_len (form_of rest)) 0 bytes
 abbrev pub scanned : ℕ → List ℕ → Scan
 scanned file text = scan_parts (parts_of (logical file text)) true false
 
--- the tokens, where nothing is refused
+-- the tokens, if nothing is refused
 abbrev pub result_of : List Token → Option ScanError → Result (List Token) ScanError
 result_of tokens None = Ok tokens
 result_of tokens (Some error) = Err error
 
--- a token that finds no room comes before whatever is refused behind it
+-- a token that finds no room comes before whatever is refused after it
 abbrev pub scan_of : ℕ → ℕ → List ℕ → Result (List Token) ScanError
 scan_of file room text =
     if nat_lt room (length (scanned file text).tokens) then Err (error.Limit (record { kind = Scanned; reached = number_of Scanned }))

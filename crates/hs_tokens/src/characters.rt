@@ -42,7 +42,7 @@ pub(crate) fn hex_digit_value(byte: u8) -> u32
     }
 }
 
-/// Whether the byte behind a backslash is an escape by itself (X3.159-1989 3.1.3.4).
+/// Whether the byte after a backslash is an escape by itself (X3.159-1989 3.1.3.4).
 pub(crate) fn is_simple_escape(byte: u8) -> bool
     ensures { result ≡ is_simple_escape byte }
 {

@@ -25,7 +25,7 @@ pub(crate) struct Step<'a> {
     pub(crate) byte: u8,
     /// The place of the byte.
     pub(crate) pos: Pos,
-    /// Behind the byte.
+    /// After the byte.
     pub(crate) after: Cursor<'a>,
 }
 
@@ -110,7 +110,7 @@ impl<'a> Cursor<'a> {
         }
     }
 
-    /// Behind so many bytes.
+    /// After so many bytes.
     pub(crate) fn behind(self, len: usize) -> Cursor<'a>
         ensures ahead { ahead result ≡ drop len (ahead self.entry) }
         ensures left { result.left ≤ self.entry.left }
@@ -127,7 +127,7 @@ impl<'a> Cursor<'a> {
         rest
     }
 
-    /// The place of the first byte, or the other where there is none.
+    /// The place of the first byte, or the other if there is none.
     pub(crate) fn place(self, other: Pos) -> Pos
         ensures { result ≡ place_of other (ahead self.entry) }
     {
@@ -173,7 +173,7 @@ impl<'a> Cursor<'a> {
 impl<'a> Step<'a> {
     ghost use Rattle.hs_tokens.specs.Ahead.{bytes_at, IsSplice};
 
-    /// Behind the splice that the byte begins, if it begins one: a backslash that a line's end follows directly.
+    /// After the splice that the byte begins, if it begins one: a backslash that a line's end follows directly.
     fn behind_splice(self) -> Option<Cursor<'a>>
         ensures { IsSplice self.entry result }
     {
@@ -188,7 +188,7 @@ impl<'a> Step<'a> {
         }
     }
 
-    /// Whether the byte and those behind it begin with those of the text.
+    /// Whether the byte and those after it begin with those of the text.
     pub(crate) fn starts_with(self, text: &[u8]) -> bool
         ensures { result ≡ starts_with nat_eq (bytes_at self.entry) text.now }
     {

@@ -89,7 +89,7 @@ fn number_len(cursor: Cursor) -> usize
     len
 }
 
-/// How many bytes a comment has behind its opening, or nothing where the text leaves it open (X3.159-1989 3.1.9).
+/// How many bytes a comment has after its opening, or nothing if the text leaves it open (X3.159-1989 3.1.9).
 fn comment_len(cursor: Cursor) -> Option<usize>
     ensures len { result ≡ comment_len_after false (bytes_ahead cursor.entry) }
     ensures fits { IfSome result (λ len. len ≤ cursor.entry.left) }
@@ -108,7 +108,7 @@ fn comment_len(cursor: Cursor) -> Option<usize>
     None
 }
 
-/// How long the longest of the texts is that the bytes begin with, or 0 where they begin with none.
+/// How long the longest of the texts is that the bytes begin with, or 0 if they begin with none.
 fn longest_of(texts: &[&str], step: Step) -> usize
     ensures { result ≡ longest_of (map (λ text. text.now) texts.now) (bytes_at step.entry) }
 {
@@ -121,7 +121,7 @@ fn longest_of(texts: &[&str], step: Step) -> usize
     longest
 }
 
-/// How long the operator or punctuator ahead is, or 0 where none is.
+/// How long the operator or punctuator ahead is, or 0 if none is.
 #[tactic(auto, unfolding(crate::specs::Forms::punctuators))]
 fn punctuator_len(step: Step) -> usize
     ensures { result ≡ punctuator_len (bytes_at step.entry) }
@@ -129,7 +129,7 @@ fn punctuator_len(step: Step) -> usize
     longest_of(&PUNCTUATORS, step)
 }
 
-/// The comment whose opening is at that place, with the rest behind the opening.
+/// The comment whose opening is at that place, with the rest after the opening.
 fn comment(pos: Pos, rest: Cursor) -> Part
     ensures { form result ≡ comment_ahead pos rest.entry }
 {
@@ -139,7 +139,7 @@ fn comment(pos: Pos, rest: Cursor) -> Part
     }
 }
 
-/// The character constant whose opening quote is at that place, with the rest behind the quote: one to four bytes
+/// The character constant whose opening quote is at that place, with the rest after the quote: one to four bytes
 /// (X3.159-1989 3.1.3.4, and own).
 fn character(pos: Pos, rest: Cursor) -> Part
     ensures { form result ≡ character_ahead pos rest.entry }
@@ -157,7 +157,7 @@ fn character(pos: Pos, rest: Cursor) -> Part
     }
 }
 
-/// The string literal whose opening quote is at that place, with the rest behind the quote. One that begins with `\p`
+/// The string literal whose opening quote is at that place, with the rest after the quote. One that begins with `\p`
 /// counts at most 255 bytes (X3.159-1989 3.1.4, and own).
 fn literal(pos: Pos, rest: Cursor) -> Part
     ensures { form result ≡ literal_ahead pos rest.entry }

@@ -28,7 +28,7 @@ pub(crate) fn content_len(quote: u8, cursor: Cursor) -> Option<usize>
     None
 }
 
-/// How many bytes one to three octal digits have, where their value is a byte.
+/// How many bytes one to three octal digits have, if their value is a byte.
 fn octal_escape(cursor: Cursor) -> Option<usize>
     ensures { result ≡ octal_escape (bytes_ahead cursor.entry) }
 {
@@ -49,7 +49,7 @@ fn octal_escape(cursor: Cursor) -> Option<usize>
     Some(len)
 }
 
-/// How many bytes hexadecimal digits have, and the x before them, where their value is a byte.
+/// How many bytes hexadecimal digits have, and the x before them, if their value is a byte.
 fn hex_escape(cursor: Cursor) -> Option<usize>
     ensures { result ≡ hex_escape (bytes_ahead cursor.entry) }
 {
@@ -70,7 +70,7 @@ fn hex_escape(cursor: Cursor) -> Option<usize>
     if len == 0 { None } else { Some(len + 1) }
 }
 
-/// How many bytes an escape has behind its backslash, or nothing where it is none (X3.159-1989 3.1.3.4).
+/// How many bytes an escape has after its backslash, or nothing if it is malformed (X3.159-1989 3.1.3.4).
 fn escape_len(cursor: Cursor) -> Option<usize>
     ensures { result ≡ escape_len (bytes_ahead cursor.entry) }
 {
@@ -86,7 +86,7 @@ fn escape_len(cursor: Cursor) -> Option<usize>
     }
 }
 
-/// Behind the character that the byte begins, or nothing where it is a bad escape.
+/// After the character that the byte begins, or nothing if it is a bad escape.
 fn behind_character(step: Step) -> Option<Cursor>
     ensures { IsCharacter step.entry result }
 {

@@ -20,7 +20,7 @@ fn part_len(part: Part) -> usize
     }
 }
 
-/// The tokens of a text (X3.159-1989 2.1.1.2, phases 1 to 3), where there is room for so many. The bound keeps lines and
+/// The tokens of a text (X3.159-1989 2.1.1.2, phases 1 to 3), if there is room for so many. The bound keeps lines and
 /// columns within their type.
 pub fn scan(alloc: Global, text: &[u8], file: u16, room: usize) -> Result<Vec<Token>, ScanError>
     requires { length text.now ≤ 4194304 }
@@ -56,7 +56,7 @@ pub fn scan(alloc: Global, text: &[u8], file: u16, room: usize) -> Result<Vec<To
             }
             Part::Refused(error) => return Err(error),
         }
-        // The step is behind the part's first byte already.
+        // The step is after the part's first byte already.
         rest = step.after.behind(part_len(part).saturating_sub(1));
     }
     Ok(tokens)

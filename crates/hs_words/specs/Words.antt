@@ -31,7 +31,7 @@ abbrev pub first_word : List (List ℕ) → Option (List ℕ)
 first_word [] = None
 first_word (word ∷ words) = Some word
 
--- the names that the command reads: none where it refuses the words
+-- the names that the command reads: none if it refuses the words
 abbrev pub file_names : List (List ℕ) → List (List ℕ)
 file_names words = unwrap_or (all_of (codes "FILE") (matches_of check_command words)) []
 

@@ -2,7 +2,7 @@ use crate::{Command, WordsError, command_of};
 use std::alloc::Global;
 use std::test::Fail;
 
-/// The names that the words, with bars between them, ask to check, with a bar behind each; or why they ask for nothing.
+/// The names that the words, with bars between them, ask to check, with a bar after each; or why they ask for nothing.
 fn read(alloc: Global, words: &str) -> Result<String, Fail> {
     let mut given = Vec::new(alloc);
     for word in words.split('|') {
@@ -22,7 +22,7 @@ fn read(alloc: Global, words: &str) -> Result<String, Fail> {
     Ok(text)
 }
 
-// Names are any text; what stands behind `--` is a name, however it begins.
+// Names are any text; what follows `--` is a name, however it begins.
 #[test]
 fn names_are_taken_as_they_stand(rt: HostRuntime) -> Result<(), Fail> {
     let rows = [

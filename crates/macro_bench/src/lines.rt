@@ -2,7 +2,7 @@ ghost use Rattle.std.specs.Prelude.{◌≡◌, ◌+◌, ◌<◌, ◌++◌, lengt
 
 use hs_tokens::Token;
 
-/// The tokens behind `#` and `define`, where a line that begins with the two is next.
+/// The tokens after `#` and `define`, if a line that begins with the two is next.
 pub(crate) fn definition_ahead(tokens: &[Token]) -> Option<&[Token]>
     ensures { IfSome result (λ behind. length behind.now + 2 ≡ length tokens.now) }
 {
@@ -16,7 +16,7 @@ pub(crate) fn definition_ahead(tokens: &[Token]) -> Option<&[Token]>
     }
 }
 
-/// The tokens of the line that is begun, and those of the lines behind it.
+/// The tokens of the line that is begun, and those of the lines after it.
 pub(crate) fn line_ahead(tokens: &[Token]) -> (&[Token], &[Token])
     ensures { result.0.now ++ result.1.now ≡ tokens.now }
 {

@@ -18,7 +18,7 @@ fn token_count(source: &Source) -> u64
     count
 }
 
-/// The bytes behind the last slash of a path.
+/// The bytes after the last slash of a path.
 fn base_name(path: &str) -> &str {
     path.rsplit('/').next().unwrap_or(path)
 }

@@ -13,7 +13,7 @@ use std::{env, fs, io};
 /// The most bytes that a file may have.
 const MOST_BYTES: usize = 4_194_304;
 
-/// How many tokens the text has, or nothing where it is too long or refused.
+/// How many tokens the text has, or nothing if it is too long or refused.
 fn token_count(alloc: Global, text: &[u8]) -> Option<usize>
     ensures { IfSome result (λ count. (tokens : List Token) × (scan_of 0 4000000 text.now ≡ Ok tokens) × (count ≡ length tokens)) }
 {

@@ -17,7 +17,7 @@ abbrev pub stale_uses : List Use → ℕ
 stale_uses uses = count_by (λ use_of. is_stale_after use_of.pointer use_of.done) uses
 
 -- A pointer that the last of the steps `taken` took from the handle, and that no step of `since` assigns, is stale after
--- them just where the answer is true. The steps stand in the order of the text.
+-- them exactly if the answer is true. The steps stand in the order of the text.
 abbrev pub GoesStale : ℕ → List Step → List Step → Bool → Type 0
 GoesStale handle taken since answer =
     (pointer : ℕ) (pos : Pos) (before : List Step)

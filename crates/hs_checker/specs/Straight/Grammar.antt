@@ -5,7 +5,7 @@
 --              | pointer "=" "*" handle ";" | letter "=" value ";" | "*" pointer "=" value ";" | "putchar" "(" value ")" ";"
 --     value    = letter | "*" pointer | number
 -- The prelude is the tokens of the four prototypes. What each form asks of its names and numbers is in `Fine.antt` of
--- `hs_tree`. A token is told by its text: the texts of two kinds differ.
+-- `hs_tree`. Its text says what a token is: the texts of two kinds differ.
 --     spelling variables steps    the texts of the tokens, in order, and the places that the tree has
 --     IsStraight tokens tree      the tokens are spelled so
 use Rattle.std.specs.Prelude.{◌≡◌, ℕ, List, [], ◌∷◌, ◌++◌, map, codes, Option, Some, None, IfSome, slice_get}
@@ -22,7 +22,7 @@ use Rattle.hs_tree.specs.declared.straight.tree.Step.{Step}
 use Rattle.hs_tree.specs.declared.straight.tree.Step.TheVariants as step
 use Rattle.hs_tree.specs.declared.straight.tree.Straight.{Straight}
 
--- a token as the tree spells it: its text, and its place where the tree has it
+-- a token as the tree spells it: its text, and its place if the tree has it
 pub record Piece : Type 0 where
   pub text : List ℕ
   pub pos : Option Pos

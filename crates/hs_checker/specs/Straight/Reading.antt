@@ -97,7 +97,7 @@ variable_at variables tokens = do
   number ← number_of variables first.0.text
   Some (number, first.1)
 
--- the second star of a handle, where it stands
+-- the second star of a handle, if it stands
 unfoldable pub second_star_at : List SourceToken → Option (Kind × List SourceToken)
 second_star_at tokens =
     if is_at (codes "*") tokens then (do
@@ -212,7 +212,7 @@ set_at variables letter tokens = do
   value ← expr_at variables tokens
   Some (step.Set letter value.0, value.1)
 
--- what stands behind the `=` of an assignment to the variable of that number
+-- what follows the `=` of an assignment to the variable of that number
 unfoldable pub source_at : List Variable → ℕ → List SourceToken → Option (Step × List SourceToken)
 source_at variables number tokens =
     if is_declared Handle variables number then new_handle_at number tokens

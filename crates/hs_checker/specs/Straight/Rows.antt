@@ -50,7 +50,7 @@ NoDeclarations tokens = NoRow declaration (are_fine_names []) begins_declaration
 abbrev pub statement : List Variable → Step → List Piece
 statement variables step = ended (step_spelling variables step)
 
--- another step begins where no `return` stands
+-- another step begins if no `return` stands
 abbrev pub begins_statement : List SourceToken → Bool
 begins_statement tokens = not (is_at (codes "return") tokens)
 

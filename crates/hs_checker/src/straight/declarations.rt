@@ -9,7 +9,7 @@ use hs_tokens::SourceToken;
 use hs_tree::straight::{Kind, Variable};
 use std::alloc::Global;
 
-/// Reads the second star of a handle, where it stands.
+/// Reads the second star of a handle, if it stands.
 #[tactic(auto, unfolding(crate::specs::Straight::Reading::second_star_at))]
 fn second_star(tokens: &[SourceToken]) -> Option<(Kind, &[SourceToken])>
     ensures { Gives (λ x. (x.0, x.1.now)) result (second_star_at tokens.now) }
@@ -55,7 +55,7 @@ fn declaration<'a>(
     }
 }
 
-/// Reads all declarations: the variables in the order of the text, and the tokens after them. `None` where a declaration
+/// Reads all declarations: the variables in the order of the text, and the tokens after them. `None` if a declaration
 /// begins and does not go on as one, or may not follow those before it.
 pub(crate) fn declarations(
     alloc: Global,

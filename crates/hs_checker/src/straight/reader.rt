@@ -34,7 +34,7 @@ fn read_few(alloc: Global, tokens: &[SourceToken]) -> Result<Option<Straight>, N
     Ok(Some(Straight { variables, steps }))
 }
 
-/// Reads a straight program from the tokens of its unit: its tree, or `None` where they spell none. More than 4294967295
+/// Reads a straight program from the tokens of its unit: its tree, or `None` if they spell none. More than 4294967295
 /// tokens give `NoMemory`: numbers of variables would not fit in their type, and no memory holds such a list.
 pub fn read(alloc: Global, tokens: &[SourceToken]) -> Result<Option<Straight>, NoMemory>
     ensures found { IfOk result (λ tree. IfSome tree (IsStraight tokens.now)) }

@@ -58,7 +58,7 @@ fn is_same_then(is_same: bool, step: &Step, handle: u32) -> bool
     is_same && !assigns(handle, *step)
 }
 
-/// Whether a pointer is stale after the step: a call of NewHandle makes it so, but where its handle is the same and locked.
+/// Whether a pointer is stale after the step: a call of NewHandle makes it so, unless its handle is the same and locked.
 fn is_stale_then(is_stale: bool, step: &Step, is_same: bool, is_locked: bool) -> bool
     ensures { result ≡ (is_stale || (step_calls_new_handle step.now && not (is_same && is_locked))) }
 {

@@ -270,7 +270,7 @@ fn form<'a>(variables: &[Variable], tokens: &'a [SourceToken]) -> Option<(Step, 
     }
 }
 
-/// Reads a step and its semicolon, where it may stand after the steps done.
+/// Reads a step and its semicolon, if it may stand after the steps done.
 #[tactic(auto, unfolding(crate::specs::Straight::Reading::step_at))]
 fn step<'a>(
     variables: &[Variable],
@@ -289,7 +289,7 @@ fn step<'a>(
     }
 }
 
-/// Reads all steps, up to the `return`: in the order of the text, and the tokens after them. `None` where one is not
+/// Reads all steps, up to the `return`: in the order of the text, and the tokens after them. `None` if one is not
 /// spelled as a step, or may not follow those before it.
 pub(crate) fn steps<'a>(
     alloc: Global,

@@ -1,6 +1,6 @@
 -- An expression that is read as one of its own rank is read as one of each looser rank.
 --     Longer read rest            something is read, at least up to that rest
---     Reads read e rest rank      and it is e where an expression of that rank does not go on there
+--     Reads read e rest rank      and it is e if an expression of that rank does not go on there
 --     up_unary, up_cast, ..       from rank to rank
 use Rattle.std.proofs.Common.{◌≡◌, ℕ, zero, suc, ◌≤◌, Bool, true, false, List, [], ◌∷◌, ◌++◌, length, Some, None, refl, ap, ◌∙◌, arith}
 use Rattle.std.specs.Prelude.{◌+◌, nat_le, if◌then◌else◌}
@@ -32,7 +32,7 @@ pub record Longer {A : Type 0} (read : Read A) (rest : List SourceToken) : Type 
   pub is : read ≡ Some (it, left)
   pub less : length left ≤ length rest
 
--- and it is `it` where the condition holds
+-- and it is `it` if the condition holds
 pub record Reads {A : Type 0} (read : Read A) (it : A) (rest : List SourceToken) (condition : Bool) : Type 0 where
   pub longer : Longer read rest
   pub exact : condition ≡ true → read ≡ Some (it, rest)
@@ -160,7 +160,7 @@ commas_stop table lefts right tokens is =
 
 -- ---- from rank to rank
 
--- something more behind what was read
+-- something more after what was read
 then_longer : {A B : Type 0} {read : Read A} {rest : List SourceToken} (more : A → List SourceToken → Read B) → Longer read rest
     → ((x : A) (left : List SourceToken) → Longer (more x left) left) → Longer (read >>= (λ x. more x.0 x.1)) rest
 then_longer more longer on =
@@ -178,7 +178,7 @@ up_binary {known = known} {table = table} whole least tokens e rest most reads =
       ∙ climb_stop table least 10 e rest is;
 }
 
--- and behind it binary operators are read
+-- and after it binary operators are read
 pub climbs_cast : (known : Known) (table : Shorter) (least : ℕ) (tokens : List SourceToken) (e : Expression) (rest : List SourceToken)
     → Reads (cast_rule known table tokens) e rest (stops 13 rest) → stops 13 rest ≡ true
     → binary_rule known table least tokens ≡ climb_rule table least 10 e rest
@@ -201,7 +201,7 @@ up_conditional {known = known} {table = table} whole tokens e rest reads =
           ∙ stays (λ it others. Some (tree.conditional e it.at it.taken it.otherwise, others)) (Some (e, rest)) (branches_none table rest is);
     }
 
--- what is assigned to an expression, where it is unary
+-- what is assigned to an expression, if it is unary
 abbrev pub value_behind : Shorter → Expression → List SourceToken → Read Assigned
 value_behind table e tokens = if nat_le 14 (rank e) then value_rule table tokens else None
 

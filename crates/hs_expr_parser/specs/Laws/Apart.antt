@@ -45,7 +45,7 @@ spelled_is spelling (first ∷ rest) text it is =
           spelled_is spelling rest text it found
     ]
 
--- tokens of pieces behind others
+-- tokens of pieces after others
 spells_split : (pieces others : List Piece) (sources : List SourceToken) → Spells (pieces ++ others) sources
     → (one : List SourceToken) × (other : List SourceToken) × (sources ≡ one ++ other) × Spells pieces one × Spells others other
 spells_split [] others sources spells = ([], sources, refl, tt, spells)

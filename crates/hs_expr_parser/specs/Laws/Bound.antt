@@ -2,7 +2,7 @@
 --     Alike bound one other                 they are the same, and leave fewer tokens
 --     alike_bind, alike_going, alike_if     so are those that are put together from such
 --     alike_mark, alike_name, alike_void    what the first tokens are
---     literals_short, pointers_short, ..    what is left behind what may stand in front
+--     literals_short, pointers_short, ..    what is left after what may stand in front
 use Rattle.std.proofs.Common.{◌≡◌, ℕ, suc, ◌<◌, ◌≤◌, Bool, true, false, List, [], ◌∷◌, length, Option, Some, None, refl, ap, subst, ◌∙◌, arith}
 use Rattle.std.specs.Prelude.{if◌then◌else◌, option_map, codes}
 use Rattle.hs_tokens.specs.declared.token.SourceToken.{SourceToken}

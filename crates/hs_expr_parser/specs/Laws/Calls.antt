@@ -1,6 +1,6 @@
 -- Arguments and calls are read (X3.159-1989 3.3.2.2).
 --     listed its                     the entries of arguments
---     ReadsArguments                 arguments up to a `)` are read behind earlier ones
+--     ReadsArguments                 arguments up to a `)` are read after earlier ones
 --     no_arguments_all, more_arguments_all, call_all
 use Rattle.std.proofs.Common.{◌≡◌, ◌≤◌, true, false, List, [], ◌∷◌, ◌++◌, Some, None, refl, ap, ◌∙◌, append_assoc, arith}
 use Rattle.std.specs.Prelude.{codes}
@@ -31,7 +31,7 @@ pub listed_from : (its : Expressions) → expressions_from (listed its) ≡ its
 listed_from tree.no_expressions = refl
 listed_from (tree.more_expressions e rest) = ap (tree.more_expressions e) (listed_from rest)
 
--- they are read behind earlier ones, up to a `)`, which does not begin them
+-- they are read after earlier ones, up to a `)`, which does not begin them
 abbrev pub ReadsArguments : Known → Shorter → Expressions → Type 0
 ReadsArguments known table its =
     (earlier : List Expression) (front : List SourceToken) (close : SourceToken) (rest : List SourceToken) → has_expressions its ≡ true

@@ -1,6 +1,6 @@
 -- Entries with commas between them.
 --     after_comma                     a comma, and what it stands before
---     entries_end, entries_more       the last entry, and one with more behind it
+--     entries_end, entries_more       the last entry, and one with more after it
 use Rattle.std.proofs.Common.{◌≡◌, false, List, [], ◌∷◌, ◌++◌, Some, None, ap, ◌∙◌, append_assoc}
 use Rattle.std.specs.Prelude.{codes}
 use Rattle.hs_tokens.specs.declared.token.SourceToken.{SourceToken}
@@ -29,7 +29,7 @@ entries_end more read earlier it rest reads ends =
     ap (λ found. found >>= entries_then more earlier) reads
     ∙ ap (λ found. going_on found (λ comma others. more (earlier ++ it ∷ []) others) (Some (earlier ++ it ∷ [], rest))) (mark_missing (codes ",") rest ends)
 
--- an entry with more behind it
+-- an entry with more after it
 pub entries_more : {A : Type 0} (more : List A → List SourceToken → Read (List A)) (read : Read A) (earlier its : List A) (it : A) (comma : SourceToken)
     (others rest : List SourceToken) → read ≡ Some (it, comma ∷ others) → comma ≡ with_text Punctuator (codes ",") comma
     → more (earlier ++ it ∷ []) others ≡ Some ((earlier ++ it ∷ []) ++ its, rest)

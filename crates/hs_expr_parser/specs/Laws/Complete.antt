@@ -90,7 +90,7 @@ mutual
   all_declarators whole tree.no_declarators = no_declarators_all whole
   all_declarators whole (tree.more_declarators it rest) = more_declarators_all whole it rest (all_declarator whole it) (all_declarators whole rest)
 
-  -- what stands behind the pointers of a declarator
+  -- what follows the pointers of a declarator
   pub all_direct : {known : Known} {table : Shorter} → Whole known table → (it : Directly) → ReadsDirect known table it
   all_direct whole tree.nothing = nothing_all whole
   all_direct whole (tree.identifier it) = identifier_all whole it

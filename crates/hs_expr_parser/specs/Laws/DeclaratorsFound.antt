@@ -1,5 +1,5 @@
 -- The rules of declarators give what is in the grammar, over a table that does.
---     declarator_found, declarators_found       a declarator, and more behind earlier ones
+--     declarator_found, declarators_found       a declarator, and more after earlier ones
 --     directs_found                             the rest of a declarator
 --     type_name_found, parameters_found         type names and parameters
 --     members_found, constants_found            members and enumeration constants
@@ -43,7 +43,7 @@ directs_stay known base tokens = record {
   is = λ inner before is. subst (λ (all : List SourceToken). IsOf (direct_form known inner base) all) (sym (append-nil before)) is;
 }
 
--- more behind more
+-- more after more
 directs_then : (known : Known) (base middle direct : Directly) (tokens between rest : List SourceToken) → Directs known base middle tokens between
     → Directs known middle direct between rest → Directs known base direct tokens rest
 directs_then known base middle direct tokens between rest first second = record {
@@ -54,7 +54,7 @@ directs_then known base middle direct tokens between rest first second = record 
       (second.is inner (before ++ first.front) (first.is inner before is));
 }
 
--- what stands behind the base
+-- what follows the base
 directs_more : (known : Known) (base direct : Directly) (tail : Form) (tokens rest : List SourceToken) → names direct ≡ names base
     → ((inner : Bool) → direct_form known inner direct ≡ (direct_form known inner base ⨾ tail)) → Begins tail tokens rest
     → Directs known base direct tokens rest
@@ -168,7 +168,7 @@ constants_head known (valued_one name e) others =
     sym (form_again (identifier name) (mark (codes "=") ⨾ as_conditional e (expression_form known e))
     (behind_comma (has_constants (constants_from others)) (constants_form known (constants_from others))))
 
--- the last one, with a comma behind it or not
+-- the last one, with a comma after it or not
 last_constant : (known : Known) (it : OneConstant) (comma : Bool) (tokens middle rest : List SourceToken) → Begins (constant_form known it) tokens middle
     → Begins (comma_form comma) middle rest → Begins (constants_form known (constants_from (it ∷ [])) ⨾ comma_form comma) tokens rest
 last_constant known it comma tokens middle rest begins behind =
@@ -217,7 +217,7 @@ module _ (known : Known) (table : Shorter) (found : IsFound known table) where
   nothing_found true tokens = some_gives tree.nothing tokens (record { begins = nothing_begins tokens; named = λ is. absurd cc })
   nothing_found false tokens = none_gives
 
-  -- what the rest of a declarator stands behind
+  -- what the rest of a declarator follows
   base_found : (inner : Bool) (tokens : List SourceToken) → Gives (λ base rest. Based known inner base tokens rest) (base_rule known table inner tokens)
   base_found inner [] = nothing_found inner []
   base_found inner (source ∷ rest) = by_first (name_of source) refl
@@ -230,7 +230,7 @@ module _ (known : Known) (table : Shorter) (found : IsFound known table) where
       by_first None is = if_gives (is_punctuator (codes "(") source && not (inner && begins_list known rest)) _ _
           (λ opens. inside_found inner source rest opens) (λ other. nothing_found inner (source ∷ rest))
 
-  -- behind a `[`
+  -- after a `[`
   length_found : (base : Directly) (source : SourceToken) (rest : List SourceToken) → is_punctuator (codes "[") source ≡ true
       → Gives (λ direct after. Directs known base direct (source ∷ rest) after) (length_rule table base rest)
   length_found base source rest is =
@@ -259,7 +259,7 @@ module _ (known : Known) (table : Shorter) (found : IsFound known table) where
           some_gives (place_of source) after (then_begins (place_begins source rest so.0 so.1) closing.plain))
       by_first false is = none_gives
 
-  -- behind a `(`
+  -- after a `(`
   list_found : (base : Directly) (source : SourceToken) (rest : List SourceToken) → is_punctuator (codes "(") source ≡ true
       → Gives (λ direct after. Directs known base direct (source ∷ rest) after) (list_rule table base rest)
   list_found base source rest is =

@@ -1,5 +1,5 @@
 -- Declarators are read.
---     nothing_all, identifier_all, .., function_of_void_all     what stands behind the pointers
+--     nothing_all, identifier_all, .., function_of_void_all     what follows the pointers
 --     pointing_all                                              pointers, and it
 --     no_declarators_all, more_declarators_all
 use Rattle.std.proofs.Common.{◌≡◌, ◌≤◌, Bool, true, false, List, [], ◌∷◌, ◌++◌, Some, None, refl, ap, sym, ◌∙◌, inl, inr}
@@ -37,13 +37,13 @@ use Rattle.hs_expr_parser.specs.Laws.Primaries.{ReadsAll, closing, closes, mark_
 use Rattle.hs_expr_parser.specs.Laws.Ranks.{AllRead}
 use Rattle.hs_expr_parser.specs.Laws.VoidAlone.{empty_is, filled_no_mark, void_missing}
 
--- ---- what stands behind the pointers
+-- ---- what follows the pointers
 
 -- nothing has no token
 pub nothing_all : {known : Known} {table : Shorter} → Whole known table → ReadsDirect known table tree.nothing
 nothing_all whole inner source front rest fits named = absurd fits.1
 
--- more is read behind what was read first
+-- more is read after what was read first
 then_directs : (known : Known) (table : Shorter) (inner : Bool) (tokens : List SourceToken) (base : Directly) (rest : List SourceToken)
     → base_rule known table inner tokens ≡ Some (base, rest) → directly known table inner tokens ≡ directs_rule table base rest
 then_directs known table inner tokens base rest is = ap (λ found. found >>= (λ base. directs_rule table base.0 base.1)) is
@@ -92,7 +92,7 @@ no_list_there known true it front rest fits apart full =
     no_specifier (source ∷ front) fits =
         no_list known (declarator_form known true it).pieces (source ∷ front) [] apart (declarator_opens known true it fits.0) fits.1 refl
 
--- where its tokens stand in front, it is read
+-- if its tokens stand in front, it is read
 pub parens_of_all : {known : Known} {table : Shorter} → Whole known table → (it : Declared) → ReadsDeclarator known table it
     → ReadsDirect known table (tree.parens_of it)
 parens_of_all {known = known} {table = table} whole it reads inner source front rest fits named =
@@ -107,9 +107,9 @@ parens_of_all {known = known} {table = table} whole it reads inner source front 
     (no_list_there known inner it its.inside (its.close ∷ rest) apart.1 (not_true (inner && begins_parameters known form.pieces) apart.0) full)
     (reads inner its.inside (its.close ∷ rest) apart.1 named (ap is_ender its.closed)) full)
 
--- ---- what stands behind a base
+-- ---- what follows a base
 
--- behind a base, also one that is nothing
+-- after a base, also one that is nothing
 behind_base : (known : Known) (table : Shorter) (inner : Bool) (base : Directly) (front : List SourceToken) (opening : SourceToken) (more : List SourceToken)
     → ReadsDirect known table base → IsOf (direct_form known inner base) front → (inner || names base) ≡ true → name_of opening ≡ None
     → (is_punctuator (codes "(") opening && not (begins_list known more)) ≡ false
@@ -128,7 +128,7 @@ behind_base known table inner base [] opening more reads fits named unnamed no_p
     or_false true = refl
     or_false false = refl
 
--- behind a `(` that begins a list there is no declarator in parentheses
+-- after a `(` that begins a list there is no declarator in parentheses
 list_no_parens : (known : Known) (opening : SourceToken) (tokens : List SourceToken) → begins_list known tokens ≡ true
     → (is_punctuator (codes "(") opening && not (begins_list known tokens)) ≡ false
 list_no_parens known opening tokens begins = rw begins (and_false (is_punctuator (codes "(") opening))
@@ -153,7 +153,7 @@ after_list {known = known} {table = table} whole base it opening more rest opens
     ap (λ (first : SourceToken). directs_rule table base (first ∷ more)) opens
     ∙ ap (λ found. found >>= (λ it. table (goal.directs it.0) it.1)) reads ∙ whole.plain (goal.directs it) rest
 
--- a base with a length behind it
+-- a base with a length after it
 length_behind : {known : Known} {table : Shorter} → Whole known table
     → (inner : Bool) (base it : Directly) (opening : SourceToken) (tokens front more rest : List SourceToken)
     → ReadsDirect known table base → IsOf (direct_form known inner base) front → (inner || names base) ≡ true → tokens ≡ front ++ (opening ∷ more)
@@ -165,7 +165,7 @@ length_behind {known = known} {table = table} whole inner base it opening tokens
     (ap (λ it. is_punctuator (codes "(") it && not (begins_list known more)) opens)
     ∙ after_length whole base it opening more rest opens length'
 
--- a base with a list behind it
+-- a base with a list after it
 list_behind : {known : Known} {table : Shorter} → Whole known table
     → (inner : Bool) (base it : Directly) (opening : SourceToken) (tokens front more rest : List SourceToken)
     → ReadsDirect known table base → IsOf (direct_form known inner base) front → (inner || names base) ≡ true → tokens ≡ front ++ (opening ∷ more)
@@ -240,7 +240,7 @@ sized_array_all {known = known} {table = table} whole base e reads others inner 
 
 -- ---- lists of parameters
 
--- what is read where no `)` stands there, nor `void` alone
+-- what is read if no `)` stands there, nor `void` alone
 abbrev parameters_inside : Shorter → Directly → List SourceToken → Read Directly
 parameters_inside table base tokens = table (goal.parameters []) tokens >>= closing (λ its. tree.function base (parameters_from its)) (codes ")")
 
@@ -312,9 +312,9 @@ function_of_void_all {known = known} {table = table} whole base at reads inner s
     named (list.whole rest ∙ ap (λ inside. list.front ++ (list.opening ∷ (inside ++ (list.close ∷ rest)))) one.alone) list.opens
     (void_reads known table base at one.source list.close rest one.is one.at list.closed)
 
--- ---- pointers, and what stands behind them
+-- ---- pointers, and what follows them
 
--- a pointer with others behind it
+-- a pointer with others after it
 with_first : (it : Pointer) (its : List Pointer) (source : SourceToken) (front rest : List SourceToken) → pointer_of source ≡ Some it
     → pointers_at (front ++ rest) ≡ (its, rest) → pointers_at (source ∷ (front ++ rest)) ≡ (it ∷ its, rest)
 with_first it its source front rest is others = λ i. with_pointer (is i) source (front ++ rest) (others i)
@@ -345,12 +345,12 @@ pointers_reads (pointer.Dropped it at ∷ its) front rest fits stop =
     (ap pointer_of parts.is ∙ dropped_pointer it parts.source ∙ ap (λ place. Some (pointer.Dropped it place)) parts.at)
     (pointers_reads its parts.others rest parts.fits stop)
 
--- a declarator without more behind it
+-- a declarator without more after it
 directs_stop : (table : Shorter) (base : Directly) (tokens : List SourceToken) → ended tokens ≡ true → directs_rule table base tokens ≡ Some (base, tokens)
 directs_stop table base [] ends = refl
 directs_stop table base (source ∷ rest) ends = rw (ender_no_mark (codes "[") source refl ends) (rw (ender_no_mark (codes "(") source refl ends) refl)
 
--- what stands behind the pointers is read
+-- what follows the pointers is read
 direct_reads : (known : Known) (table : Shorter) (inner : Bool) (direct : Directly) (front rest : List SourceToken) → ReadsDirect known table direct
     → IsOf (direct_form known inner direct) front → (inner || names direct) ≡ true → ended rest ≡ true → directly known table inner (front ++ rest)
     ≡ Some (direct, rest)
@@ -372,23 +372,23 @@ direct_reads known table inner direct [] rest reads fits named ends =
         (ap (λ name. base_by known table true name source others) (ender_no_name source is) ∙ rw (ender_no_mark (codes "(") source refl is) refl)
         ∙ directs_stop table tree.nothing (source ∷ others) is
 
--- pointers and what stands behind them
+-- pointers and what follows them
 abbrev point : List Pointer → Directly × List SourceToken → Read Declared
 point pointers direct = Some (tree.pointing pointers direct.0, direct.1)
 
--- the same behind what they stand before
+-- the same after what they stand before
 abbrev pointed : Shorter → List Pointer → Directly × List SourceToken → Read Declared
 pointed table pointers base = do
   direct ← directs_rule table base.0 base.1
   point pointers direct
 
--- what is read behind what is read
+-- what is read after what is read
 regrouped : (read : Read Directly) (more : Directly × List SourceToken → Read Directly) (pointers : List Pointer)
     → (read >>= (λ base. more base >>= point pointers)) ≡ ((read >>= more) >>= point pointers)
 regrouped None more pointers = refl
 regrouped (Some base) more pointers = refl
 
--- a declarator is what is read behind its pointers
+-- a declarator is what is read after its pointers
 pointing_by : (known : Known) (table : Shorter) (inner : Bool) (pointers : List Pointer) (direct : Directly) (tokens more rest : List SourceToken)
     → pointers_at tokens ≡ (pointers, more) → directly known table inner more ≡ Some (direct, rest)
     → declarator_rule known table inner tokens ≡ Some (tree.pointing pointers direct, rest)
@@ -414,7 +414,7 @@ pointing_all {known = known} {table = table} whole pointers direct reads inner f
 pub no_declarators_all : {known : Known} {table : Shorter} → Whole known table → ReadsDeclarators known table tree.no_declarators
 no_declarators_all whole earlier front rest has fits ends = absurd cc
 
--- what is read behind a comma
+-- what is read after a comma
 abbrev declarators_on : Shorter → List Declared → List SourceToken → Read (List Declared)
 declarators_on table earlier tokens = table (goal.declarators earlier) tokens
 

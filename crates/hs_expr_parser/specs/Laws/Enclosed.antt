@@ -1,6 +1,6 @@
 -- The tokens of phrases that begin with one token, or end in brackets.
 --     Headed, headed           a token, and what it stands before
---     Enclosed, enclosed       a phrase, and another in brackets behind it
+--     Enclosed, enclosed       a phrase, and another in brackets after it
 use Rattle.std.proofs.Common.{◌≡◌, ℕ, List, ◌∷◌, ◌++◌, Option, IfSome, ap, ◌∙◌}
 use Rattle.hs_tokens.specs.declared.token.SourceToken.{SourceToken}
 use Rattle.hs_tokens.specs.declared.token.TokenKind.{TokenKind}
@@ -39,7 +39,7 @@ headed kind text place form sources fits =
     let parts = split (token kind text place) form sources fits in
     headed_by kind text place form sources parts (one_token kind text place parts.front parts.first)
 
--- a phrase, and another in brackets behind it
+-- a phrase, and another in brackets after it
 pub record Enclosed (one : Form) (open' close' : List ℕ) (place : Option Place) (form : Form) (sources : List SourceToken) : Type 0 where
   pub front : List SourceToken
   pub opening : SourceToken

@@ -1,7 +1,7 @@
 -- Where a list of specifiers ends, and which tokens begin one.
---     ends_there        what stands behind specifiers begins none
---     no_list           what stands behind a `(` begins no list of parameters
---     named_free        a token that is no word of a specifier, behind a type specifier, begins none
+--     ends_there        what follows specifiers begins none
+--     no_list           what follows a `(` begins no list of parameters
+--     named_free        a token that is no word of a specifier, after a type specifier, begins none
 use Rattle.std.proofs.Common.{◌≡◌, ℕ, Bool, true, false, List, [], ◌∷◌, ◌++◌, None, refl, sym, ap, subst, ◌∙◌, inl, inr}
 use Rattle.std.specs.Prelude.{codes, not, ◌&&◌, ◌||◌}
 use Rattle.std.specs.Str.{bytes_eq}
@@ -36,7 +36,7 @@ none_begun known typed (piece ∷ pieces) (source ∷ front) rest spells is =
     let other : begins_by known typed piece.kind piece.text ≡ false = sym same ∙ is in
     ap not other
 
--- what stands behind specifiers begins none
+-- what follows specifiers begins none
 pub ends_there : (known : Known) (typed : Bool) (form : Form) (tokens rest : List SourceToken) → Begins form tokens rest
     → is_ahead (begins_specifier known typed) tokens ≡ false → begins_none known typed form.pieces ≡ true
 ends_there known typed form tokens rest begins is =
@@ -81,7 +81,7 @@ none_listed known (piece ∷ pieces) (source ∷ front) rest spells is =
     by_tests true false false false is so = refl
     by_tests true false false true is so = absurd (let contrary : false ≡ true = so refl in cc)
 
--- what stands behind a `(` begins no list of parameters
+-- what follows a `(` begins no list of parameters
 pub no_list : (known : Known) (inner : Bool) (form : Form) (tokens rest : List SourceToken) → not (inner && begins_list known tokens) ≡ true
     → Begins form tokens rest → not (inner && begins_parameters known form.pieces) ≡ true
 no_list known false form tokens rest is begins = refl
@@ -167,7 +167,7 @@ all_words source = (
   ),
 )
 
--- a token that is no word of a specifier begins none behind a type specifier
+-- a token that is no word of a specifier begins none after a type specifier
 pub named_free : (known : Known) (source : SourceToken) → begins_specifier known true source ≡ true → storage_of source ≡ None → dropped_of source ≡ None
     → basic_of source ≡ None → is_keyword (codes "struct") source ≡ false → is_keyword (codes "enum") source ≡ false → ⊥
 unfolding IsWord

@@ -1,5 +1,5 @@
 -- What the reading gives of an expression is the longest one of the grammar in front, and the only one of these tokens; it gives nothing
--- only where no expression stands in front.
+-- only if no expression stands in front.
 --     expression_found, expression_longest, expression_only, expression_none      of tokens in front
 --     found_by_length, longest_by_length, only_by_length, none_by_length          of the first n tokens
 use Rattle.std.proofs.Common.{◌≡◌, ℕ, ◌≤◌, List, [], ◌++◌, length, take, drop, Some, None, refl, ap, sym, ◌∙◌, subst, arith}
@@ -17,12 +17,12 @@ use Rattle.hs_expr_parser.specs.Laws.Wholly.{whole}
 use Rattle.hs_expr_parser.specs.Laws.Ranks.{AllRead}
 use Rattle.hs_expr_parser.specs.Laws.Sound.{reading_found}
 
--- what was read, or this where nothing was
+-- what was read, or this if nothing was
 abbrev tree_of : Expression → Read Expression → Expression
 tree_of e None = e
 tree_of e (Some it) = it.0
 
--- the tokens that are left, where something was read
+-- the tokens that are left, if something was read
 abbrev left_of : Read Expression → List SourceToken
 left_of None = []
 left_of (Some it) = it.1
@@ -35,7 +35,7 @@ by_rule known tokens = (whole known).plain goal.expression tokens
 all_read : (known : Known) (front rest : List SourceToken) (e : Expression) → IsExpression known front e → AllRead known (reading known) e (front ++ rest) rest
 all_read known front rest e fits = all_expression (whole known) e front rest fits
 
--- where nothing follows, it is what is read
+-- if nothing follows, it is what is read
 read_alone : (known : Known) (front : List SourceToken) (e : Expression) → IsExpression known front e
     → reading known goal.expression (front ++ []) ≡ Some (e, [])
 read_alone known front e fits = by_rule known (front ++ []) ∙ (all_read known front [] e fits).expression.exact refl
@@ -64,7 +64,7 @@ expression_only known front e other fits also = ap (tree_of e) (sym (read_alone 
 not_none : {A : Type 0} (it : A) → None ≡ Some it → ⊥
 not_none it is = cc
 
--- where nothing is read, no expression stands in front
+-- if nothing is read, no expression stands in front
 pub expression_none : (known : Known) (tokens : List SourceToken) → reading known goal.expression tokens ≡ None
     → (front back : List SourceToken) (e : Expression) → tokens ≡ front ++ back → IsExpression known front e → ⊥
 expression_none known tokens is front back e same fits =
@@ -103,7 +103,7 @@ pub only_by_length : (known : Known) (tokens : List SourceToken) (e other : Expr
     → IsExpression known (take n tokens) other → e ≡ other
 only_by_length known tokens e other n = expression_only known (take n tokens) e other
 
--- where nothing is read, no first tokens are an expression
+-- if nothing is read, no first tokens are an expression
 pub none_by_length : (known : Known) (tokens : List SourceToken) → reading known goal.expression tokens ≡ None → (n : ℕ) (other : Expression)
     → IsExpression known (take n tokens) other → ⊥
 none_by_length known tokens is n other =

@@ -76,7 +76,7 @@ record IsOperand (known : Known) (least most : ℕ) (it : Operand) (tokens rest 
   below : nat_le (level_of it.operator) most ≡ true
   begins : Begins (form.mark_at it.at (binary_text it.operator) ⨾ as_operand (suc (level_of it.operator)) it.right (expression_form known it.right)) tokens rest
 
--- the tokens have a front that is of the form, where there may be an operator of that level
+-- the tokens have a front that is of the form, if there may be an operator of that level
 pub record BeginsWithin (least : ℕ) (it : Form) (tokens rest : List SourceToken) : Type 0 where
   pub front : List SourceToken
   pub whole : tokens ≡ front ++ rest
@@ -129,7 +129,7 @@ lefts_more known (one_left e place ∷ lefts) right at =
     ap (λ (others : Form). first ⨾ (comma ⨾ others)) (lefts_more known lefts right at)
     ∙ sym (form_again first (comma ⨾ lefts_form known (lefts_from lefts)) last)
 
--- left operands take the last one, where another follows
+-- left operands take the last one, if another follows
 takes_left : (known : Known) (lefts : List OneLeft) (right : Expression) (at : Place) (e : Form) (sources : List SourceToken)
     → IsOf ((lefts_form known (lefts_from lefts) ⨾ as_assignment right (expression_form known right)) ⨾ (form.mark_at at (codes ",") ⨾ e)) sources
     → IsOf (lefts_form known (lefts_from (lefts ++ one_left right at ∷ [])) ⨾ e) sources
@@ -221,7 +221,7 @@ module _ (known : Known) (table : Shorter) (found : IsFound known table) where
       some_gives (tree.call base (expressions_from its)) after
       (behind_goes (as_postfix base (expression_form known base)) (then_begins (token_begins source rest so.0 so.1) (then_begins inside closing.plain)))))
 
-  -- a member, and an operator behind its operand
+  -- a member, and an operator after its operand
   member_found : (base : Expression) (source : SourceToken) (rest : List SourceToken) (accessed : Option Access) (operated : Option PostfixOperator)
       → access_of source ≡ accessed → postfix_of source ≡ operated
       → Gives (λ e after. Goes (as_postfix base (expression_form known base)) (as_postfix e (expression_form known e)) (source ∷ rest) after)
@@ -236,7 +236,7 @@ module _ (known : Known) (table : Shorter) (found : IsFound known table) where
       some_gives (tree.postfix base it (place_of source)) rest (behind_goes (as_postfix base (expression_form known base)) (place_begins source rest so.0 so.1))
   member_found base source rest None None is is_operated = none_gives
 
-  -- what stands behind a postfix expression
+  -- what follows a postfix expression
   suffix_found : (base : Expression) (tokens : List SourceToken)
       → Gives (λ e rest. Goes (as_postfix base (expression_form known base)) (as_postfix e (expression_form known e)) tokens rest)
       (suffix_rule table base tokens)
@@ -372,7 +372,7 @@ module _ (known : Known) (table : Shorter) (found : IsFound known table) where
       absurd (grind (arith, nat_tests)))
       (λ is. some_gives left tokens refl)
 
-  -- the rest of operators, where there may be some
+  -- the rest of operators, if there may be some
   pub climb_within : (least most : ℕ) (left : Expression) (tokens : List SourceToken)
       → Gives (λ e rest. GoesWithin least (as_operand most left (as_operand least left (expression_form known left)))
       (as_operand least e (expression_form known e)) tokens rest) (climb_rule table least most left tokens)
@@ -383,7 +383,7 @@ module _ (known : Known) (table : Shorter) (found : IsFound known table) where
         (λ e rest it. record { front = it.front; whole = it.whole; is = λ before low is. it.is before is })
   ]
 
-  -- binary operators, where there may be some
+  -- binary operators, if there may be some
   pub binary_within : (least : ℕ) (tokens : List SourceToken)
       → Gives (λ e rest. BeginsWithin least (as_operand least e (expression_form known e)) tokens rest) (binary_rule known table least tokens)
   binary_within least tokens = elim (cases_lt 11 least) [

@@ -1,4 +1,4 @@
--- Where what is read stands on another reading, it fails as that one does.
+-- If what is read stands on another reading, it fails as that one does.
 use Rattle.std.proofs.Common.{◌≡◌, Option, None, subst}
 use Rattle.hs_expr_parser.specs.Given.{Fails}
 use Rattle.hs_expr_parser.specs.declared.parse_end.ParseEnd.{ParseEnd}

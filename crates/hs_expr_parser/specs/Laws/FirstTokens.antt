@@ -81,7 +81,7 @@ word_is_none Character text other is = refl
 word_is_none Literal text other is = refl
 word_is_none Punctuator text other is = absurd cc
 
--- where a word begins, no punctuator does
+-- if a word begins, no punctuator does
 pub word_no_mark : (text : List ℕ) (pieces : List Piece) (front rest : List SourceToken) → begins_word pieces ≡ true → Spells pieces front
     → is_mark_ahead text (front ++ rest) ≡ false
 word_no_mark text [] front rest is spells = absurd cc
@@ -89,7 +89,7 @@ word_no_mark text (piece ∷ pieces) [] rest is spells = absurd spells
 word_no_mark text (piece ∷ pieces) (source ∷ front) rest is spells =
     word_is_none source.token.kind text source.token.text (ap (λ kind. is_same_kind kind Identifier) spells.0 ∙ is)
 
--- where a specifier begins, no punctuator does
+-- if a specifier begins, no punctuator does
 pub specifier_no_mark : (known : Known) (typed : Bool) (text : List ℕ) (tokens : List SourceToken) → is_ahead (begins_specifier known typed) tokens ≡ true
     → is_mark_ahead text tokens ≡ false
 specifier_no_mark known typed text [] is = refl
@@ -134,7 +134,7 @@ constants_word known (tree.valued_constant it e rest) has = refl
 
 -- ---- the first token of a declarator
 
--- a token that may stand first behind the pointers of a declarator
+-- a token that may stand first after the pointers of a declarator
 abbrev pub opens_direct : TokenKind → List ℕ → Bool
 opens_direct Punctuator text = is_among (codes "(" ∷ codes "[" ∷ []) text
 opens_direct Identifier text = is_name text
@@ -146,7 +146,7 @@ opens Punctuator text = is_among (codes "*" ∷ codes "(" ∷ codes "[" ∷ []) 
 opens Identifier text = is_among dropped_words text || is_name text
 opens _ text = false
 
--- the first piece passes, where there is one
+-- the first piece passes, if there is one
 abbrev pub first_passes : (TokenKind → List ℕ → Bool) → List Piece → Bool
 first_passes passes [] = true
 first_passes passes (piece ∷ pieces) = passes piece.kind piece.text
@@ -157,7 +157,7 @@ pub passes_more : (passes : TokenKind → List ℕ → Bool) (pieces others : Li
 passes_more passes [] others is also = also
 passes_more passes (piece ∷ pieces) others is also = is
 
--- what stands behind the pointers
+-- what follows the pointers
 pub direct_opens : (known : Known) (inner : Bool) (it : Directly) → (direct_form known inner it).fits ≡ true
     → first_passes opens_direct (direct_form known inner it).pieces ≡ true
 direct_opens known inner tree.nothing fits = refl
@@ -224,7 +224,7 @@ opens_no_mark text other Number apart is = refl
 opens_no_mark text other Character apart is = refl
 opens_no_mark text other Literal apart is = refl
 
--- no other punctuator stands in front of a declarator, nor behind one that is empty
+-- no other punctuator stands in front of a declarator, nor after one that is empty
 pub declarator_no_mark : (text : List ℕ) (pieces : List Piece) (front rest : List SourceToken) → is_among (codes "*" ∷ codes "(" ∷ codes "[" ∷ []) text ≡ false
     → first_passes opens pieces ≡ true → Spells pieces front → is_mark_ahead text rest ≡ false → is_mark_ahead text (front ++ rest) ≡ false
 declarator_no_mark text [] [] rest apart is spells after = after
@@ -284,7 +284,7 @@ no_list known (piece ∷ pieces) (source ∷ front) rest is passes spells after 
     by_kind Character text is passes = refl
     by_kind Literal text is passes = refl
 
--- ---- behind the pointers
+-- ---- after the pointers
 
 -- a dropped word is a keyword
 pub dropped_keyword : (it : Dropped) → is_name (dropped_text it) ≡ false
@@ -364,7 +364,7 @@ ender_no_pointer source is =
 no_pointers : (source : SourceToken) (rest : List SourceToken) → pointer_of source ≡ None → pointers_at (source ∷ rest) ≡ ([], source ∷ rest)
 no_pointers source rest none = ap (λ it. with_pointer it source rest (pointers_at rest)) none
 
--- behind the last pointer there are no more
+-- after the last pointer there are no more
 pub pointers_stop : (pieces : List Piece) (front rest : List SourceToken) → first_passes opens_direct pieces ≡ true → Spells pieces front → ended rest ≡ true
     → pointers_at (front ++ rest) ≡ ([], front ++ rest)
 pointers_stop [] [] [] is spells ends = refl
@@ -376,7 +376,7 @@ pointers_stop (piece ∷ pieces) (source ∷ front) rest is spells ends =
 
 -- ---- nothing
 
--- where there is a piece, there is a token
+-- if there is a piece, there is a token
 no_pieces : (pieces others : List Piece) (piece : Piece) → Spells (pieces ++ piece ∷ others) [] → ⊥
 no_pieces [] others piece spells = spells
 no_pieces (first ∷ pieces) others piece spells = spells

@@ -1,4 +1,4 @@
--- What the first tokens are, where a reading takes them.
+-- What the first tokens are, if a reading takes them.
 --     mark_gives, name_gives        a punctuator, a name
 --     literals_begin, tag_begins, pointers_begin      string literals, a tag, pointers
 --     token_of                      the token of an operator or of a word

@@ -1,5 +1,5 @@
 -- What a reading gives, by how the reading is made.
---     Gives Holds it      whatever is read, this holds of it and of the tokens behind it
+--     Gives Holds it      whatever is read, this holds of it and of the tokens after it
 use Rattle.std.proofs.Common.{◌≡◌, Bool, true, false, List, Some, None, refl, ap, subst}
 use Rattle.std.specs.Prelude.{if◌then◌else◌}
 use Rattle.hs_tokens.specs.declared.token.SourceToken.{SourceToken}
@@ -7,7 +7,7 @@ use Rattle.hs_expr_parser.specs.Recursion.{Read, Table}
 use Rattle.hs_expr_parser.specs.Laws.Recursions.{Fact, Always}
 use Rattle.hs_expr_parser.specs.Reading.{◌>>=◌, going_on}
 
--- whatever is read, this holds of it and of the tokens behind it
+-- whatever is read, this holds of it and of the tokens after it
 pub record Gives {A : Type 0} (Holds : A → List SourceToken → Type 0) (it : Read A) : Type 0 where
   pub holds : (tree : A) (rest : List SourceToken) → it ≡ Some (tree, rest) → Holds tree rest
 
@@ -26,7 +26,7 @@ some_gives {A = A} {Holds = Holds} tree rest is = record {
   holds = λ other others same. subst (λ (it : A × List SourceToken). Holds it.0 it.1) (ap (read_of {A = A} (tree, rest)) same) is;
 }
 
--- one reading behind another
+-- one reading after another
 pub then_gives : {A B : Type 0} {Before : A → List SourceToken → Type 0} {Behind : B → List SourceToken → Type 0} (it : Read A)
     (next : A × List SourceToken → Read B) → Gives Before it → ((tree : A) (rest : List SourceToken) → Before tree rest → Gives Behind (next (tree, rest)))
     → Gives Behind (it >>= next)
@@ -40,7 +40,7 @@ pub so_then_gives : {A B : Type 0} {Before : A → List SourceToken → Type 0} 
 so_then_gives None next first second = none_gives
 so_then_gives (Some (tree, rest)) next first second = second tree rest refl (first.holds tree rest refl)
 
--- more, where something was read; else it stops
+-- more, if something was read; else it stops
 pub going_gives : {A B : Type 0} {Before : A → List SourceToken → Type 0} {Behind : B → List SourceToken → Type 0} (it : Read A)
     (more : A → List SourceToken → Read B) (stop : Read B) → Gives Before it
     → ((tree : A) (rest : List SourceToken) → it ≡ Some (tree, rest) → Before tree rest → Gives Behind (more tree rest)) → (it ≡ None → Gives Behind stop)

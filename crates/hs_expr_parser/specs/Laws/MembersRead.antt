@@ -57,13 +57,13 @@ declarators_no_brace known (tree.more_declarators it its) front rest fits ahead 
         let after = after_comma (declarators_form known (tree.more_declarators next its)) two second in
         ap (is_mark_ahead (codes "{")) (after.whole rest) ∙ ap (is_punctuator (codes "{")) after.is
 
--- where none begins, none begins in front
+-- if none begins, none begins in front
 none_front : (known : Known) (typed : Bool) (pieces others : List Piece) → begins_none known typed (pieces ++ others) ≡ true
     → begins_none known typed pieces ≡ true
 none_front known typed [] others is = refl
 none_front known typed (piece ∷ pieces) others is = is
 
--- what is read behind the specifiers of a member
+-- what is read after the specifiers of a member
 abbrev member_behind : Shorter → List Specified × List SourceToken → Read OneMember
 member_behind table its = table (goal.declarators []) its.1 >>= closing
     (λ declared. one_member (specification_from its.0) (declarators_from declared)) (codes ";")
@@ -142,18 +142,18 @@ constants_then table earlier it =
     else table (goal.constants (earlier ++ it.0 ∷ [])) rest)
     (Some ((earlier ++ it.0 ∷ [], false), it.1))
 
--- behind a comma
+-- after a comma
 abbrev behind_constant : Shorter → List OneConstant → List SourceToken → Read (List OneConstant × Bool)
 behind_constant table all rest = if is_mark_ahead (codes "}") rest then Some ((all, true), rest) else table (goal.constants all) rest
 
--- where a comma follows
+-- if a comma follows
 constants_comma : (table : Shorter) (earlier : List OneConstant) (it : OneConstant) (comma : SourceToken) (rest : List SourceToken)
     → comma ≡ with_text Punctuator (codes ",") comma → constants_then table earlier (it, comma ∷ rest) ≡ behind_constant table (earlier ++ it ∷ []) rest
 constants_comma table earlier it comma rest is =
     ap (λ found. going_on found (λ comma rest. behind_constant table (earlier ++ it ∷ []) rest) (Some ((earlier ++ it ∷ [], false), comma ∷ rest)))
     (mark_reads (codes ",") comma rest is)
 
--- more constants behind a comma
+-- more constants after a comma
 constants_more : {known : Known} {table : Shorter} → Whole known table → (it : OneConstant) (its : Constants) (earlier : List OneConstant) (comma : Bool)
     (two three rest : List SourceToken) → ReadsConstants known table its → has_constants its ≡ true → IsOf (mark (codes ",") ⨾ constants_form known its) two
     → IsOf (comma_form comma) three → is_mark_ahead (codes "}") rest ≡ true
@@ -217,7 +217,7 @@ constants_on {known = known} {table = table} whole it (tree.valued_constant next
     ap (λ tokens. constants_rule table earlier (one ++ tokens)) found.2
     ∙ ap (λ found. found >>= constants_then table earlier) (reads (found.0 ∷ found.1) (comma_ends found.0 found.1 found.3)) ∙ found.4
 
--- what is made of an expression behind a name
+-- what is made of an expression after a name
 abbrev valued : Word → Expression × List SourceToken → Read OneConstant
 valued name e = Some (valued_one name e.0, e.1)
 
@@ -283,7 +283,7 @@ valued_reads {known = known} {table = table} whole name e front value more fits 
     (mark_reads (codes "=") equals.source tokens equals.is)
     ∙ ap (λ found. found >>= valued name) (whole.plain goal.conditional tokens ∙ (all.conditional low).exact (constant_stops more ends))
 
--- tokens of four phrases, one behind another
+-- tokens of four phrases, one after another
 four_whole : (front one two three four inside last rest : List SourceToken)
     → ((rest : List SourceToken) → front ++ rest ≡ inside ++ (four ++ rest)) → ((rest : List SourceToken) → inside ++ rest ≡ one ++ (last ++ rest))
     → ((rest : List SourceToken) → last ++ rest ≡ two ++ (three ++ rest)) → front ++ rest ≡ one ++ (two ++ (three ++ (four ++ rest)))

@@ -92,7 +92,7 @@ tight_enough (tree.character it) level some most tight = omega (arith, most)
 tight_enough (tree.strings first others) level some most tight = omega (arith, most)
 tight_enough (tree.parens at inner) level some most tight = omega (arith, most)
 
--- what is read behind an operator
+-- what is read after an operator
 abbrev climbing : Shorter → ℕ → Expression → Operand → List SourceToken → Read Expression
 climbing table least left it rest = table (goal.climb least (level_of it.operator) (tree.binary left it.operator it.at it.right)) rest
 
@@ -109,7 +109,7 @@ operand_found table least most operator source tail is low high =
     let other : nat_le (level_of operator) most ≡ true = grind (arith, nat_tests) in
     ap (λ found. operand_by table least most found (place_of source) tail) (ap binary_of is ∙ binary_found operator source) ∙ rw one (rw other refl)
 
--- behind the left operand
+-- after the left operand
 binary_behind : {known : Known} {table : Shorter} → Whole known table
     → (left : Expression) (operator : BinaryOperator) (right : Expression) (source : SourceToken)
     (tokens tail rest : List SourceToken) → source ≡ with_text Punctuator (binary_text operator) source → 2 + level_of operator ≤ rank left
@@ -127,7 +127,7 @@ binary_behind {known = known} {table = table} whole left operator right source t
     ∙ ap (λ found. going_on found (climbing table least left) (Some (left, source ∷ tail)))
     (operand_found table least (tightest left) operator source tail is low enough)
 
--- the same where the right operand is read
+-- the same if the right operand is read
 binary_by : {known : Known} {table : Shorter} → Whole known table → (left : Expression) (operator : BinaryOperator) (right : Expression) (source : SourceToken)
     (tokens tail rest : List SourceToken) → source ≡ with_text Punctuator (binary_text operator) source → 2 + level_of operator ≤ rank left
     → AllRead known table left tokens (source ∷ tail)
@@ -188,7 +188,7 @@ binary_form_all {known = known} {table = table} whole left operator at right rea
 
 -- ---- conditionals
 
--- the branches behind a `?`, as the last one is read
+-- the branches after a `?`, as the last one is read
 abbrev last_branch : Place → Expression → Expression × List SourceToken → Read Branches
 last_branch at taken e = Some (record { at = at; taken = taken; otherwise = e.0 }, e.1)
 
@@ -324,7 +324,7 @@ pub lefts_in-from : (its : Lefts) → lefts_from (lefts_in its) ≡ its
 lefts_in-from tree.no_lefts = refl
 lefts_in-from (tree.more_lefts e at rest) = ap (tree.more_lefts e at) (lefts_in-from rest)
 
--- an assignment, and commas behind earlier left operands
+-- an assignment, and commas after earlier left operands
 abbrev pub sequence : Known → Shorter → List OneLeft → List SourceToken → Read Expression
 sequence known table earlier tokens = do
   e ← assignment_rule known table tokens

@@ -1,5 +1,5 @@
 -- What parsers of declarations and statements need of the phrases that these hold: each leaves fewer tokens, what is read is a phrase
--- of the grammar, and a phrase of the grammar is read where what follows ends it.
+-- of the grammar, and a phrase of the grammar is read if what follows ends it.
 --     expression_short, ..      fewer tokens are left
 --     expression_begins, ..     the tokens in front are of the grammar's form
 --     expression_reads, ..      what stands in front is read

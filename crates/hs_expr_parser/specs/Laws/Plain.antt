@@ -1,4 +1,4 @@
--- Each rule reads the same where it may ask the table about shorter lists alone: it asks about no others.
+-- Each rule reads the same if it may ask the table about shorter lists alone: it asks about no others.
 --     rule_alike         a rule over shorter lists alone
 --     reads_by_rules     so the reading is a table that reads by the rules
 use Rattle.std.proofs.Common.{◌≡◌, ℕ, zero, suc, ◌<◌, ◌≤◌, Bool, true, false, List, [], ◌∷◌, length, Option, Some, None, ◌∙◌, inl, inr, arith}
@@ -80,14 +80,14 @@ module _ (known : Known) (limit : ℕ) (table : Shorter) (shorts : Short table) 
       alike_bind (alike_mark _ its.1) λ close shorter.
       alike_some (omega arith)
 
-  -- a member, and an operator behind
+  -- a member, and an operator after it
   member : (base : Expression) (access : Option Access) (operator : Option PostfixOperator) (at : Place) (rest : List SourceToken)
       → Alike (suc (length rest)) (member_rule base access operator at rest) (member_rule base access operator at rest)
   member base (Some access) operator at rest = alike_bind (alike_name rest) λ name short. alike_some (omega arith)
   member base None (Some operator) at rest = alike_some (omega arith)
   member base None None at rest = alike_none
 
-  -- what stands behind a postfix expression
+  -- what follows a postfix expression
   pub suffix : (base : Expression) (tokens : List SourceToken) → length tokens ≤ limit
       → Alike (length tokens) (suffix_rule (below limit table) base tokens) (suffix_rule table base tokens)
   suffix base [] low = alike_none
@@ -178,7 +178,7 @@ module _ (known : Known) (limit : ℕ) (table : Shorter) (shorts : Short table) 
   operand least most [] low = alike_none
   operand least most (source ∷ rest) low = operand_with least most (binary_of source) (place_of source) rest (omega arith)
 
-  -- all of them behind a left operand
+  -- all of them after a left operand
   climb : (least most : ℕ) (left : Expression) (tokens : List SourceToken) → length tokens ≤ limit
       → Alike (suc (length tokens)) (climb_rule (below limit table) least most left tokens) (climb_rule table least most left tokens)
   climb least most left tokens low =
@@ -241,7 +241,7 @@ module _ (known : Known) (limit : ℕ) (table : Shorter) (shorts : Short table) 
       alike_bind (asks limit table shorts goal.assignment comma.1 (omega arith)) λ right shorter.
       alike_some (omega arith)
 
-  -- all of them behind the first operands
+  -- all of them after the first operands
   commas : (lefts : List OneLeft) (right : Expression) (tokens : List SourceToken) → length tokens ≤ limit
       → Alike (suc (length tokens)) (commas_rule (below limit table) lefts right tokens) (commas_rule table lefts right tokens)
   commas lefts right tokens low =
@@ -356,24 +356,24 @@ module _ (known : Known) (limit : ℕ) (table : Shorter) (shorts : Short table) 
       alike_bind (alike_mark _ it.1) λ close shorter.
       alike_more (omega arith) (full it.0 close.1)
 
-  -- nothing, where a name may be missing
+  -- nothing, if a name may be missing
   missing : (inner : Bool) (tokens : List SourceToken) → Alike (suc (length tokens)) (nothing_there inner tokens) (nothing_there inner tokens)
   missing true tokens = alike_some (omega arith)
   missing false tokens = alike_none
 
-  -- what the rest of a declarator stands behind, by cases
+  -- what the rest of a declarator follows, by cases
   base_with : (inner : Bool) (name : Option Word) (source : SourceToken) (rest : List SourceToken) → length rest < limit
       → Alike (suc (suc (length rest))) (base_by known (below limit table) inner name source rest) (base_by known table inner name source rest)
   base_with inner (Some name) source rest low = alike_some (omega arith)
   base_with inner None source rest low = alike_if _ (alike_more (omega arith) (inside inner rest low)) (missing inner (source ∷ rest))
 
-  -- what the rest of a declarator stands behind
+  -- what the rest of a declarator follows
   base_of : (inner : Bool) (tokens : List SourceToken) → length tokens ≤ limit
       → Alike (suc (length tokens)) (base_rule known (below limit table) inner tokens) (base_rule known table inner tokens)
   base_of inner [] low = missing inner []
   base_of inner (source ∷ rest) low = base_with inner (name_of source) source rest (omega arith)
 
-  -- behind a `[`
+  -- after a `[`
   array : (base : Directly) (rest : List SourceToken) → length rest < limit
       → Alike (suc (length rest)) (length_rule (below limit table) base rest) (length_rule table base rest)
   array base rest low =
@@ -382,7 +382,7 @@ module _ (known : Known) (limit : ℕ) (table : Shorter) (shorts : Short table) 
       alike_bind (alike_mark _ size.1) λ close shorter.
       alike_some (omega arith))
 
-  -- behind a `(`
+  -- after a `(`
   listed : (base : Directly) (rest : List SourceToken) → length rest < limit
       → Alike (suc (length rest)) (list_rule (below limit table) base rest) (list_rule table base rest)
   listed base rest low =

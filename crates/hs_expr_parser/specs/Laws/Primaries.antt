@@ -48,7 +48,7 @@ mark_reads text source rest is =
     let same : bytes_eq text text ≡ true = (bytes_eq-Decides text text).1 refl in
     ap (λ (it : SourceToken). mark_at text (it ∷ rest)) is ∙ rw same refl
 
--- what is made of a phrase, where this punctuator follows it
+-- what is made of a phrase, if this punctuator follows it
 abbrev pub closing : {A B : Type 0} → (A → B) → List ℕ → A × List SourceToken → Read B
 closing make text it = do
   close ← mark_at text it.1
@@ -84,7 +84,7 @@ one_all {known = known} {table = table} whole e source rest low ten bare reads =
     closed_all whole e (source ∷ rest) rest low ten bare.0 (ap (λ it. it && is_ahead (begins_specifier known false) rest) bare.1) bare.2
     (ap (λ it. it >>= (λ x. suffixes_rule table x.0 x.1)) reads)
 
--- a text that is no keyword is none of some keywords
+-- a text that is no keyword is not one of some keywords
 apart : (words : List (List ℕ)) (text : List ℕ) → list_all (λ word. is_among keywords word) words ≡ true → is_name text ≡ true → is_among words text ≡ false
 apart [] text all is = refl
 apart (first ∷ rest) text all is =
@@ -198,7 +198,7 @@ literals_stop (source ∷ rest) is =
       | inr other ↦ rw other (refl, refl)
     ]
 
--- literals behind a first one
+-- literals after a first one
 strings_by : {known : Known} {table : Shorter} → Whole known table → (first : Word) (others : List Word) (source : SourceToken) (front rest : List SourceToken)
     → source ≡ with_text Literal first.text source → place_of source ≡ first.place → IsOf (literals others) front
     → AllRead known table (tree.strings first others) (source ∷ (front ++ rest)) rest
@@ -248,7 +248,7 @@ parens_by {known = known} {table = table} whole inner opening close tokens rest 
 
 -- ---- postfix expressions
 
--- a suffix behind its base
+-- a suffix after its base
 pub suffix_all : {known : Known} {table : Shorter} → Whole known table → (base e : Expression) (tokens more rest : List SourceToken) → 15 ≤ rank base
     → 15 ≤ rank e
     → tightest e ≡ 10 → AllRead known table base tokens more → stops 16 more ≡ true → suffix_rule table base more ≡ Some (e, rest)
@@ -291,7 +291,7 @@ bracketed open' close' place form sources fits =
       fits = others.first;
     }
 
--- where nothing is read behind a `)` in front
+-- if nothing is read after a `)` in front
 pub not_closed : {known : Known} {table : Shorter} {e : Expression} {tokens rest : List SourceToken} → AllRead known table e tokens rest
     → is_mark_ahead (codes ")") tokens ≡ false
 not_closed {known = known} {table = table} {tokens = tokens} all = no_close tokens all.expression.longer
@@ -323,7 +323,7 @@ index_by {known = known} {table = table} whole base offset opening close tokens 
     (ap (λ (it : SourceToken). suffix_rule table base (it ∷ inside)) opens
     ∙ closes (table goal.expression inside) offset (codes "]") close rest (tree.index base (place_of opening)) read is_close)
 
--- tokens behind a base
+-- tokens after a base
 pub record Behind (form other : Form) (sources : List SourceToken) : Type 0 where
   pub front : List SourceToken
   pub back : List SourceToken
@@ -386,7 +386,7 @@ member_by {known = known} {table = table} whole base it name source next tokens 
     name_found : name_at (next ∷ rest) ≡ Some (name, rest)
     name_found = name_reads name next rest is_next at named
 
--- `++` or `--` behind
+-- `++` or `--` after it
 postfix_by : {known : Known} {table : Shorter} → Whole known table
     → (base : Expression) (it : PostfixOperator) (source : SourceToken) (tokens rest : List SourceToken)
     → source ≡ with_text Punctuator (postfix_text it) source → 15 ≤ rank base → AllRead known table base tokens (source ∷ rest)

@@ -36,7 +36,7 @@ pub record AllRead (known : Known) (table : Shorter) (e : Expression) (tokens re
   pub begins : is_ahead (begins_specifier known false) tokens ≡ false
   pub untyped : 14 ≤ rank e → begins_type known tokens ≡ false
   pub plain_start : 15 ≤ rank e → is_ahead is_unary_start tokens ≡ false
-  -- what is read behind it
+  -- what is read after it
   pub suffixed : 15 ≤ rank e → stops 16 rest ≡ true → postfix_rule known table tokens ≡ suffixes_rule table e rest
   pub climbs : (least : ℕ) → 1 ≤ least → least ≤ 11 → 2 + least ≤ rank e → stops (3 + tightest e) rest ≡ true
       → binary_rule known table least tokens ≡ climb_rule table least (tightest e) e rest

@@ -1,4 +1,4 @@
--- The fixed table reads each goal by its rule, where the others are read by the table itself on shorter lists.
+-- The fixed table reads each goal by its rule, if the others are read by the table itself on shorter lists.
 --     below_is                 a reading on a list below the limit
 --     fixed_is                 one round of the fixed table
 --     Always Holds table       the fact holds of all that the table reads

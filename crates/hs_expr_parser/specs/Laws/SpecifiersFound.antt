@@ -1,5 +1,5 @@
 -- The rules of specifiers give what is in the grammar, over a table that does.
---     specifier_found, specifiers_found      one specifier, and more behind earlier ones
+--     specifier_found, specifiers_found      one specifier, and more after earlier ones
 --     some_found                             at least one
 --     SomeSpecified, followed                specifiers, and what follows them
 use Rattle.std.proofs.Common.{◌≡◌, Bool, true, false, List, [], ◌∷◌, ◌++◌, Option, Some, None, refl, sym, ap, subst, ◌∙◌, append_assoc}
@@ -54,7 +54,7 @@ followed known its form tokens middle rest specified begins =
 abbrev in_list : Known → Bool → Specified → Form
 in_list known typed it = when (not (typed && is_named_type it)) (specifier_form known it)
 
--- it may where it is no typedef name
+-- it may if it is no typedef name
 unnamed : (known : Known) (typed : Bool) (it : Specified) {tokens rest : List SourceToken} → is_named_type it ≡ false
     → Begins (specifier_form known it) tokens rest → Begins (in_list known typed it) tokens rest
 unnamed known typed it other begins = when_begins (by_tests typed (is_named_type it) other) begins

@@ -379,7 +379,7 @@ no_specifiers_all {known = known} {table = table} whole typed earlier [] rest fi
     stop [] is = ap (λ its. Some (its, [])) (sym (append-nil earlier))
     stop (source ∷ others) is = rw is (ap (λ its. Some (its, source ∷ others)) (sym (append-nil earlier)))
 
--- one behind another
+-- one after another
 one_more : {known : Known} {table : Shorter} → Whole known table
     → (typed : Bool) (it : Specified) (earlier its : List Specified) (source : SourceToken) (others more rest : List SourceToken)
     → begins_specifier known typed source ≡ true → specifier_rule known table source others ≡ Some (it, more)
@@ -390,7 +390,7 @@ one_more {known = known} {table = table} whole typed it earlier its source other
     ∙ whole.plain (goal.specifiers (typed || is_type it) (earlier ++ it ∷ [])) more ∙ on
     ∙ ap (λ all. Some (all, rest)) (append_assoc earlier (it ∷ []) its))
 
--- specifiers behind a first one: no `{` follows it
+-- specifiers after a first one: no `{` follows it
 no_brace_behind : (known : Known) (typed : Bool) (its : Specification) (back rest : List SourceToken) → IsOf (specification_form known typed its) back
     → (has_specifiers its ≡ true → is_ahead (begins_specifier known typed) (back ++ rest) ≡ true) → is_mark_ahead (codes "{") rest ≡ false
     → is_mark_ahead (codes "{") (back ++ rest) ≡ false

@@ -1,4 +1,4 @@
--- Tokens that are of a form, and the others behind them.
+-- Tokens that are of a form, and the others after them.
 --     Begins form tokens rest       the tokens have a front that is of the form, and the others are the rest
 --     Goes form other tokens rest   with what is of the first form in front of it, their front is of the other form
 use Rattle.std.proofs.Common.{◌≡◌, ℕ, Bool, true, false, List, [], ◌∷◌, ◌++◌, Some, None, refl, sym, ap, subst, ◌∙◌, append_assoc}
@@ -21,7 +21,7 @@ pub record Goes (form other : Form) (tokens rest : List SourceToken) : Type 0 wh
   pub whole : tokens ≡ front ++ rest
   pub is : (before : List SourceToken) → IsOf form before → IsOf other (before ++ front)
 
--- pieces behind pieces
+-- pieces after pieces
 spells-append : (pieces others : List Piece) (front behind : List SourceToken) → Spells pieces front → Spells others behind
     → Spells (pieces ++ others) (front ++ behind)
 spells-append [] others [] behind first second = second
@@ -34,7 +34,7 @@ spells-append (piece ∷ pieces) others (source ∷ front) behind first second =
 both_true : {one other : Bool} → one ≡ true → other ≡ true → (one && other) ≡ true
 both_true {other = other} first second = rw first second
 
--- one form behind another
+-- one form after another
 pub is_behind : (form other : Form) (front behind : List SourceToken) → IsOf form front → IsOf other behind → IsOf (form ⨾ other) (front ++ behind)
 is_behind form other front behind first second = (both_true first.0 second.0, spells-append form.pieces other.pieces front behind first.1 second.1)
 
@@ -43,7 +43,7 @@ and_again : (one two three : Bool) → ((one && two) && three) ≡ (one && (two 
 and_again true two three = refl
 and_again false two three = refl
 
--- three forms, one behind another
+-- three forms, one after another
 pub form_again : (one two three : Form) → ((one ⨾ two) ⨾ three) ≡ (one ⨾ (two ⨾ three))
 form_again one two three = λ i. record {
   fits = and_again one.fits two.fits three.fits i;
@@ -63,7 +63,7 @@ form_nothing one = λ i. record { fits = and_nothing one.fits i; pieces = append
 pub nothing_begins : (tokens : List SourceToken) → Begins nothing_at_all tokens tokens
 nothing_begins tokens = record { front = []; whole = refl; is = (refl, tt) }
 
--- one form behind another
+-- one form after another
 pub then_begins : {form other : Form} {tokens middle rest : List SourceToken} → Begins form tokens middle → Begins other middle rest
     → Begins (form ⨾ other) tokens rest
 then_begins {form = form} {other = other} {rest = rest} first second = record {
@@ -99,7 +99,7 @@ place_begins source rest kind text = record { front = source ∷ []; whole = ref
 pub stays : (form : Form) (tokens : List SourceToken) → Goes form form tokens tokens
 stays form tokens = record { front = []; whole = refl; is = λ before is. subst (λ (all : List SourceToken). IsOf form all) (sym (append-nil before)) is }
 
--- more behind more
+-- more after more
 pub then_goes : {form middle other : Form} {tokens between rest : List SourceToken} → Goes form middle tokens between → Goes middle other between rest
     → Goes form other tokens rest
 then_goes {other = other} {rest = rest} first second = record {
@@ -109,7 +109,7 @@ then_goes {other = other} {rest = rest} first second = record {
       (second.is (before ++ first.front) (first.is before is));
 }
 
--- a form behind another
+-- a form after another
 pub behind_goes : (form : Form) {other : Form} {tokens rest : List SourceToken} → Begins other tokens rest → Goes form (form ⨾ other) tokens rest
 behind_goes form {other = other} it = record { front = it.front; whole = it.whole; is = λ before is. is_behind form other before it.front is it.is }
 

@@ -1,4 +1,4 @@
--- Where an expression does not go on, nothing more of it is read.
+-- If an expression does not go on, nothing more of it is read.
 --     looser                        what stops a tight expression's looser ones stops it too
 --     suffix_none, operand_none, branches_none, value_none, another_none
 use Rattle.std.proofs.Common.{◌≡◌, ℕ, ◌≤◌, true, false, List, [], ◌∷◌, Option, Some, None, refl, ap, sym, ◌∙◌, inl, inr, arith}

@@ -1,4 +1,4 @@
--- What a table gives for each goal, where what it reads is found.
+-- What a table gives for each goal, if what it reads is found.
 --     expression_gives, assignment_gives, ..      each goal's own form
 use Rattle.std.proofs.Common.{◌≡◌, ℕ, ◌≤◌, Bool, true, false, List, [], ◌∷◌, ◌++◌, refl, ◌∙◌, append_assoc}
 use Rattle.std.specs.Prelude.{◌||◌}
@@ -17,7 +17,7 @@ use Rattle.hs_expr_parser.specs.Found.{Takes, IsFound}
 use Rattle.hs_expr_parser.specs.Laws.Gives.{Gives, so_gives, always_gives}
 use Rattle.hs_expr_parser.specs.Laws.Spelled.{Begins, Goes}
 
--- more entries behind the earlier ones, at least one, and the tokens have a front that is of their form
+-- more entries after the earlier ones, at least one, and the tokens have a front that is of their form
 pub record Grows {A : Type 0} (earlier all : List A) (form : List A → Form) (tokens rest : List SourceToken) : Type 0 where
   pub first : A
   pub others : List A
@@ -41,7 +41,7 @@ more_grows earlier it all form tokens middle rest grown so = record {
   begins = so grown.first grown.others grown.begins;
 }
 
--- specifiers behind the earlier ones, and no other follows
+-- specifiers after the earlier ones, and no other follows
 pub record Specifies (known : Known) (typed : Bool) (earlier all : List Specified) (tokens rest : List SourceToken) : Type 0 where
   pub its : List Specified
   pub whole : all ≡ earlier ++ its

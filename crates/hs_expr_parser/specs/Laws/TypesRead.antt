@@ -44,7 +44,7 @@ pub record Specifies (known : Known) (table : Shorter) (its : Specification) (de
   pub declarator : declarator_rule known table true back ≡ Some (declared, rest)
   pub begins : is_ahead (begins_specifier known false) tokens ≡ true
 
--- it is read where its tokens stand in front
+-- it is read if its tokens stand in front
 specifies : (known : Known) (table : Shorter) (its : Specification) (declared : Declared) (text : List ℕ) (front rest : List SourceToken)
     → ReadsSpecification known table its → ReadsDeclarator known table declared → has_specifiers its ≡ true
     → IsOf (specification_form known false its ⨾ ends_before known its (declarator_form known true declared)) front
@@ -67,11 +67,11 @@ specifies known table its declared text front rest reads others has fits among a
 
 -- ---- type names
 
--- what is made of a declarator behind specifiers
+-- what is made of a declarator after specifiers
 abbrev named_type : List Specified → Declared × List SourceToken → Read NamedType
 named_type its declared = if is_named declared.0 then None else Some (tree.typed_as (specification_from its) declared.0, declared.1)
 
--- a type name behind its specifiers
+-- a type name after its specifiers
 abbrev typed_behind : Known → Shorter → List Specified × List SourceToken → Read NamedType
 typed_behind known table its = do
   declared ← declarator_rule known table true its.1
@@ -97,11 +97,11 @@ typed_all {known = known} {table = table} whole its declared reads others front 
 pub no_parameters_all : {known : Known} {table : Shorter} → Whole known table → ReadsParameters known table tree.no_parameters
 no_parameters_all whole earlier front rest has fits ends = absurd cc
 
--- what is made of a declarator behind specifiers
+-- what is made of a declarator after specifiers
 abbrev made_parameter : List Specified → Declared × List SourceToken → Read OneParameter
 made_parameter its declared = Some (one_parameter (specification_from its) declared.0, declared.1)
 
--- a parameter behind its specifiers
+-- a parameter after its specifiers
 abbrev parameter_behind : Known → Shorter → List Specified × List SourceToken → Read OneParameter
 parameter_behind known table its = do
   declared ← declarator_rule known table true its.1
@@ -115,7 +115,7 @@ parameter_reads {known = known} {table = table} its declared tokens rest read =
     ∙ ap (λ found. found >>= made_parameter (specifiers_in its)) read.declarator
     ∙ ap (λ all. Some (one_parameter all declared, rest)) (specification_again its)
 
--- what is read behind a comma
+-- what is read after a comma
 abbrev parameters_on : Shorter → List OneParameter → List SourceToken → Read (List OneParameter)
 parameters_on table earlier tokens = table (goal.parameters earlier) tokens
 

@@ -1,4 +1,4 @@
--- Where parameters are not `void` alone, `void` alone is not read.
+-- If parameters are not `void` alone, `void` alone is not read.
 --     filled_no_mark      a declarator that is not empty begins with no other punctuator
 --     void_missing        `void` and a `)` do not stand there
 use Rattle.std.proofs.Common.{◌≡◌, ℕ, Bool, true, false, List, [], ◌∷◌, ◌++◌, Option, Some, None, refl, ap, sym, ◌∙◌}
@@ -63,13 +63,13 @@ not_void (piece ∷ pieces) (source ∷ front) rest is spells =
     and_false true = refl
     and_false false = refl
 
--- the place of `void`, where a `)` follows
+-- the place of `void`, if a `)` follows
 abbrev closed_place : List SourceToken → Place → Read Place
 closed_place rest void = do
   close ← mark_at (codes ")") rest
   Some (void, close.1)
 
--- no `)` behind it
+-- no `)` after it
 not_closed_behind : (source : SourceToken) (rest : List SourceToken) → is_mark_ahead (codes ")") rest ≡ false → void_alone (source ∷ rest) ≡ None
 not_closed_behind source rest is = by_place (place_if (is_keyword (codes "void") source) source)
   where
@@ -114,7 +114,7 @@ void_specifier known it front more fits behind = not_void (specifier_form known 
 
 -- ---- what follows it
 
--- where more stands behind `void`, it is no `)`
+-- if more follows `void`, it is no `)`
 more_behind : (known : Known) (typed : Bool) (it : Specified) (specifiers : Specification) (declared : Declared) (others : Parameters)
     (one two three rest : List SourceToken)
     → IsOf (specification_form known typed specifiers) one → IsOf (declarator_form known true declared) two
@@ -148,7 +148,7 @@ void_by known it specifiers declared others tokens first one two three rest same
     ∙ void_specifier known it first (one ++ (two ++ (three ++ rest))) fits
     (more_behind known (is_type it) it specifiers declared others one two three rest second third fourth alone)
 
--- tokens of four phrases, one behind another
+-- tokens of four phrases, one after another
 four_whole : (front first one two three entry specified rest : List SourceToken)
     → ((rest : List SourceToken) → front ++ rest ≡ entry ++ (three ++ rest)) → ((rest : List SourceToken) → entry ++ rest ≡ specified ++ (two ++ rest))
     → ((rest : List SourceToken) → specified ++ rest ≡ first ++ (one ++ rest)) → front ++ rest ≡ first ++ (one ++ (two ++ (three ++ rest)))

@@ -1,5 +1,5 @@
 -- Two results alike: the still one is the moving one stilled, and a stop is the same and no misuse. What a step asks of
--- values and blocks gives results alike, where the blocks are plain and no pointer used has an old epoch.
+-- values and blocks gives results alike, if the blocks are plain and no pointer used has an old epoch.
 use Rattle.std.proofs.Common.{◌≡◌, ℕ, ◌==◌, Bool, true, false, not, List, map, length, nat_le, Option, Some, None, Result, Ok, Err, option_map, slice_get, slice_set, refl, sym, ap, ◌∙◌, subst, if◌then◌else◌, eq-eqb}
 use Rattle.hs_base.specs.declared.pos.Pos.{Pos}
 use Rattle.hs_tree.specs.declared.straight.tree.Expr.{Expr}
@@ -21,7 +21,7 @@ use Rattle.hs_meaning.proofs.Runs.Still.{still_value, still_block, still, Each, 
 abbrev pub IsHarmless : Stop → Type 0
 IsHarmless kind = (pos : Pos) → IsMisuse (Stopped kind pos) → ⊥
 
--- the stop at its place is none
+-- the stop at its place is not a misuse
 abbrev pub IsHarmlessHalt : Halt → Type 0
 IsHarmlessHalt halt = IsHarmless halt.kind
 

@@ -1,4 +1,4 @@
--- Blocks of a heap by their numbers: after one is put in place of another, and after one is added.
+-- Blocks of a heap by their numbers: after one is put instead of another, and after one is added.
 use Rattle.std.proofs.Common.{◌≡◌, ℕ, zero, suc, ◌+◌, ◌<◌, ◌≤◌, List, [], ◌∷◌, ◌++◌, length, ◌⊎◌, inl, inr, Option, Some, slice_get, slice_set, refl, sym, ap, ◌∙◌, subst, arith, add-one, suc-ne-zero}
 use Rattle.std.proofs.lemmas.Option.{none-some, same_Some, slice_get_within}
 use Rattle.hs_meaning.specs.Heap.{block_at, put_block}

@@ -1,5 +1,5 @@
--- What every moving run keeps: its blocks are plain; a handle has a block of its own, locked where the steps done say so;
--- and a pointer has the epoch of its block where the steps done do not say that it is stale.
+-- What every moving run keeps: its blocks are plain; a handle has a block of its own, locked if the steps done say so;
+-- and a pointer has the epoch of its block if the steps done do not say that it is stale.
 use Rattle.std.proofs.Common.{◌≡◌, ℕ, Bool, true, false, not, ◌&&◌, List, ◌∷◌, ◌⊎◌, inl, inr, Option, Some, None, slice_get, refl, sym, ap, ◌∙◌, subst, true≢false, eqb-true}
 use Rattle.std.proofs.lemmas.Bool.{or_parts, and_parts, and_cases, not-true, not-false, cases_Bool}
 use Rattle.std.proofs.lemmas.Option.{same_Some}
@@ -19,7 +19,7 @@ use Rattle.hs_meaning.specs.declared.block.Block.{Block}
 use Rattle.hs_meaning.proofs.Runs.Still.{Each, IsPlain}
 use Rattle.hs_meaning.proofs.Runs.Alike.{IsFresh, IsFreshUse}
 
--- the handle has a block, locked where it should be
+-- the handle has a block, locked if it should be
 pub record IsHandleOf (heap : List Block) (should_lock : Bool) (named : ℕ) : Type 0 where
   pub block : Block
   pub is_block : block_at heap named ≡ Some block

@@ -52,11 +52,11 @@ shifted_by-still state plain =
     ap (λ (heap : List Block). record (still state) { heap = heap })
     (shift_from-nothing 1 (map still_block state.heap) ∙ sym (shift_from-still new_handle_powers (next_decision state.schedule) 1 state.heap plain))
 
--- a block fits the still heap where it fits the moving one
+-- a block fits the still heap if it fits the moving one
 has_room-still : (heap : List Block) (size : ℕ) → has_room (map still_block heap) size ≡ has_room heap size
 has_room-still heap size = rw (live_bytes-still heap, length-map heap still_block) refl
 
--- an allocation is granted in the still state where it is in the moving one
+-- an allocation is granted in the still state if it is in the moving one
 is_granted-still : (input : Input) (state : State) (size : ℕ) → is_granted input (still state) size ≡ is_granted input state size
 is_granted-still input state size =
     ap (λ (room : Bool). if list_any (λ refused. refused == state.allocations + 1) input.refused then false else room) (has_room-still state.heap size)
@@ -78,7 +78,7 @@ allocated-still input state assigned_to size =
 abbrev AreNotStale : List Step → List ℕ → Type 0
 AreNotStale done pointers = Each (λ pointer. is_stale_after pointer done ≡ false) pointers
 
--- the pointers that a fine expression uses are fresh, where they are not stale
+-- the pointers that a fine expression uses are fresh, if they are not stale
 fresh_uses : (variables : List Variable) (done : List Step) (state : State) (value : Expr) → IsKept variables done state
     → is_fine_expr variables done value ≡ true
     → AreNotStale done (expr_uses value) → Each (IsFreshUse state) (expr_uses value)
@@ -184,7 +184,7 @@ Each-map : {A B : Type 0} (P : B → Type 0) (f : A → B) (Q : A → Type 0) (x
 Each-map P f Q [] weaker each = tt
 Each-map P f Q (x ∷ xs) weaker each = (weaker x each.0, Each-map P f Q xs weaker each.1)
 
--- where none of the items has P, each has it not
+-- if none of the items has P, each has it not
 Each-from_count : {A : Type 0} (P : A → Type 0) (xs : List A) → IsCountOf P xs 0 → Each (λ x. P x → ⊥) xs
 Each-from_count P [] count = tt
 Each-from_count P (x ∷ xs) (inl (m, held, rest, same)) = absurd (suc-ne-zero m (sym same))

@@ -27,7 +27,7 @@ use Rattle.hs_meaning.proofs.Runs.Kept.{IsHandleOf, IsHandleValue, IsPointerValu
 blocks_same : (step : Step) (heap : List Block) (named : ℕ) (block : Block) → block_at heap named ≡ Some block → IsBlockAfter step block (block_at heap named)
 blocks_same step heap named block found = record { after = block; is_after = found; same_epoch = λ locked. refl }
 
--- a lock stays where the step does not concern its handle and the block has the lock that it had
+-- a lock stays if the step does not concern its handle and the block has the lock that it had
 locks_same : (step : Step) (done : List Step) (variable : ℕ) (block later : Block) → concerns variable step ≡ false → later.locked ≡ block.locked
     → (is_locked_after variable done ≡ true → block.locked ≡ true) → is_locked_after variable (step ∷ done) ≡ true → later.locked ≡ true
 locks_same step done variable block later other same before now = same ∙ before (sym (is_locked_after-other variable step done other) ∙ now)
@@ -134,7 +134,7 @@ derive_next variables done state pos pointer from value got is_pointer is_handle
     from_other : lookup ((pointer, got) ∷ state.variables) from ≡ lookup state.variables from
     from_other = lookup-other from pointer got state.variables (ne_eqb pointer from differ)
 
--- a block put in place of one with the same epoch leaves all epochs
+-- a block put instead of one with the same epoch leaves all epochs
 blocks_put : (step : Step) (heap : List Block) (place : ℕ) (old new : Block) → block_at heap place ≡ Some old → new.epoch ≡ old.epoch
     → (named : ℕ) (block : Block) → block_at heap named ≡ Some block → IsBlockAfter step block (block_at (put_block heap place new) named)
 blocks_put step heap place old new is_old same named block found = go (block_at-put heap place new named block found)
@@ -147,7 +147,7 @@ blocks_put step heap place old new is_old same named block found = go (block_at-
     }
     go (inr at) = record { after = block; is_after = at.1; same_epoch = λ locked. refl }
 
--- a block put in place of one with the same lock leaves all locks
+-- a block put instead of one with the same lock leaves all locks
 locks_put : (heap : List Block) (place : ℕ) (old new : Block) → block_at heap place ≡ Some old → new.locked ≡ old.locked
     → (named : ℕ) (block later : Block) → block_at heap named ≡ Some block → block_at (put_block heap place new) named ≡ Some later
     → later.locked ≡ block.locked
@@ -249,7 +249,7 @@ lock_next on variables done state pos locked (handle held) heap declared found s
         locks_same (lock_form on pos locked) done variable block later (lock_concerns on pos locked variable (differ variable named at.0 is_held))
         (same_lock (block_at (put_block state.heap held new) named) block later at.1 is_later) before now
 
--- what a call of NewHandle leaves of a block: its lock, and its epoch where it was locked
+-- what a call of NewHandle leaves of a block: its lock, and its epoch if it was locked
 record IsCalledBlock (block : Block) (found : Option Block) : Type 0 where
   later : Block
   is_later : found ≡ Some later

@@ -142,7 +142,7 @@ slice_get-shift_from powers decision n (first ∷ blocks) plain zero block found
 slice_get-shift_from powers decision n (first ∷ blocks) plain (suc place) block found =
     slice_get-shift_from powers decision (suc n) blocks plain.1 place block found
 
--- where nothing is named, the shift changes nothing
+-- if nothing is named, the shift changes nothing
 pub shift_from-nothing : (n : ℕ) (heap : List Block) → shift_from new_handle_powers (next_decision []) n heap ≡ heap
 shift_from-nothing n [] = refl
 shift_from-nothing n (block ∷ blocks) = ap (λ (rest : List Block). block ∷ rest) (shift_from-nothing (suc n) blocks)

@@ -1,5 +1,5 @@
 -- What the steps done say of a pointer, step by step: the rule of stale uses as a recursion. Lists of steps are newest
--- first. The law is that a use is stale (`IsStaleUse`) just where `is_stale_after` says so.
+-- first. The law is that a use is stale (`IsStaleUse`) exactly if `is_stale_after` says so.
 --     derived_after pointer done       where the pointer was taken from, and what happened to it since
 --     is_stale_after pointer done      it is stale now
 use Rattle.std.specs.Prelude.{ℕ, Bool, true, false, not, ◌&&◌, ◌||◌, List, [], ◌∷◌, Option, Some, None, if◌then◌else◌}
@@ -34,7 +34,7 @@ kept_by done step derivation =
       is_stale = derivation.is_stale || (calls_new_handle step && not (derivation.is_same && is_locked_after derivation.handle done));
     }
 
--- what is known, where anything is
+-- what is known, if anything is
 abbrev pub kept_if : List Step → Step → Option Derivation → Option Derivation
 kept_if done step None = None
 kept_if done step (Some derivation) = Some (kept_by done step derivation)

@@ -1,4 +1,4 @@
--- The rule of stale uses as a recursion says what the rule says: a use is stale just where `is_stale_after` is true.
+-- The rule of stale uses as a recursion says what the rule says: a use is stale exactly if `is_stale_after` is true.
 use Rattle.std.proofs.Common.{◌≡◌, ℕ, Bool, true, false, not, ◌&&◌, ◌||◌, List, [], ◌∷◌, ◌++◌, IsTrue, ◌⊎◌, inl, inr, Option, Some, None, refl, sym, ap, ◌∙◌, subst, if◌then◌else◌, true≢false, eqb-true, eq-eqb}
 use Rattle.std.specs.List.{list_any}
 use Rattle.std.proofs.lemmas.Bool.{or_parts, or_cases, or_left, or_right, or_from, and_parts, and_from, and_cases, not-true, not-false}
@@ -18,12 +18,12 @@ not-or true false = refl
 not-or false true = refl
 not-or false false = refl
 
--- where the step assigns the pointer not, what is known is kept
+-- if the step assigns the pointer not, what is known is kept
 pub derived_after-keep : (pointer : ℕ) (step : Step) (done : List Step) → assigns pointer step ≡ false
     → derived_after pointer (step ∷ done) ≡ kept_if done step (derived_after pointer done)
 derived_after-keep pointer step done other = rw other refl
 
--- what `p = *h` says of p where no step since assigned p
+-- what `p = *h` says of p if no step since assigned p
 record IsDerived (pointer handle : ℕ) (between done : List Step) : Type 0 where
   derivation : Derivation
   is_known : derived_after pointer done ≡ Some derivation
@@ -140,7 +140,7 @@ traced_by pointer (form.Set letter value) done derivation same known = absurd (n
 traced_by pointer (form.Store pos other value) done derivation same known = absurd (none-some derivation known)
 traced_by pointer (form.Putchar value) done derivation same known = absurd (none-some derivation known)
 
--- a step that assigns the pointer not leaves the trace, and where it makes the pointer stale it is the call of the rule
+-- a step that assigns the pointer not leaves the trace, and if it makes the pointer stale it is the call of the rule
 traced_on : (pointer : ℕ) (step : Step) (done : List Step) (derivation : Derivation) → assigns pointer step ≡ false → IsTraced pointer done derivation
     → IsTraced pointer (step ∷ done) (kept_by done step derivation)
 traced_on pointer step done derivation other trace = record {

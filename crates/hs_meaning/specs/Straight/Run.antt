@@ -94,7 +94,7 @@ derive_through heap (handle block) = master heap block
 derive_through heap (spot s) = Err stop.BadLoad
 derive_through heap (number n) = Err stop.BadPointer
 
--- HLock or HUnlock of a value: NIL is let be
+-- HLock or HUnlock of a value: NIL is ignored
 abbrev pub lock_through : Bool → List Block → Value → Result (List Block) Stop
 lock_through on heap nil = Ok heap
 lock_through on heap (handle block) = set_lock on heap block
@@ -114,7 +114,7 @@ abbrev pub next_decision : List Decision → Decision
 next_decision [] = record { moves = These []; purges = These [] }
 next_decision (decision ∷ later) = decision
 
--- the decisions behind the next one
+-- the decisions after the next one
 abbrev pub later_decisions : List Decision → List Decision
 later_decisions [] = []
 later_decisions (decision ∷ later) = later

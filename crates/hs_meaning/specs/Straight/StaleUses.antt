@@ -1,5 +1,5 @@
 -- The stale uses of a straight tree (own).
--- A use is `*p` for a pointer p, on either side. A use in a step is stale where the last step before that assigns p is
+-- A use is `*p` for a pointer p, on either side. A use in a step is stale if the last step before that assigns p is
 -- `p = *h`, and between the two a step calls NewHandle for which one of these holds: a step between `p = *h` and it
 -- assigns h; or the last step before it that assigns h, locks h or unlocks h is no HLock.
 -- Lists of steps that were done are newest first.

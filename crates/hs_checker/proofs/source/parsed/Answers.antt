@@ -1,4 +1,4 @@
--- One unit more, or the first that is none of the grammar.
+-- One unit more, or the first that is not in the grammar.
 use Rattle.std.proofs.Common.{◌≡◌, List, get_or, subst, ap, ◌∙◌, Err}
 use Rattle.hs_tokens.specs.declared.token.SourceToken.{SourceToken}
 use Rattle.hs_syntax.specs.Nesting.{IsShallow}
@@ -17,7 +17,7 @@ returns-in-Err-Limit c =
       c.in-Err-Limit.limit-is ∙ limit.0,
     )
 
--- an external declaration is none
+-- an external declaration is wrong
 pub returns-in-Err-Syntax : goal.returns-in-Err-Syntax
 returns-in-Err-Syntax c =
     let item : c.items.result.now ≡ get_or c.args.units.now c.units.tokens-index c.tokens-item.result = c.items.ensures ∙ c.tokens-item.is in

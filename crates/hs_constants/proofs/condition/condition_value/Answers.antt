@@ -18,7 +18,7 @@ returns-in_default-place-clause-none c =
     none_of (tokens_of c.args.tokens.now) None (ap (λ place. ended_at place (reverse c.tokens.waiting.items)) (sym c.in_default-place.is)
     ∙ at_end c.args.tokens.now c.tokens.source-index c.tokens.place (reverse c.tokens.waiting.items) c.tokens.invariant c.tokens-test.false)
 
--- the end stands behind an operand
+-- the end follows an operand
 pub returns : goal.returns
 returns c =
     let read : c.then_some.result ≡ condition_value (tokens_of c.args.tokens.now) = grind (arith, common_steps) in

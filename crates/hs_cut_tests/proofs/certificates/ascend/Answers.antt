@@ -6,7 +6,7 @@ use Rattle.std.proofs.lemmas.Bool.Decides.{nat_tests}
 use Rattle.std.proofs.lemmas.List.Sorted.{answers_always}
 use Rattle.hs_cut_tests.proofs.certificates.ascend.Goals as goal
 
--- where each number is below the next, they ascend
+-- if each number is below the next, they ascend
 rises : (numbers : List ℕ) (is : Bool) → IsAllAdjacentAnswer (λ one next b. b ≡ nat_lt one next) numbers is → IsTrue is → IsStrictlyIncreasing numbers
 rises numbers true answer passed k below =
     let here : true ≡ nat_lt (get_or numbers k 0) (get_or numbers (k + 1) 0) = answer k 0 below in grind (arith, nat_tests)

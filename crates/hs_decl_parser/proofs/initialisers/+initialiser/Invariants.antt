@@ -13,7 +13,7 @@ decreases-braces l = 4 * length l.rest.now + 3
 abbrev pub decreases-initialisers : goal.decreases-initialisers
 decreases-initialisers l = 4 * length l.tokens.now + 2
 
--- what is left behind the values so far
+-- what is left after the values so far
 abbrev pub invariant-initialisers-initialisers : goal.invariant-initialisers-initialisers
 invariant-initialisers-initialisers l =
     (initialisers_on l.known (map view_initialiser l.values.items) l.rest ≡ initialisers_at l.known [] l.fn.tokens) × (length l.rest < length l.fn.tokens)

@@ -33,7 +33,7 @@ decreases-labelled l = 8 * length l.tokens.now + 2
 abbrev pub decreases-statements : goal.decreases-statements
 decreases-statements l = 8 * length l.tokens.now + 3
 
--- what is left behind the statements so far
+-- what is left after the statements so far
 abbrev pub invariant-statements-statements : goal.invariant-statements-statements
 invariant-statements-statements l =
     (statements_at l.known (map view_labelled l.its.items) l.rest ≡ statements_at l.known [] l.fn.tokens) × (length l.rest ≤ length l.fn.tokens)

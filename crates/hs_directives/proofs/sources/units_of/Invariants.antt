@@ -7,7 +7,7 @@ use Rattle.hs_directives.proofs.Units.{units_after}
 use Rattle.hs_directives.proofs.Walking.{Reached}
 use Rattle.hs_directives.proofs.sources.units_of.Given as goal
 
--- what is left to do is the units of the names ahead, behind those so far, and what was read so far was read in turn
+-- what is left to do is the units of the names ahead, after those so far, and what was read so far was read in turn
 abbrev pub invariant-roots : goal.invariant-roots
 invariant-roots g l =
     (g.F.Files.listing l.files ≡ g.F.Files.listing l.fn.files)

@@ -4,7 +4,7 @@ use Rattle.hs_macros.specs.Stacks.{waiting, with_later}
 use Rattle.hs_macros.proofs.Collecting.{row}
 use Rattle.hs_macros.proofs.arguments.paired.Given as goal
 
--- those that are paired come behind those that are left
+-- those that are paired come after those that are left
 abbrev pub invariant-names : goal.invariant-names
 invariant-names l = with_later (paired l.names (map row l.given.items)) (waiting l.waiting.items) ≡ paired l.fn.names (map row l.fn.given.items)
 

@@ -8,6 +8,6 @@ use Rattle.hs_macros.proofs.line.names_from.Given as goal
 abbrev pub invariant-names : goal.invariant-names
 invariant-names l = with_names (names_of l.names.items) (names_from l.rest) ≡ names_from l.line
 
--- each turn takes a name and what stands behind it
+-- each turn takes a name and what follows it
 abbrev pub decreases-names : goal.decreases-names
 decreases-names l = length l.rest

@@ -3,6 +3,6 @@ use Rattle.hs_macros.specs.Replacement.{plain}
 use Rattle.hs_macros.specs.Stacks.{ahead}
 use Rattle.hs_macros.proofs.pending.tokens_ahead.Given as goal
 
--- those that are ready stand behind those that are left
+-- those that are ready follow those that are left
 abbrev pub invariant-loop-token : goal.invariant-loop-token
 invariant-loop-token l = map plain l.token-iterator.iter.rest.now ++ ahead l.tokens.items ≡ map plain l.run

@@ -3,7 +3,7 @@ use Rattle.hs_macros.specs.Replacement.{from_argument}
 use Rattle.hs_macros.specs.Stacks.{done, ahead}
 use Rattle.hs_macros.proofs.placing.put_argument.Given as goal
 
--- those that are put stand behind those that are left
+-- those that are put follow those that are left
 abbrev pub invariant-loop-pending : goal.invariant-loop-pending
 invariant-loop-pending l =
     map (from_argument l.pos l.hides.value) (done l.pending-iterator.iter.rest.now) ++ ahead l.tokens.items

@@ -4,7 +4,7 @@ use Rattle.hs_spell.specs.Spelling.{token_of}
 use Rattle.hs_syntax.specs.Views.{view_external}
 use Rattle.hs_spell.proofs.units.externals.Given as goal
 
--- Those that are left make what is to be written, where more typedef names are known.
+-- Those that are left make what is to be written, if more typedef names are known.
 abbrev pub invariant-loop-it : goal.invariant-loop-it
 invariant-loop-it l = (known : List (List ℕ)) → (later : List (List ℕ)) × (
     l.tokens.items ++ map token_of (unit_form later (map view_external (drop l.it-index l.its))).pieces

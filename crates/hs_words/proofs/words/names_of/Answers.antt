@@ -8,7 +8,7 @@ use Rattle.clap.specs.Words.{all_of, found_of, rows_of}
 use Rattle.hs_words.proofs.Building.{values_are}
 use Rattle.hs_words.proofs.words.names_of.Goals as goal
 
--- the texts behind the references
+-- the texts after the references
 abbrev texts_of : Bor (List (Bor (List ℕ))) → List (List ℕ)
 texts_of values = map (λ value. value.now) values.now
 

@@ -2,7 +2,7 @@ use Rattle.std.proofs.Common.{rules, ◌≡◌, ◌++◌, ◌∷◌, []}
 use Rattle.hs_expr_parser.proofs.Indexed.{IsIndexOf-with}
 use Rattle.hs_expr_parser.proofs.type_names.TypeNames.with.Goals as goal
 
--- the index took the name where it had it not
+-- the index took the name if it had it not
 pub invariant_of-result : goal.invariant_of-result
 invariant_of-result c =
     let key : c.in_ok-to_vec.field-0.items ≡ c.args.name.now = search rules in

@@ -3,7 +3,7 @@ use Rattle.std.specs.FinMap as map
 use Rattle.hs_macros.proofs.Entries.{get-as_map}
 use Rattle.hs_macros.proofs.macros.Macros.is_defined.Goals as goal
 
--- the name has a definition where the map has one
+-- the name has a definition if the map has one
 pub returns : goal.returns
 returns c =
     c.contains_key.ensures
