@@ -1,3 +1,5 @@
+//! What a source is refused for, with the number and the word of each fault.
+
 ghost use Rattle.std.specs.Prelude.{◌≡◌};
 ghost use Rattle.handlecheck.specs.Faults.{number_of, word_of, placed_by};
 

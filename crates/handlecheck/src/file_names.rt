@@ -1,3 +1,5 @@
+//! The names of the files that were read, so that an error can name its file.
+
 ghost use Rattle.std.specs.Prelude.{◌≡◌, [], ◌∷◌, ◌++◌, Some, None, IfSome, IfNone, IsSomeAnd, OnOk, slice_get};
 ghost use Rattle.handlecheck.specs.Names.{IsNoted};
 

@@ -1,3 +1,5 @@
+//! A writer of the system, as `Sink`.
+
 ghost use Rattle.std.specs.Prelude.{◌≡◌, None, OnOk};
 ghost use Rattle.std.specs.Io.KnownBytes.{Appends};
 ghost use Rattle.hs_base.specs.Sink.{IsPut};

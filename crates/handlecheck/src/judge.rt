@@ -1,3 +1,5 @@
+//! From the named files to the report on them.
+
 ghost use Rattle.std.specs.Prelude.{◌≡◌, [], map, List, ℕ, Ok, Err, IfSome, Some};
 ghost use Rattle.std.specs.String.{string_bytes};
 ghost use Rattle.hs_base.specs.Files.{NeverFall};

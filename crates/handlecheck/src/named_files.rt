@@ -1,3 +1,5 @@
+//! Files that note the names of what is read.
+
 ghost use Rattle.std.specs.Prelude.{◌≡◌};
 ghost use Rattle.handlecheck.specs.Names.{IsNoted};
 

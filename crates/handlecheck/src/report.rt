@@ -1,3 +1,5 @@
+//! The reports, and the line of each.
+
 ghost use Rattle.std.specs.Prelude.{◌≡◌, ◌∷◌, ◌++◌, IfOk, codes};
 ghost use Rattle.std.specs.Fmt.{decimal};
 ghost use Rattle.handlecheck.specs.Faults.{number_of, word_of};

@@ -1,3 +1,5 @@
+//! Everything that the program does, from the words to the line that is written.
+
 ghost use Rattle.std.specs.Prelude.{◌≡◌, map, List, ℕ, Ok};
 ghost use Rattle.std.specs.String.{string_bytes};
 ghost use Rattle.hs_base.specs.Files.{NeverFall};

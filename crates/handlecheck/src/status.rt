@@ -1,3 +1,5 @@
+//! The statuses of a call, and their numbers.
+
 ghost use Rattle.std.specs.Prelude.{◌≡◌};
 ghost use Rattle.handlecheck.specs.Status.{code_of};
 

@@ -1,3 +1,5 @@
+//! The whole program on files and a sink in memory, and on a few real files.
+
 use crate::{HostFiles, HostSink, Status, run};
 use hs_base::{FileEnd, Files, MemFiles, MemSink, Sink};
 use std::alloc::Global;

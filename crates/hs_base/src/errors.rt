@@ -1,3 +1,5 @@
+//! Errors without data: no memory, a failed write, a read that returned no bytes.
+
 ghost use Rattle.std.specs.Prelude.{◌≡◌};
 ghost use Rattle.hs_base.specs.declared.errors.FileEnd.TheVariants.{NoMemory as no_memory_end};
 

@@ -1,3 +1,5 @@
+//! The trait of files: what a read means.
+
 ghost use Rattle.std.specs.Prelude.{◌≡◌, ℕ, List, Option};
 ghost use Rattle.hs_base.specs.Files.{Listing, Counts, NeverFall, IsRead};
 

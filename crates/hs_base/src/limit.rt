@@ -1,3 +1,5 @@
+//! The limits, with their numbers and words.
+
 ghost use Rattle.std.specs.Prelude.{◌≡◌, codes};
 ghost use Rattle.hs_base.specs.Limit.{number_of, word_of};
 

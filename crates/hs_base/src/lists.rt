@@ -1,3 +1,5 @@
+//! Lists that contracts see without capacity and allocator.
+
 ghost use Rattle.std.specs.Prelude.{◌≡◌, List, ℕ};
 
 use std::marker::Model;

@@ -1,3 +1,5 @@
+//! Files in memory.
+
 ghost use Rattle.std.specs.Prelude.{◌≡◌, ◌==◌, Option, Some, map};
 ghost use Rattle.std.specs.Option.{option_map};
 ghost use Rattle.std.specs.String.{string_bytes};

@@ -1,3 +1,5 @@
+//! A sink in memory.
+
 ghost use Rattle.std.specs.Prelude.{◌≡◌, ◌+◌, ◌≤◌, ◌++◌, [], Option, Some, IfOk, take, length, is_ok, vec_len, vec_capacity};
 ghost use Rattle.hs_base.specs.Sink.{IsPut};
 ghost use Rattle.hs_base.specs.Memory.{put_len, put_succeeds, raised};

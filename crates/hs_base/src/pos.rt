@@ -1,3 +1,5 @@
+//! Places in source texts.
+
 /// A place in a source text.
 #[derive(Clone, Copy, Debug, PartialEq, Eq, PartialOrd, Ord)]
 pub struct Pos {

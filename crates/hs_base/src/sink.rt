@@ -1,3 +1,5 @@
+//! The trait of sinks: what a write means.
+
 ghost use Rattle.std.specs.Prelude.{Option, List, ℕ};
 ghost use Rattle.hs_base.specs.Sink.{IsPut};
 

@@ -1,3 +1,5 @@
+//! The bytes of words, the ends of lines, and the place after a byte.
+
 ghost use Rattle.std.specs.Prelude.{◌≡◌, ◌<◌, ◌+◌, ◌^◌};
 ghost use Rattle.hs_base.specs.Text.{is_digit, is_letter, is_word_byte, ends_line, next_place};
 

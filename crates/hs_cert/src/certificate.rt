@@ -1,3 +1,5 @@
+//! Certificates, and what can be wrong with one.
+
 ghost use Rattle.std.specs.Prelude.{◌≡◌};
 ghost use Rattle.hs_cert.specs.declared.certificate.CertError.TheVariants.{NoMemory as no_memory};
 

@@ -1,3 +1,5 @@
+//! What a flow may be, and what it adds up to at each vertex.
+
 ghost use Rattle.std.specs.Prelude.{◌≡◌, ◌+◌, ◌<◌, ◌≤◌, ◌^◌, ℕ, pos, ◌+ℤ◌, cond, length, not, nat_eq, nat_lt, nat_abs, set, slice_index_or};
 ghost use Rattle.std.specs.List.{All, position, zip};
 ghost use Rattle.std.specs.Ordering.{int_eq};

@@ -1,3 +1,5 @@
+//! The lines of the text of a certificate, one at a time.
+
 ghost use Rattle.std.specs.Prelude.{◌≡◌, ◌<◌, ◌≤◌, ◌+◌, ◌-◌, ◌*◌, min};
 ghost use Rattle.hs_cert.specs.Reading.{Gives, after, line_at, number_at, signed_at};
 

@@ -1,3 +1,5 @@
+//! Vertices that are marked, and the edges that cross from them to the others.
+
 ghost use Rattle.std.specs.Prelude.{◌≡◌, ◌<◌, ℕ, length, not, ◌&&◌};
 ghost use Rattle.std.specs.List.{All, list_all, list_any, position};
 ghost use Rattle.hs_cut.specs.Networks.{among, crosses, crossings};

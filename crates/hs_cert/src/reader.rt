@@ -1,3 +1,5 @@
+//! From a text to the certificate.
+
 ghost use Rattle.std.specs.Prelude.{◌≡◌, ◌≤◌, ◌++◌, ◌∷◌, [], ◌⊎◌, ◌↔◌, length, nat_abs, pos, replicate, set, IsTrue, IfOk, Err};
 ghost use Rattle.std.specs.List.{All};
 ghost use Rattle.std.specs.List.Sorted.{IsStrictlyIncreasing};

@@ -1,3 +1,5 @@
+//! Whether a certificate fits its network.
+
 ghost use Rattle.std.specs.Prelude.{◌≡◌, ◌<◌, ◌≤◌, ◌^◌, length, nat_abs, OnOk, IfOk, IfErr, IfSome, IfNone};
 ghost use Rattle.std.specs.List.{All};
 ghost use Rattle.hs_cut.specs.Flows.{Fits, IsConserved, net_out};

@@ -1,3 +1,5 @@
+//! The arithmetic of long and unsigned long, on 32 bits (X3.159-1989 3.3.3 to 3.3.15).
+
 ghost use Rattle.std.specs.Prelude.{◌≡◌};
 ghost use Rattle.hs_constants.specs.Arithmetic.{negated, is_negative, size_of, signed, quotient, remainder};
 ghost use Rattle.hs_constants.specs.Arithmetic.{shifted_right, is_less, is_true, truth, either_fails, common, divided};

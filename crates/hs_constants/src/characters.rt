@@ -1,3 +1,5 @@
+//! The values of character constants (X3.159-1989 3.1.3.4).
+
 ghost use Rattle.std.specs.Prelude.{◌≡◌, ◌≤◌, ◌+◌, ◌-◌, length, take};
 ghost use Rattle.hs_tokens.specs.Literals.{octal_value, hex_value, octal_escape, hex_escape, escape_len};
 ghost use Rattle.hs_constants.specs.Characters.{escape_value, character_value};

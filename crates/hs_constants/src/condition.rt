@@ -1,3 +1,5 @@
+//! The value of a condition, read from left to right (X3.159-1989 3.8.1).
+
 ghost use Rattle.std.specs.Prelude.{◌≡◌, reverse, IfOk, IfSome, IfNone};
 ghost use Rattle.hs_constants.specs.Conditions.{Means};
 ghost use Rattle.hs_constants.specs.Reading.{tokens_of, seen, operand_step, operator_step, step, condition_value};

@@ -1,3 +1,5 @@
+//! The value of a token that is a constant.
+
 ghost use Rattle.std.specs.Prelude.{◌≡◌};
 ghost use Rattle.hs_constants.specs.Conditions.{plain, constant_of};
 

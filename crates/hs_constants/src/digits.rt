@@ -1,3 +1,5 @@
+//! Digits in a base, and the number that they make.
+
 ghost use Rattle.std.specs.Prelude.{◌≡◌, ◌+◌, ◌*◌, ◌^◌, ◌<◌, ◌≤◌, Some, None, if◌then◌else◌, length, IfSome, SomeIff};
 ghost use Rattle.hs_constants.specs.Digits.{radix, is_digit_of, digit_value, IsRun};
 

@@ -1,3 +1,5 @@
+//! The values of integer constants (X3.159-1989 3.1.3.2).
+
 ghost use Rattle.std.specs.Prelude.{◌≡◌};
 ghost use Rattle.hs_constants.specs.Numbers.{with_suffix, hex_number, octal_number, decimal_number, number_value};
 

@@ -1,3 +1,5 @@
+//! The operators of conditions, with their levels.
+
 ghost use Rattle.std.specs.Prelude.{◌≡◌};
 ghost use Rattle.hs_constants.specs.Conditions.{unary_of, binary_of, level_of};
 

@@ -1,3 +1,5 @@
+//! Values of conditions.
+
 /// The value of an expression of a condition, of type long or unsigned long (X3.159-1989 3.8.1).
 #[derive(Clone, Copy, Debug, PartialEq, Eq)]
 pub struct Value {

@@ -1,3 +1,5 @@
+//! Operators that wait for their right operand.
+
 ghost use Rattle.std.specs.Prelude.{◌≡◌, reverse};
 ghost use Rattle.hs_constants.specs.Reading.{applied, settled};
 

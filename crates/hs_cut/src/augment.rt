@@ -1,3 +1,5 @@
+//! A largest flow: one unit more over a shortest way, while there is such a way.
+
 ghost use Rattle.std.specs.Prelude.{◌≡◌, ℕ, ◌+◌, ◌<◌, ◌^◌, ◌↔◌, length, nat_abs, All, Contains, None, Some, IfOk, IfSome, IfNone, IsTrue};
 ghost use Rattle.hs_cut.specs.Arcs.{arcs_from, IsGraph};
 ghost use Rattle.hs_cut.specs.Descents.{IsAt};

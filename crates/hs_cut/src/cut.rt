@@ -1,3 +1,5 @@
+//! Cuts, and why there may be none.
+
 ghost use Rattle.std.specs.Prelude.{◌≡◌};
 ghost use Rattle.hs_cut.specs.declared.cut.CutEnd.TheVariants.{NoMemory as no_memory_end};
 

@@ -1,3 +1,5 @@
+//! The edges of a network, by the vertices at which they end.
+
 ghost use Rattle.std.specs.Prelude.{◌≡◌, ℕ, ◌<◌, ◌^◌, List, [], ◌∷◌, ◌++◌, length, cond, IfOk, OnOk, nat_eq};
 ghost use Rattle.hs_cut.specs.Arcs.{arcs_from, IsGraph};
 ghost use Rattle.hs_cut.specs.Networks.{IsNumbered};

@@ -1,3 +1,5 @@
+//! A search by breadth: how many steps away each vertex is.
+
 ghost use Rattle.std.specs.Prelude.{◌≡◌, ℕ, ◌<◌, ◌^◌, List, [], ◌∷◌, length, flat_map, All, IfOk, OnOk};
 ghost use Rattle.hs_cut.specs.Levels.{AreInside, AreLevels, IsInside, IsMarked, is_open, next_to, opens, targets};
 

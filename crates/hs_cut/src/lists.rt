@@ -1,3 +1,5 @@
+//! Lists of edges and of flows.
+
 ghost use Rattle.std.specs.Prelude.{◌≡◌, List, ℤ};
 
 use crate::network::CutEdge;

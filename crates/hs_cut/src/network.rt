@@ -1,3 +1,5 @@
+//! Networks: vertices, edges, and the vertices whose sides are given.
+
 use crate::lists::CutEdges;
 use hs_base::Numbers;
 

@@ -1,3 +1,5 @@
+//! The shortest path that prevents a cut.
+
 ghost use Rattle.std.specs.Prelude.{◌≡◌, ℕ, ◌+◌, ◌<◌, ◌^◌, ◌↔◌, List, ◌∷◌, length, map, All, Some, IfOk, IfSome, IfNone, IsTrue};
 ghost use Rattle.hs_cut.specs.Arcs.{IsGraph};
 ghost use Rattle.hs_cut.specs.Descents.{Descends, IsAt, IsLeastAt, IsLeastLevel, LeadsTo, lesser, uncut_gate};

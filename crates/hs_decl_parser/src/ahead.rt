@@ -1,3 +1,5 @@
+//! What the first tokens of a phrase tell.
+
 ghost use Rattle.std.specs.Prelude.{◌≡◌, suc, length, IfSome, IfOk};
 ghost use Rattle.hs_expr_parser.specs.Given.{Gives, Seen};
 ghost use Rattle.hs_decl_parser.specs.Words.{keyword_at};

@@ -1,3 +1,5 @@
+//! Parses functions and external declarations (X3.159-1989 3.7).
+
 ghost use Rattle.std.specs.Prelude.{◌≡◌, ◌<◌, length, map, IfOk};
 ghost use Rattle.hs_syntax.specs.Views.{view_specifier, view_declarator, view_external};
 ghost use Rattle.hs_expr_parser.specs.Given.{Gives};

@@ -1,3 +1,5 @@
+//! Parses initialisers (X3.159-1989 3.5.7).
+
 ghost use Rattle.std.specs.Prelude.{◌≡◌, ◌<◌, ◌≤◌, [], length, map, option_map, IfOk};
 ghost use Rattle.hs_syntax.specs.Views.{view_initialiser};
 ghost use Rattle.hs_expr_parser.specs.Given.{Gives};

@@ -1,3 +1,5 @@
+//! Parses the labels of a switch (X3.159-1989 3.6.1).
+
 ghost use Rattle.std.specs.Prelude.{◌≡◌, ◌<◌, ◌≤◌, [], length, map, IfOk};
 ghost use Rattle.hs_syntax.specs.Views.{view_label};
 ghost use Rattle.hs_expr_parser.specs.Given.{Gives};

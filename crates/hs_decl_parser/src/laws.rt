@@ -1,3 +1,5 @@
+//! Laws of units, proved and without code: the grammar is not ambiguous.
+
 ghost use Rattle.std.specs.Prelude.{◌≡◌, List};
 ghost use Rattle.hs_base.specs.declared.pos.Pos.{Pos};
 ghost use Rattle.hs_tokens.specs.declared.token.SourceToken.{SourceToken};

@@ -1,3 +1,5 @@
+//! The typedef names that a declaration makes (X3.159-1989 3.5.6).
+
 ghost use Rattle.std.specs.Prelude.{◌≡◌, ◌++◌, map, IfOk};
 ghost use Rattle.std.specs.List.{list_any};
 ghost use Rattle.hs_syntax.specs.Phrases.{is_typedef, name_in, name_of, made_by};

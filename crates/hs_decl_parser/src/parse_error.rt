@@ -1,3 +1,5 @@
+//! Why the tokens of a unit are not parsed.
+
 use hs_base::{Limit, NoMemory, Pos};
 use std::alloc::AllocFailed;
 

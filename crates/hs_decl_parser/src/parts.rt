@@ -1,3 +1,5 @@
+//! Parses the parts of statements that are in parentheses.
+
 ghost use Rattle.std.specs.Prelude.{◌≡◌, ◌<◌, length, option_map, IfOk};
 ghost use Rattle.hs_syntax.specs.Views.{view};
 ghost use Rattle.hs_expr_parser.specs.Given.{Gives};

@@ -1,3 +1,5 @@
+//! Parses statements (X3.159-1989 3.6).
+
 ghost use Rattle.std.specs.Prelude.{◌≡◌, ◌<◌, ◌≤◌, [], length, map, IfOk};
 ghost use Rattle.hs_syntax.specs.StatementViews.{view_labelled};
 ghost use Rattle.hs_syntax.specs.Views.{view_statement, view_block};

@@ -1,3 +1,5 @@
+//! Parses translation units (X3.159-1989 3.7).
+
 ghost use Rattle.std.specs.Prelude.{◌≡◌, Err, IfOk, map};
 ghost use Rattle.hs_base.specs.declared.limit.Limit.{Limit as ALimit};
 ghost use Rattle.hs_base.specs.declared.pos.Pos.{Pos};

@@ -1,3 +1,5 @@
+//! The keywords with which statements begin.
+
 ghost use Rattle.std.specs.Prelude.{◌≡◌};
 ghost use Rattle.hs_expr_parser.specs.Ahead.{spelled_so};
 ghost use Rattle.hs_decl_parser.specs.Words.{statement_text, statement_words, statement_word_of, begins_label};

@@ -1,3 +1,5 @@
+//! The changes of macros, as lists.
+
 ghost use Rattle.std.specs.Prelude.{◌≡◌, ◌++◌, ◌∷◌, [], List, OnOk};
 ghost use Rattle.hs_directives.specs.declared.source.MacroChange.{MacroChange};
 

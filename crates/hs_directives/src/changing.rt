@@ -1,3 +1,5 @@
+//! The directives that change macros: `#define` and `#undef` (X3.159-1989 3.8.3).
+
 ghost use Rattle.std.specs.Prelude.{◌≡◌, OnOk};
 ghost use Rattle.hs_directives.specs.States.{of_definition};
 ghost use Rattle.hs_directives.specs.Directives.{place_of, with_change, name_at, define_done, lone_name, undef_done};

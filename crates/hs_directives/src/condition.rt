@@ -1,3 +1,5 @@
+//! Conditions: `defined` is answered, then macros are replaced, then the value is computed (X3.159-1989 3.8.1).
+
 ghost use Rattle.std.specs.Prelude.{◌≡◌, IfOk, is_some};
 ghost use Rattle.std.specs.FinMap as map;
 ghost use Rattle.hs_directives.specs.States.{of_replacement};

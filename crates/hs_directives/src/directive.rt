@@ -1,3 +1,5 @@
+//! What a run of text or a directive does to the state.
+
 ghost use Rattle.std.specs.Prelude.{◌≡◌, ℕ, List, drop, Option, None, Result};
 ghost use Rattle.hs_base.specs.declared.pos.Pos.{Pos};
 ghost use Rattle.hs_tokens.specs.declared.token.Token.{Token};

@@ -1,3 +1,5 @@
+//! Enters an included file (X3.159-1989 3.8.2).
+
 ghost use Rattle.std.specs.Prelude.{◌≡◌, ◌<◌, IfOk};
 ghost use Rattle.hs_base.specs.Files.{NeverFall};
 ghost use Rattle.hs_directives.specs.Readings.{IsReading, entered_by, entry};

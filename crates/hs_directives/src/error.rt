@@ -1,3 +1,5 @@
+//! The refusals of reading, each with its place.
+
 ghost use Rattle.std.specs.Prelude.{◌≡◌};
 ghost use Rattle.hs_directives.specs.declared.error.ReadError.TheVariants.{NoMemory as no_memory};
 

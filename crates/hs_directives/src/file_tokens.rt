@@ -1,3 +1,5 @@
+//! The tokens of a file, shared by its inclusions.
+
 ghost use Rattle.std.specs.Prelude.{◌≡◌, List, IfOk};
 ghost use Rattle.hs_tokens.specs.declared.token.Token.{Token};
 

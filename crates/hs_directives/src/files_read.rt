@@ -1,3 +1,5 @@
+//! The files that were read, in order.
+
 ghost use Rattle.std.specs.Prelude.{◌≡◌, ◌∷◌, [], ◌++◌, ◌<◌, ◌≤◌, List, length, IfOk, OnOk};
 
 use crate::state::{File, Known};

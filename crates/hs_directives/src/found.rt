@@ -1,3 +1,5 @@
+//! Finds the file of a name: it is read and scanned once.
+
 ghost use Rattle.std.specs.Prelude.{◌≡◌, ◌≤◌, ◌<◌, length, IfOk};
 ghost use Rattle.hs_base.specs.Files.{NeverFall};
 ghost use Rattle.hs_tokens.specs.Scan.{scan_of};

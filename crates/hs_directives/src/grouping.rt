@@ -1,3 +1,5 @@
+//! The directives of sections: `#if` to `#endif` (X3.159-1989 3.8.1).
+
 ghost use Rattle.std.specs.Prelude.{◌≡◌};
 ghost use Rattle.hs_directives.specs.Directives.{name_answered, answered_by, if_done, elif_done, else_done, endif_done};
 ghost use Rattle.hs_directives.specs.Ahead.{seen_name, turn_of};

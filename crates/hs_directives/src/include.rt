@@ -1,3 +1,5 @@
+//! The file name of an `#include` line (X3.159-1989 3.8.2).
+
 ghost use Rattle.std.specs.Prelude.{◌≡◌, ◌-◌, IfOk, take, drop, length};
 ghost use Rattle.std.specs.List.{list_all};
 ghost use Rattle.hs_directives.specs.Includes.{bracketed, plain_name, is_printable, is_name, checked_name, include_name};

@@ -1,3 +1,5 @@
+//! The keywords of directives.
+
 ghost use Rattle.std.specs.Prelude.{◌≡◌};
 ghost use Rattle.hs_directives.specs.Pieces.{keyword, keyword_of};
 

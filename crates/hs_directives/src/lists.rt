@@ -1,3 +1,5 @@
+//! Lists of names, texts and numbers.
+
 ghost use Rattle.std.specs.Prelude.{◌≡◌, ◌++◌, List, ℕ, OnOk};
 ghost use Rattle.hs_tokens.specs.declared.token.SourceToken.{SourceToken};
 

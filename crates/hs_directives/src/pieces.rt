@@ -1,3 +1,5 @@
+//! Cuts the tokens of a file into runs of text and directives.
+
 ghost use Rattle.std.specs.Prelude.{◌≡◌, ◌≤◌, length};
 ghost use Rattle.hs_directives.specs.Pieces.{begins_directive};
 ghost use Rattle.std.specs.List.{prefix_len};

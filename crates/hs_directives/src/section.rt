@@ -1,3 +1,5 @@
+//! One conditional section.
+
 ghost use Rattle.std.specs.Prelude.{◌≡◌};
 ghost use Rattle.hs_directives.specs.Sections.{opened, skipped, elsed, passed_over, elifed};
 

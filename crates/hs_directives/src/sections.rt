@@ -1,3 +1,5 @@
+//! The conditional sections that are open.
+
 ghost use Rattle.std.specs.Prelude.{◌≡◌, ◌∷◌, [], List, OnOk, IfSome, IfNone};
 ghost use Rattle.hs_directives.specs.Sections.{is_active, open_at};
 ghost use Rattle.hs_directives.specs.declared.section.Section.{Section};

@@ -1,3 +1,5 @@
+//! What the named files and their headers were read as.
+
 use crate::changes::UnitChanges;
 use crate::lists::{FileNumbers, Texts, UnitTokens};
 use hs_base::{Bytes, Pos};

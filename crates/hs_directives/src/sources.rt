@@ -1,3 +1,5 @@
+//! Reads the named files, unit by unit.
+
 ghost use Rattle.std.specs.Prelude.{◌≡◌, IfOk, map, List, ℕ};
 ghost use Rattle.std.specs.String.{string_bytes};
 ghost use Rattle.hs_base.specs.Files.{NeverFall};

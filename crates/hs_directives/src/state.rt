@@ -1,3 +1,5 @@
+//! What reading has come to.
+
 use crate::changes::MacroChanges;
 use crate::file_tokens::FileTokens;
 use crate::files_read::FilesRead;

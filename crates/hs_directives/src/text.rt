@@ -1,3 +1,5 @@
+//! Runs of text, with their macros replaced.
+
 ghost use Rattle.std.specs.Prelude.{◌≡◌};
 ghost use Rattle.hs_directives.specs.Directives.{with_tokens, text_done};
 ghost use Rattle.hs_directives.specs.Outcomes.{Gives};

@@ -1,3 +1,5 @@
+//! Reads one unit: a named file with its headers.
+
 ghost use Rattle.std.specs.Prelude.{◌≡◌, IfOk, IfErr, OnOk};
 ghost use Rattle.hs_base.specs.Files.{NeverFall};
 ghost use Rattle.hs_directives.specs.Preprocessing.{fresh, unit_of};

@@ -1,3 +1,5 @@
+//! Goes through the pieces of a file.
+
 ghost use Rattle.hs_base.specs.Files.{NeverFall};
 ghost use Rattle.hs_directives.specs.Pieces.{pieces};
 ghost use Rattle.hs_directives.specs.Preprocessing.{walked, entered};

@@ -1,3 +1,5 @@
+//! What the first tokens of a phrase tell.
+
 ghost use Rattle.std.specs.Prelude.{◌≡◌, ◌≤◌, ◌∷◌, false, suc, length, [], IfNone, IfSome, IfOk};
 ghost use Rattle.hs_expr_parser.specs.Ahead.{place_of, word_of, is_punctuator, is_keyword, is_ahead, is_mark_ahead, mark_at, name_at, literals_at, begins_specifier, begins_type};
 ghost use Rattle.hs_expr_parser.specs.Given.{Gives, Seen};

@@ -1,3 +1,5 @@
+//! Parses declarators (X3.159-1989 3.5.4 and 3.5.5).
+
 ghost use Rattle.std.specs.Prelude.{◌≡◌, ◌<◌, ◌≤◌, [], length, map, IfOk};
 ghost use Rattle.hs_syntax.specs.RowViews.{view_parameter};
 ghost use Rattle.hs_syntax.specs.Views.{view_declarator, view_direct};

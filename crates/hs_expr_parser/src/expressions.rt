@@ -1,3 +1,5 @@
+//! Parses expressions from the comma to the binary operators (X3.159-1989 3.3.5 to 3.3.17).
+
 ghost use Rattle.std.specs.Prelude.{◌≡◌, ◌<◌, length, map, IfOk};
 ghost use Rattle.hs_syntax.specs.RowViews.{view_left};
 ghost use Rattle.hs_syntax.specs.Views.{view};

@@ -1,3 +1,5 @@
+//! Laws of expressions, proved and without code: the grammar is not ambiguous, and what is read is the longest.
+
 ghost use Rattle.std.specs.Prelude.{◌≡◌, ℕ, ◌≤◌, ◌-◌, List, length, take, Some, None};
 ghost use Rattle.hs_tokens.specs.declared.token.SourceToken.{SourceToken};
 ghost use Rattle.hs_syntax.specs.Grammar.{IsExpression};

@@ -1,3 +1,5 @@
+//! The longest expression from a token on: the call for other crates.
+
 ghost use Rattle.std.specs.Prelude.{◌≡◌, ℕ, ◌<◌, ◌≤◌, ◌-◌, length, take, drop, IfOk, Err};
 ghost use Rattle.hs_syntax.specs.Grammar.{IsExpression};
 ghost use Rattle.hs_syntax.specs.Nesting.{IsShallow};

@@ -1,3 +1,5 @@
+//! Whether a declarator names something.
+
 ghost use Rattle.std.specs.Prelude.{◌≡◌, Bool};
 ghost use Rattle.hs_syntax.specs.Phrases.{is_named, names, is_empty};
 ghost use Rattle.hs_syntax.specs.Views.{view_declarator, view_direct};

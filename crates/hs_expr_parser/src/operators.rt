@@ -1,3 +1,5 @@
+//! The operators that tokens are.
+
 ghost use Rattle.std.specs.Prelude.{◌≡◌};
 ghost use Rattle.hs_syntax.specs.Operators.{binary_text, assign_text, prefix_text, postfix_text, access_text, storage_text, dropped_text, basic_text};
 ghost use Rattle.hs_expr_parser.specs.Ahead.{spelled_so, binary_operators, assign_operators, prefix_operators, postfix_operators, accesses, storage_words, dropped_words, basic_words, binary_of, assign_of, prefix_of, postfix_of, access_of, storage_of, dropped_of, basic_of};

@@ -1,3 +1,5 @@
+//! Why nothing was read.
+
 use hs_base::NoMemory;
 use std::alloc::{AllocError, AllocFailed};
 

@@ -1,3 +1,5 @@
+//! Parses postfix and primary expressions (X3.159-1989 3.3.1 and 3.3.2).
+
 ghost use Rattle.std.specs.Prelude.{◌≡◌, ◌<◌, ◌≤◌, length, map, IfOk};
 ghost use Rattle.hs_syntax.specs.RowViews.{expressions_from};
 ghost use Rattle.hs_syntax.specs.Trees as tree;

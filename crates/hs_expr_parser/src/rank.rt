@@ -1,3 +1,5 @@
+//! How tightly an expression binds.
+
 ghost use Rattle.std.specs.Prelude.{◌≡◌, nat_le};
 ghost use Rattle.hs_syntax.specs.Phrases.{rank};
 ghost use Rattle.hs_syntax.specs.Views.{view};

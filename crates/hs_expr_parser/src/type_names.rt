@@ -1,3 +1,5 @@
+//! The typedef names that are known (X3.159-1989 3.5.6).
+
 ghost use Rattle.std.specs.Prelude.{◌≡◌, ◌++◌, ◌∷◌, [], IfOk};
 ghost use Rattle.hs_syntax.specs.Names.{is_among};
 

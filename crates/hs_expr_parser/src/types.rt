@@ -1,3 +1,5 @@
+//! Parses specifiers and type names (X3.159-1989 3.5.1 to 3.5.3 and 3.5.5).
+
 ghost use Rattle.std.specs.Prelude.{◌≡◌, ◌||◌, ◌<◌, ◌≤◌, [], length, map, IfOk};
 ghost use Rattle.hs_syntax.specs.Phrases.{is_type};
 ghost use Rattle.hs_syntax.specs.RowViews.{view_member, view_constant};

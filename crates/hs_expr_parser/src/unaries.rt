@@ -1,3 +1,5 @@
+//! Parses casts and unary expressions (X3.159-1989 3.3.3 and 3.3.4).
+
 ghost use Rattle.std.specs.Prelude.{◌≡◌, ◌<◌, length, map, IfOk};
 ghost use Rattle.hs_syntax.specs.Trees as tree;
 ghost use Rattle.hs_syntax.specs.Views.{view, view_type};

@@ -1,3 +1,5 @@
+//! Takes the arguments of an invocation (X3.159-1989 3.8.3).
+
 ghost use Rattle.std.specs.Prelude.{◌≡◌, ◌<◌, ◌^◌, [], map, IfOk};
 ghost use Rattle.hs_macros.specs.Arguments.{role_of, arguments_from, paired, bound};
 ghost use Rattle.hs_macros.specs.Stacks.{ahead, done, collected, seen, seen_waiting};

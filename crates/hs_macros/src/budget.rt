@@ -1,3 +1,5 @@
+//! What is left of the limits of replacement.
+
 /// What is left of two limits.
 #[derive(Clone, Copy, Debug, PartialEq, Eq)]
 pub struct Budget {

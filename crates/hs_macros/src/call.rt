@@ -1,3 +1,5 @@
+//! Invocations of macros.
+
 ghost use Rattle.std.specs.Prelude.{◌≡◌, [], IfOk};
 ghost use Rattle.hs_macros.specs.Replacement.{object, found_call, found_form, found};
 ghost use Rattle.hs_macros.specs.Arguments.{arguments_from};

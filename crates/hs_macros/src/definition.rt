@@ -1,3 +1,5 @@
+//! Definitions of macros, and when two are the same (X3.159-1989 3.8.3).
+
 ghost use Rattle.std.specs.Prelude.{◌≡◌, IfOk, zip};
 ghost use Rattle.std.specs.List.{list_all};
 ghost use Rattle.std.specs.Cmp.Lexicographic.{pointwise};

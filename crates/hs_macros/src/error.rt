@@ -1,3 +1,5 @@
+//! Why a definition or an expansion is refused.
+
 ghost use Rattle.std.specs.Prelude.{◌≡◌};
 ghost use Rattle.hs_macros.specs.declared.error.MacroError.TheVariants.{NoMemory as no_memory};
 

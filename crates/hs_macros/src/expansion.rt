@@ -1,3 +1,5 @@
+//! Replaces the macros in a list of tokens (X3.159-1989 3.8.3).
+
 ghost use Rattle.std.specs.Prelude.{◌≡◌, ◌≤◌, ◌<◌, ◌+◌, ◌⊎◌, [], ◌∷◌, ◌++◌, length, OnOk, IfOk, IfErr, Ok, Err};
 ghost use Rattle.hs_macros.specs.Definitions.{Definitions};
 ghost use Rattle.hs_macros.specs.Refusals.{IsRefusal};

@@ -1,3 +1,5 @@
+//! Hide sets: the names of the macros that may not replace a token.
+
 ghost use Rattle.std.specs.Prelude.{◌≡◌, IfOk, OnOk, OnErr};
 ghost use Rattle.std.specs.FinSet as set;
 ghost use Rattle.hs_macros.specs.HideSets.{object_hides, call_hides};

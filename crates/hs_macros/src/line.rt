@@ -1,3 +1,5 @@
+//! The parts of a `#define` line (X3.159-1989 3.8.3).
+
 ghost use Rattle.std.specs.Prelude.{◌≡◌, IfOk};
 ghost use Rattle.std.specs.List.{list_any};
 ghost use Rattle.hs_macros.specs.Definitions.{is_distinct, names_from, parameters_from, is_operator, with_body, with_definition, definition_from, definition_of};

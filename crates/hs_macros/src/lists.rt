@@ -1,3 +1,5 @@
+//! Lists of names and of tokens.
+
 ghost use Rattle.std.specs.Prelude.{◌≡◌, List, ℕ};
 ghost use Rattle.hs_tokens.specs.declared.token.Token.{Token};
 

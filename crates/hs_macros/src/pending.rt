@@ -1,3 +1,5 @@
+//! Tokens on their way through replacement.
+
 ghost use Rattle.std.specs.Prelude.{◌≡◌, ◌++◌, IfOk, OnOk, map};
 ghost use Rattle.hs_macros.specs.Replacement.{plain, source_of};
 ghost use Rattle.hs_macros.specs.Stacks.{done, ahead};

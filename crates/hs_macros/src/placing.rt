@@ -1,3 +1,5 @@
+//! Puts a macro's tokens in place of an invocation, with its arguments (X3.159-1989 3.8.3.1).
+
 ghost use Rattle.std.specs.Prelude.{◌≡◌, ◌++◌, IfOk, OnOk, length, map};
 ghost use Rattle.std.specs.FinSet as set;
 ghost use Rattle.std.specs.List.{flat_map};

@@ -1,3 +1,5 @@
+//! Copies of tokens.
+
 ghost use Rattle.std.specs.Prelude.{◌≡◌, IfOk};
 
 use crate::lists::Tokens;

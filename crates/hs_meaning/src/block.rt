@@ -1,3 +1,5 @@
+//! Blocks of the heap, and how a decision shifts them.
+
 ghost use Rattle.std.specs.Prelude.{◌≡◌};
 
 use crate::Decision;

@@ -1,3 +1,5 @@
+//! Decisions of the schedule: which blocks to move and which to purge.
+
 ghost use Rattle.std.specs.Prelude.{◌≡◌, ◌==◌};
 ghost use Rattle.std.specs.List.{list_any};
 ghost use Rattle.hs_meaning.specs.Shift.{is_named};

@@ -1,3 +1,5 @@
+//! What a run is given from outside.
+
 ghost use Rattle.std.specs.Prelude.{◌≡◌, List, ℕ};
 
 use hs_base::{Bytes, Numbers};

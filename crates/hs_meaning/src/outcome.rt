@@ -1,3 +1,5 @@
+//! How a run ends, and why it stops.
+
 use hs_base::Pos;
 
 /// Why the reference machine stops a run.

@@ -1,3 +1,5 @@
+//! Shifts of blocks, by hand.
+
 use crate::{Block, Cell, Cells, Decision, Presence, Which};
 use hs_base::Numbers;
 use std::alloc::{AllocError, Global};

@@ -1,3 +1,5 @@
+//! Files and a sink in memory.
+
 use hs_base::{FileEnd, Files, MemFiles, MemSink, Sink};
 use std::test::Fail;
 

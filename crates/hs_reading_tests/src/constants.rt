@@ -1,3 +1,5 @@
+//! Constants and conditions: their values, and those that are refused.
+
 use crate::texts::tokens_of;
 use hs_constants::{Number, Value, character_value, condition_value, number_value};
 use hs_tokens::{Origin, SourceToken};

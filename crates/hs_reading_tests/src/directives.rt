@@ -1,3 +1,5 @@
+//! Directives: files as units, their limits and refusals.
+
 use hs_base::{Bytes, MemFiles, Pos};
 use hs_directives::{MacroKind, ReadError, ScanKind, Source, preprocess};
 use hs_tokens::{Origin, SourceToken};

@@ -1,3 +1,5 @@
+//! Macros: definitions, replacement, limits and refusals.
+
 use crate::texts::tokens_of;
 use hs_base::{Limit, LimitKind, Pos};
 use hs_macros::{Budget, MacroError, Macros};

@@ -1,3 +1,5 @@
+//! The tokens of a text, for the other tests.
+
 use hs_tokens::{ScanError, Token, scan};
 use std::alloc::Global;
 use std::test::Fail;

@@ -1,3 +1,5 @@
+//! Tokens: their kinds and places, and the texts that have none.
+
 use crate::texts::scanned;
 use hs_base::{LimitKind, Pos};
 use hs_tokens::{ScanError, Token, TokenKind};

@@ -1,3 +1,5 @@
+//! Spells declarations.
+
 ghost use Rattle.std.specs.Prelude.{◌≡◌, List, ℕ, Bool, ◌∷◌, [], map, option_map};
 ghost use Rattle.hs_spell.specs.Appends.{Appends};
 ghost use Rattle.hs_syntax.specs.Grammar.{initialiser_form, initialisers_form, start_form, items_form, declaration_form, declarations_form};

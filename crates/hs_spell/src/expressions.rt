@@ -1,3 +1,5 @@
+//! Spells expressions, types and declarators.
+
 ghost use Rattle.std.specs.Prelude.{◌≡◌, List, ℕ, Bool, ◌∷◌, [], map};
 ghost use Rattle.hs_spell.specs.Appends.{Appends};
 ghost use Rattle.hs_syntax.specs.Grammar.{expression_form, lefts_form, arguments_form, type_form, specification_form, specifier_form, members_form, constants_form, declarator_form, declarators_form, direct_form, parameters_form};

@@ -1,3 +1,5 @@
+//! Spells single tokens.
+
 ghost use Rattle.std.specs.Prelude.{◌≡◌, ◌∷◌, []};
 ghost use Rattle.hs_spell.specs.Appends.{Appends};
 ghost use Rattle.hs_syntax.specs.Forms.{token, mark, mark_at, keyword, keyword_at, word};

@@ -1,3 +1,5 @@
+//! Spells statements.
+
 ghost use Rattle.std.specs.Prelude.{◌≡◌, List, ℕ, Bool, ◌∷◌, [], map, option_map};
 ghost use Rattle.hs_spell.specs.Appends.{Appends};
 ghost use Rattle.hs_syntax.specs.Grammar.{labels_form, optional_form, test_form, statement_form, block_form, statements_form};

@@ -1,3 +1,5 @@
+//! Spells units: the call for other crates.
+
 ghost use Rattle.std.specs.Prelude.{◌≡◌, List, ℕ, [], true, map, IfOk};
 ghost use Rattle.hs_spell.specs.Appends.{Appends};
 ghost use Rattle.hs_syntax.specs.Grammar.{external_form, unit_form, IsUnit};

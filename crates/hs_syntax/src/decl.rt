@@ -1,3 +1,5 @@
+//! Trees of declarations (X3.159-1989 3.5).
+
 use crate::{Declarator, Expr, Place, Specifier};
 
 /// What a variable starts with (X3.159-1989 3.5.7).

@@ -1,3 +1,5 @@
+//! Trees of expressions, types and declarators (X3.159-1989 3.3 and 3.5).
+
 use crate::{
     Access, AssignOperator, Basic, BinaryOperator, Dropped, Place, Pointer, PostfixOperator,
     PrefixOperator, Storage, Word,

@@ -1,3 +1,5 @@
+//! Laws of the grammar, proved and without code.
+
 ghost use Rattle.hs_syntax.specs.Laws.{ElseIsNearest, GroupsLeft, SpecifiersGoOn, TypesBeginParameters};
 
 /// A law on the grammar: binary operators that bind tighter are applied first, and those of a level group to the left

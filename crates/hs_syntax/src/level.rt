@@ -1,3 +1,5 @@
+//! The marks on one level of nesting.
+
 ghost use Rattle.std.specs.Prelude.{◌≡◌, ◌≤◌, List, ◌∷◌, []};
 ghost use Rattle.std.specs.List.{filter};
 ghost use Rattle.hs_syntax.specs.Counts.{counts, marks_on, with_mark, meaning, Turns};

@@ -1,3 +1,5 @@
+//! Which tokens count for the nesting.
+
 ghost use Rattle.std.specs.Prelude.{◌≡◌};
 ghost use Rattle.hs_syntax.specs.Counts.{meanings};
 ghost use Rattle.hs_syntax.specs.Nesting.{is_word, is_punctuator, opens, closes, is_marking_word, is_unmarked, punctuator_mark, mark_of};

@@ -1,3 +1,5 @@
+//! Whether tokens nest too deeply.
+
 ghost use Rattle.std.specs.Prelude.{◌≡◌, ◌↔◌, ◌≤◌, ◌<◌, ◌∷◌, [], length, IsTrue};
 ghost use Rattle.std.specs.List.{filter};
 ghost use Rattle.hs_syntax.specs.Counts.{counts, all_marks, meaning, Follows};

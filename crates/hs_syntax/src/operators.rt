@@ -1,3 +1,5 @@
+//! The operators and the words of specifiers, with their spellings.
+
 ghost use Rattle.std.specs.Prelude.{◌≡◌};
 ghost use Rattle.hs_syntax.specs.Operators.{binary_text, level_of, assign_text, prefix_text, postfix_text, access_text, storage_text, dropped_text, basic_text};
 

@@ -1,3 +1,5 @@
+//! Trees of statements (X3.159-1989 3.6).
+
 use crate::{Decl, Expr, Place};
 
 /// A statement (X3.159-1989 3.6). `at` is the place of its first keyword.

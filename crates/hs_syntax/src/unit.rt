@@ -1,3 +1,5 @@
+//! Trees of units (X3.159-1989 3.7).
+
 use crate::{Block, Decl, Declarator, Specifier};
 
 /// An external declaration (X3.159-1989 3.7).

@@ -1,3 +1,5 @@
+//! The leaves of trees: places, and tokens with a text.
+
 use hs_base::{Bytes, Pos};
 use hs_tokens::Origin;
 

@@ -1,3 +1,5 @@
+//! Kinds of bytes.
+
 ghost use Rattle.std.specs.Prelude.{◌≡◌, ◌-◌, ◌<◌};
 ghost use Rattle.hs_tokens.specs.Characters.{is_blank, is_octal, is_hex};
 ghost use Rattle.hs_tokens.specs.Literals.{hex_digit_value, is_simple_escape};

@@ -1,3 +1,5 @@
+//! Steps through a text, past its splices (X3.159-1989 2.1.1.2, phases 1 and 2).
+
 ghost use Rattle.std.specs.Prelude.{◌≡◌, ◌≤◌, ◌<◌, ◌+◌, ◌^◌, length, take, drop, IfOk, nat_eq};
 ghost use Rattle.std.specs.List.{starts_with};
 ghost use Rattle.hs_tokens.specs.Lines.{logical};

@@ -1,3 +1,5 @@
+//! What begins at a byte, and how long it is (X3.159-1989 2.1.1.2, phase 3).
+
 ghost use Rattle.std.specs.Prelude.{◌≡◌, ◌≤◌, map, IfSome, false};
 ghost use Rattle.std.specs.List.{prefix_len, starts_with};
 ghost use Rattle.hs_base.specs.Text.{is_word_byte};

@@ -1,3 +1,5 @@
+//! Character constants and string literals (X3.159-1989 3.1.3.4 and 3.1.4).
+
 ghost use Rattle.std.specs.Prelude.{◌≡◌, ◌≤◌, IfSome};
 ghost use Rattle.hs_tokens.specs.Literals.{content_len, escape_len, octal_escape, hex_escape};
 ghost use Rattle.hs_tokens.specs.Ahead.{ahead, bytes_ahead, IsCharacter, HasCharacters};

@@ -1,3 +1,5 @@
+//! Identifiers and punctuators among tokens.
+
 ghost use Rattle.std.specs.Prelude.{◌≡◌};
 ghost use Rattle.hs_tokens.specs.Marks.{is_same_kind, is_identifier, is_mark};
 

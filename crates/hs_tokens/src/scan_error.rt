@@ -1,3 +1,5 @@
+//! Why a text has no tokens.
+
 ghost use Rattle.std.specs.Prelude.{◌≡◌};
 ghost use Rattle.hs_tokens.specs.declared.scan_error.ScanError.TheVariants.{NoMemory as no_memory};
 

@@ -1,3 +1,5 @@
+//! From a text to its tokens: the call for other crates.
+
 ghost use Rattle.std.specs.Prelude.{◌≡◌, ◌≤◌, ◌⊎◌, length, IfOk, IfErr, Ok, Err};
 ghost use Rattle.hs_tokens.specs.Forms.{form_len};
 ghost use Rattle.hs_tokens.specs.Scan.{scan_of};

@@ -1,3 +1,5 @@
+//! Tokens.
+
 ghost use Rattle.std.specs.Prelude.{◌≡◌, IfOk};
 
 use hs_base::{Bytes, Pos};

@@ -1,3 +1,5 @@
+//! Commands, and why words may not be one.
+
 use std::alloc::AllocError;
 
 /// What the words ask for.

@@ -1,3 +1,5 @@
+//! Words, with the commands that they are.
+
 use crate::{Command, WordsError, command_of};
 use std::alloc::Global;
 use std::test::Fail;

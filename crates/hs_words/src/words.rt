@@ -1,3 +1,5 @@
+//! From the words of a call to the command.
+
 ghost use Rattle.std.specs.Prelude.{◌≡◌, map, IfOk, Some, codes, unwrap_or, []};
 ghost use Rattle.std.specs.String.{string_bytes};
 ghost use Rattle.clap.specs.Words.{FailsBy, all_of, fault_of, found_of, matches_of, rows_of};

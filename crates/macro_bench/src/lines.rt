@@ -1,3 +1,5 @@
+//! The lines of a file: one that defines a macro, or a run of text.
+
 ghost use Rattle.std.specs.Prelude.{◌≡◌, ◌+◌, ◌<◌, ◌++◌, length, IfSome};
 
 use hs_tokens::Token;

@@ -1,3 +1,5 @@
+//! What the runs of text came to.
+
 ghost use Rattle.std.specs.Prelude.{◌≡◌, ◌-◌, ◌+◌, ◌^◌, length, min, OnOk, Ok, List};
 ghost use Rattle.hs_tokens.specs.declared.token.SourceToken.{SourceToken};
 ghost use Rattle.hs_macros.specs.Replacement.{replaced};

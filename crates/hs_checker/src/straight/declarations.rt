@@ -1,3 +1,5 @@
+//! Reads the declarations of a straight program.
+
 ghost use Rattle.std.specs.Prelude.{◌≡◌, ◌≤◌, ◌+◌, length, IfOk, IfSome, IfNone};
 ghost use Rattle.hs_checker.specs.Straight.Reading.{Gives, second_star_at, kind_at, declaration_at};
 ghost use Rattle.hs_checker.specs.Straight.Rows.{AreDeclarations, NoDeclarations};

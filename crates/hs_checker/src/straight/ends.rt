@@ -1,3 +1,5 @@
+//! Reads the prelude of a straight program with the beginning of `main`, and its end.
+
 ghost use Rattle.std.specs.Prelude.{◌≤◌, ◌↔◌, length, IsTrue, IfSome, IfNone};
 ghost use Rattle.hs_checker.specs.Straight.Ends.{IsOpened, NotOpened, IsClosing};
 

@@ -1,3 +1,5 @@
+//! Reads values: a letter, a load through a pointer, or a number.
+
 ghost use Rattle.std.specs.Prelude.{◌≡◌, ◌<◌, ◌^◌, length};
 ghost use Rattle.hs_checker.specs.Straight.Reading.{Gives, word_value, word_at, load_at, expr_at};
 

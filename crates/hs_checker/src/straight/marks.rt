@@ -1,3 +1,5 @@
+//! Reads tokens of given texts.
+
 ghost use Rattle.std.specs.Prelude.{◌≡◌, map};
 ghost use Rattle.hs_checker.specs.Straight.Reading.{Gives, first_at, mark_at, marks_at, is_at};
 

@@ -1,3 +1,5 @@
+//! The numbers of a straight program.
+
 ghost use Rattle.std.specs.Prelude.{◌≡◌, ◌≤◌, IfSome};
 ghost use Rattle.std.specs.List.{list_all};
 ghost use Rattle.hs_base.specs.Text.{is_digit};

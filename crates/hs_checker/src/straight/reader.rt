@@ -1,3 +1,5 @@
+//! Reads a straight program from the tokens of its unit.
+
 ghost use Rattle.std.specs.Prelude.{◌≡◌, ◌<◌, ◌^◌, length, IfOk, IfSome, IfNone};
 ghost use Rattle.hs_tree.specs.declared.straight.tree.Straight.{Straight};
 ghost use Rattle.hs_checker.specs.Straight.Grammar.{IsStraight};

@@ -1,3 +1,5 @@
+//! Counts the stale uses of a straight program.
+
 ghost use Rattle.std.specs.Prelude.{◌≡◌, ◌≤◌, [], false, not, ◌&&◌, ◌||◌, reverse, IfOk, MatchOption, if◌then◌else◌};
 ghost use Rattle.std.specs.List.{list_any};
 ghost use Rattle.hs_tree.specs.Straight.Fine.{assigns as assigns_variable};

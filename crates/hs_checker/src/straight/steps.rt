@@ -1,3 +1,5 @@
+//! Reads the steps of a straight program.
+
 ghost use Rattle.std.specs.Prelude.{◌≡◌, ◌<◌, ◌^◌, length, [], IsTrue, IfOk, IfSome, IfNone};
 ghost use Rattle.hs_tree.specs.Straight.Fine.{kind_eq, is_declared, assigns, was_assigned, is_readable, is_fine_expr, is_fine_step, are_fine_names};
 ghost use Rattle.hs_checker.specs.Straight.Reading.{Gives, handle_at, lock_at, unlock_at, putchar_at, store_at, new_handle_at, derive_at, set_at, source_at, assign_at, form_at, step_at};

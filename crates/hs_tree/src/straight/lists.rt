@@ -1,3 +1,5 @@
+//! The variables and the steps of a straight program, as lists.
+
 ghost use Rattle.std.specs.Prelude.{◌≡◌};
 
 use crate::straight::{Step, Variable};

@@ -1,3 +1,5 @@
+//! Lists of a tree.
+
 use crate::straight::{Kind, Step, Steps, Straight, Variable, Variables};
 use hs_base::Bytes;
 use std::test::Fail;

@@ -1,3 +1,5 @@
+//! The tree of a straight program.
+
 ghost use Rattle.std.specs.Prelude.{IsTrue};
 ghost use Rattle.hs_tree.specs.Straight.Fine.{is_fine};
 
