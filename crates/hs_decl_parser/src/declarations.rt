@@ -14,6 +14,8 @@ use hs_tokens::SourceToken;
 use std::alloc::Global;
 
 /// Reads what a declarator starts with, after it, and puts both together (X3.159-1989 3.5).
+///
+/// `[ "=" initialiser ]`
 #[tactic(auto, using(crate::proofs::Stepping::item_from_step))]
 fn item_from<'a>(
     alloc: Global,
@@ -35,6 +37,8 @@ fn item_from<'a>(
 }
 
 /// Reads a declarator and what it starts with (X3.159-1989 3.5).
+///
+/// `item = declarator [ "=" initialiser ]`
 #[tactic(auto, using(crate::proofs::Stepping::item_step))]
 fn item<'a>(
     alloc: Global,
@@ -49,6 +53,8 @@ fn item<'a>(
 }
 
 /// Reads the other declarators of a declaration, after the first of them: each follows a comma (X3.159-1989 3.5).
+///
+/// `{ "," item }`
 #[tactic(auto, using(crate::proofs::Stepping::items_end))]
 fn items<'a>(
     alloc: Global,
@@ -71,6 +77,8 @@ fn items<'a>(
 }
 
 /// Reads the rest of a declaration after its first declarator (X3.159-1989 3.5).
+///
+/// `[ "=" initialiser ] { "," item } ";"`
 #[tactic(auto, using(crate::proofs::Stepping::declared_step, crate::proofs::Seen::specification_seen))]
 pub(crate) fn declared<'a>(
     alloc: Global,
@@ -93,6 +101,8 @@ pub(crate) fn declared<'a>(
 }
 
 /// Reads a declaration (X3.159-1989 3.5).
+///
+/// `declaration = specifiers [ item { "," item } ] ";"`
 #[tactic(auto, using(crate::proofs::Stepping::declaration_step, crate::proofs::Stepping::declaration_bare, crate::proofs::Stepping::declaration_declares, crate::proofs::Seen::specification_seen))]
 fn declaration<'a>(
     alloc: Global,
@@ -120,6 +130,8 @@ fn declaration<'a>(
 }
 
 /// Reads declarations up to a token that begins none (X3.159-1989 3.6.2).
+///
+/// `{ declaration }`
 #[tactic(auto, using(crate::proofs::Stepping::declarations_end))]
 pub(crate) fn declarations<'a>(
     alloc: Global,

@@ -15,6 +15,8 @@ use hs_tokens::SourceToken;
 use std::alloc::Global;
 
 /// Reads a function after its declarator (X3.159-1989 3.7.1).
+///
+/// `block`
 #[tactic(auto, using(crate::proofs::Stepping::function_step, crate::proofs::Seen::specification_seen))]
 fn function<'a>(
     alloc: Global,
@@ -42,6 +44,8 @@ fn function<'a>(
 }
 
 /// Reads a function or a declaration after its first declarator: a `{` begins a function's body (X3.159-1989 3.7).
+///
+/// `block | [ "=" initialiser ] { "," item } ";"`
 #[tactic(auto, using(crate::proofs::Stepping::external_function, crate::proofs::Stepping::external_declaration))]
 fn external_from<'a>(
     alloc: Global,
@@ -62,6 +66,8 @@ fn external_from<'a>(
 }
 
 /// Reads an external declaration that begins with specifiers (X3.159-1989 3.7).
+///
+/// `specifiers ( ";" | declarator ( block | [ "=" initialiser ] { "," item } ";" ) )`
 #[tactic(auto, using(crate::proofs::Stepping::specified_step, crate::proofs::Stepping::specified_bare, crate::proofs::Stepping::specified_declares, crate::proofs::Seen::specification_seen))]
 fn specified<'a>(
     alloc: Global,
@@ -89,6 +95,8 @@ fn specified<'a>(
 }
 
 /// Reads an external declaration (X3.159-1989 3.7). One without specifiers is a function.
+///
+/// `external = [specifiers] declarator block | declaration`
 #[tactic(auto, using(crate::proofs::Stepping::external_specified, crate::proofs::Stepping::external_plain))]
 pub(crate) fn external<'a>(
     alloc: Global,

@@ -18,6 +18,8 @@ struct Values {
 }
 
 /// Reads an initialiser (X3.159-1989 3.5.7).
+///
+/// `initialiser = assignment | "{" initialiser { "," initialiser } [","] "}"`
 #[cycle(initialiser)]
 #[tactic(auto, using(crate::proofs::Stepping::initialiser_list, crate::proofs::Stepping::initialiser_value))]
 pub(crate) fn initialiser<'a>(
@@ -36,6 +38,8 @@ pub(crate) fn initialiser<'a>(
 }
 
 /// Reads a list of initialisers after its `{`, which stands there.
+///
+/// `initialiser { "," initialiser } [","] "}"`
 #[cycle(initialiser)]
 #[tactic(auto, using(crate::proofs::Stepping::braces_step, crate::proofs::Seen::initialisers_seen))]
 fn braces<'a>(
@@ -60,6 +64,8 @@ fn braces<'a>(
 }
 
 /// Reads initialisers, at least one, up to a `}`, and whether a comma follows the last one.
+///
+/// `initialiser { "," initialiser } [","]`
 #[cycle(initialiser)]
 #[tactic(auto, using(crate::proofs::Stepping::initialisers_step, crate::proofs::Stepping::initialisers_end, crate::proofs::Stepping::initialisers_close))]
 fn initialisers<'a>(
@@ -99,6 +105,8 @@ fn initialisers<'a>(
 }
 
 /// Reads what a declarator starts with, if anything, after the declarator (X3.159-1989 3.5).
+///
+/// `[ "=" initialiser ]`
 #[tactic(auto, using(crate::proofs::Stepping::start_some, crate::proofs::Stepping::start_none))]
 pub(crate) fn start<'a>(
     alloc: Global,

@@ -12,6 +12,8 @@ use hs_tokens::SourceToken;
 use std::alloc::Global;
 
 /// Reads a label that begins with that token (X3.159-1989 3.6.1).
+///
+/// `label = "case" conditional ":" | "default" ":"`
 #[tactic(auto, using(crate::proofs::Stepping::label_case, crate::proofs::Stepping::label_default))]
 fn label<'a>(
     alloc: Global,
@@ -33,6 +35,8 @@ fn label<'a>(
 }
 
 /// Reads the labels in front of a statement (X3.159-1989 3.6.1).
+///
+/// `{ label }`
 #[tactic(auto, using(crate::proofs::Stepping::labels_nothing, crate::proofs::Stepping::labels_end))]
 pub(crate) fn labels<'a>(
     alloc: Global,

@@ -19,6 +19,8 @@ pub(crate) struct Controls {
 }
 
 /// Reads an expression in parentheses (X3.159-1989 3.6.4, 3.6.5).
+///
+/// `"(" expression ")"`
 #[tactic(auto, using(crate::proofs::Stepping::test_step))]
 pub(crate) fn test<'a>(
     alloc: Global,
@@ -35,6 +37,8 @@ pub(crate) fn test<'a>(
 }
 
 /// Reads an expression, if one stands there, and that punctuator after it.
+///
+/// `[expression] mark`
 #[tactic(auto, using(crate::proofs::Stepping::optional_none, crate::proofs::Stepping::optional_some))]
 pub(crate) fn optional<'a>(
     alloc: Global,
@@ -54,6 +58,8 @@ pub(crate) fn optional<'a>(
 }
 
 /// Reads what stands in the parentheses of a `for`, and these (X3.159-1989 3.6.5.3).
+///
+/// `"(" [expression] ";" [expression] ";" [expression] ")"`
 #[tactic(auto, using(crate::proofs::Stepping::controls_step))]
 pub(crate) fn for_controls<'a>(
     alloc: Global,

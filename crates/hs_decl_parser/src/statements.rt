@@ -19,6 +19,8 @@ use hs_tokens::SourceToken;
 use std::alloc::Global;
 
 /// Reads a statement (X3.159-1989 3.6). An `else` is read with the nearest `if`.
+///
+/// `statement = block | [expression] ";" | if | while | do | for | switch | "break" ";" | "continue" ";" | return`
 #[cycle(statement)]
 #[tactic(auto, using(crate::proofs::Stepping::statement_nothing, crate::proofs::Stepping::statement_if, crate::proofs::Stepping::statement_while, crate::proofs::Stepping::statement_do, crate::proofs::Stepping::statement_for, crate::proofs::Stepping::statement_switch, crate::proofs::Stepping::statement_break, crate::proofs::Stepping::statement_continue, crate::proofs::Stepping::statement_return, crate::proofs::Stepping::statement_block, crate::proofs::Stepping::statement_empty, crate::proofs::Stepping::statement_expression))]
 fn statement<'a>(
@@ -56,6 +58,8 @@ fn statement<'a>(
 }
 
 /// Reads an expression and its semicolon (X3.159-1989 3.6.3).
+///
+/// `[expression] ";"`
 #[tactic(auto, using(crate::proofs::Stepping::ended_expression_step))]
 fn expression_statement<'a>(
     alloc: Global,
@@ -81,6 +85,8 @@ fn ended<'a>(it: Stmt, rest: &'a [SourceToken]) -> Result<(Stmt, &'a [SourceToke
 }
 
 /// Reads a `return` after its word (X3.159-1989 3.6.6.4).
+///
+/// `return = "return" [expression] ";"`
 #[tactic(auto, using(crate::proofs::Stepping::return_step))]
 fn return_statement<'a>(
     alloc: Global,
@@ -96,6 +102,8 @@ fn return_statement<'a>(
 }
 
 /// Reads an `if` after its word, and its `else` if one follows (X3.159-1989 3.6.4.1).
+///
+/// `if = "if" "(" expression ")" statement [ "else" statement ]`
 #[cycle(statement)]
 #[tactic(auto, using(crate::proofs::Stepping::if_step, crate::proofs::Stepping::if_alone, crate::proofs::Stepping::if_otherwise))]
 fn if_statement<'a>(
@@ -132,6 +140,8 @@ fn if_statement<'a>(
 }
 
 /// Reads a `while` after its word (X3.159-1989 3.6.5.1).
+///
+/// `while = "while" "(" expression ")" statement`
 #[cycle(statement)]
 #[tactic(auto, using(crate::proofs::Stepping::while_step))]
 fn while_statement<'a>(
@@ -150,6 +160,8 @@ fn while_statement<'a>(
 }
 
 /// Reads a `do` after its word (X3.159-1989 3.6.5.2).
+///
+/// `do = "do" statement "while" "(" expression ")" ";"`
 #[cycle(statement)]
 #[tactic(auto, using(crate::proofs::Stepping::do_step))]
 fn do_statement<'a>(
@@ -170,6 +182,8 @@ fn do_statement<'a>(
 }
 
 /// Reads a `for` after its word (X3.159-1989 3.6.5.3).
+///
+/// `for = "for" "(" [expression] ";" [expression] ";" [expression] ")" statement`
 #[cycle(statement)]
 #[tactic(auto, using(crate::proofs::Stepping::for_step))]
 fn for_statement<'a>(
@@ -197,6 +211,8 @@ fn for_statement<'a>(
 }
 
 /// Reads a `switch` after its word (X3.159-1989 3.6.4.2; own: its body is a block).
+///
+/// `switch = "switch" "(" expression ")" block`
 #[cycle(statement)]
 #[tactic(auto, using(crate::proofs::Stepping::switch_step))]
 fn switch_statement<'a>(
@@ -214,6 +230,8 @@ fn switch_statement<'a>(
 }
 
 /// Reads a compound statement (X3.159-1989 3.6.2).
+///
+/// `block = "{" { declaration } { labelled } "}"`
 #[cycle(statement)]
 #[tactic(auto, using(crate::proofs::Stepping::block_step))]
 pub(crate) fn block<'a>(
@@ -229,6 +247,8 @@ pub(crate) fn block<'a>(
 }
 
 /// Reads a compound statement after its `{`, which stands there (X3.159-1989 3.6.2).
+///
+/// `{ declaration } { labelled } "}"`
 #[cycle(statement)]
 #[tactic(auto, using(crate::proofs::Stepping::inner_step, crate::proofs::Seen::block_seen))]
 fn inner<'a>(
@@ -258,6 +278,8 @@ fn inner<'a>(
 }
 
 /// Reads a statement with the labels in front of it (X3.159-1989 3.6.1).
+///
+/// `labelled = { label } statement`
 #[cycle(statement)]
 #[tactic(auto, using(crate::proofs::Stepping::labelled_step))]
 fn labelled<'a>(
@@ -274,6 +296,8 @@ fn labelled<'a>(
 }
 
 /// Reads the statements of a block, up to a `}` (X3.159-1989 3.6.2).
+///
+/// `{ labelled }`
 #[cycle(statement)]
 #[tactic(auto, using(crate::proofs::Stepping::statements_end))]
 fn statements<'a>(

@@ -20,6 +20,8 @@ use hs_tokens::SourceToken;
 use std::alloc::Global;
 
 /// Reads the external declarations of a unit whose tokens nest at most 256 deep.
+///
+/// `{ external }`
 fn externals(alloc: Global, tokens: &[SourceToken]) -> Result<Vec<External>, ParseError>
     ensures found { IfOk result (λ its. IsUnit tokens.now (map view_external its.items)) }
     ensures stuck { (pos : Pos) → result ≡ Err (Syntax pos) → IsStuck tokens.now pos }
@@ -43,6 +45,8 @@ fn externals(alloc: Global, tokens: &[SourceToken]) -> Result<Vec<External>, Par
 }
 
 /// Reads a translation unit (X3.159-1989 3.7): all of its tokens.
+///
+/// `unit = { external }`
 ///
 /// Errors: `Limit`, of the kind `Depth`, if the tokens nest more than 256 deep, which is tried first; `Syntax` if they are no
 /// unit, with the place of the first external declaration that is wrong; `NoMemory`.

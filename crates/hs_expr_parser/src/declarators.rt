@@ -22,6 +22,8 @@ use hs_tokens::{SourceToken, is_identifier};
 use std::alloc::Global;
 
 /// Reads a declarator (X3.159-1989 3.5.4), or, in a parameter or a type name, one that may name nothing (3.5.5).
+///
+/// `declarator = { "*" | dropped } direct`
 #[cycle(read)]
 #[tactic(auto, using(crate::proofs::Stepping::declarator_step))]
 pub fn declarator<'a>(
@@ -41,6 +43,8 @@ pub fn declarator<'a>(
 
 /// Reads what the rest of a declarator follows: a name, a declarator in parentheses, or nothing if a name may
 /// be missing. There a `(` that may begin a list of parameters does.
+///
+/// `base = identifier | "(" declarator ")" | nothing`
 #[cycle(read)]
 #[tactic(auto, using(crate::proofs::Stepping::base_nothing, crate::proofs::Stepping::base_step))]
 fn base<'a>(
@@ -67,6 +71,8 @@ fn base<'a>(
 }
 
 /// Reads a declarator in parentheses, after the first of them: it is not empty.
+///
+/// `declarator ")"`
 #[cycle(read)]
 #[tactic(auto, using(crate::proofs::Stepping::inside_step))]
 fn inside<'a>(
@@ -87,6 +93,8 @@ fn inside<'a>(
 }
 
 /// Reads the rest of a declarator: lengths of arrays and lists of parameters (X3.159-1989 3.5.4.2, 3.5.4.3).
+///
+/// `direct = base { "[" [conditional] "]" | "(" [ "void" | parameters ] ")" }`
 #[cycle(read)]
 #[tactic(auto, using(crate::proofs::Stepping::directs_nothing, crate::proofs::Stepping::directs_length, crate::proofs::Stepping::directs_list, crate::proofs::Stepping::directs_end))]
 fn directs<'a>(
@@ -117,6 +125,8 @@ fn directs<'a>(
 }
 
 /// Reads the length of an array, if it has one, after the `[` (X3.159-1989 3.5.4.2).
+///
+/// `[conditional] "]"`
 #[cycle(read)]
 #[tactic(auto, using(crate::proofs::Stepping::length_step))]
 fn array_length<'a>(
@@ -139,6 +149,8 @@ fn array_length<'a>(
 }
 
 /// Reads a list of parameters after the `(`: none, `void` alone, or some (X3.159-1989 3.5.4.3).
+///
+/// `[ "void" | parameters ] ")"`
 #[cycle(read)]
 #[tactic(auto, using(crate::proofs::Stepping::list_step, crate::proofs::Seen::parameters_seen))]
 fn parameter_list<'a>(
@@ -175,6 +187,8 @@ fn parameter_list<'a>(
 }
 
 /// Reads declarators with commas between them (X3.159-1989 3.5).
+///
+/// `declarator { "," declarator }`
 #[cycle(read)]
 #[tactic(auto, using(crate::proofs::Stepping::declarators_step))]
 pub(crate) fn declarators<'a>(
@@ -198,6 +212,8 @@ pub(crate) fn declarators<'a>(
 }
 
 /// Reads parameters with commas between them (X3.159-1989 3.5.4.3).
+///
+/// `parameters = parameter { "," parameter }`
 #[cycle(read)]
 #[tactic(auto, using(crate::proofs::Stepping::parameters_step))]
 fn parameters<'a>(
@@ -221,6 +237,8 @@ fn parameters<'a>(
 }
 
 /// Reads a parameter: specifiers, and a declarator that may name nothing (X3.159-1989 3.5.4.3).
+///
+/// `parameter = specifiers [ declarator | abstract ]`
 #[cycle(read)]
 #[tactic(auto, using(crate::proofs::Stepping::parameter_step, crate::proofs::Seen::specification_seen))]
 fn parameter<'a>(

@@ -38,6 +38,8 @@ struct Operand {
 }
 
 /// Reads an expression (X3.159-1989 3.3.17).
+///
+/// `expression = assignment { "," assignment }`
 #[cycle(read)]
 #[tactic(auto, using(crate::proofs::Stepping::expression_step, crate::proofs::Stepping::commas_end))]
 pub fn expression<'a>(
@@ -83,6 +85,8 @@ fn sequence(alloc: Global, lefts: Vec<Left>, right: Expr) -> Result<Expr, NoMemo
 }
 
 /// Reads a comma and its right operand (X3.159-1989 3.3.17).
+///
+/// `"," assignment`
 #[cycle(read)]
 #[tactic(auto, using(crate::proofs::Stepping::another_step))]
 fn another<'a>(
@@ -99,6 +103,8 @@ fn another<'a>(
 }
 
 /// Reads an assignment (X3.159-1989 3.3.16): what is assigned to is a unary expression.
+///
+/// `assignment = conditional | unary assign-operator assignment`
 #[cycle(read)]
 #[tactic(auto, using(crate::proofs::Stepping::assignment_step))]
 pub fn assignment<'a>(
@@ -130,6 +136,8 @@ pub fn assignment<'a>(
 }
 
 /// Reads the operator of an assignment and what is assigned (X3.159-1989 3.3.16).
+///
+/// `assign-operator assignment`
 #[cycle(read)]
 #[tactic(auto, using(crate::proofs::Stepping::value_step, crate::proofs::Stepping::value_nothing))]
 fn value<'a>(
@@ -152,6 +160,8 @@ fn value<'a>(
 }
 
 /// Reads a conditional expression (X3.159-1989 3.3.15).
+///
+/// `conditional = binary [ "?" expression ":" conditional ]`
 #[cycle(read)]
 #[tactic(auto, using(crate::proofs::Stepping::conditional_step))]
 pub fn conditional<'a>(
@@ -180,6 +190,8 @@ pub fn conditional<'a>(
 }
 
 /// Reads what follows a test: a `?`, an expression, a `:` and a conditional expression (X3.159-1989 3.3.15).
+///
+/// `"?" expression ":" conditional`
 #[cycle(read)]
 #[tactic(auto, using(crate::proofs::Stepping::branches_step))]
 fn branches<'a>(
@@ -201,6 +213,8 @@ fn branches<'a>(
 /// Reads operands of binary operators that bind at that level or more tightly (X3.159-1989 3.3.5 to 3.3.14). They
 /// group to the left: after an operator of some level no tighter one follows, since its right operand would have
 /// taken it.
+///
+/// `binary = cast { binary-operator cast }`
 #[cycle(read)]
 #[tactic(auto, using(crate::proofs::Stepping::binary_step, crate::proofs::Stepping::climb_end))]
 fn binary<'a>(
@@ -235,6 +249,8 @@ fn binary<'a>(
 }
 
 /// Reads a binary operator of at least the first level and at most the second, and its right operand.
+///
+/// `binary-operator binary`
 #[cycle(read)]
 #[tactic(auto, using(crate::proofs::Stepping::infix_step, crate::proofs::Stepping::infix_nothing, crate::specs::Laws::Ranks::level_most))]
 fn infix<'a>(

@@ -44,6 +44,8 @@ pub(crate) enum Suffix {
 }
 
 /// Reads a postfix expression (X3.159-1989 3.3.2).
+///
+/// `postfix = primary { suffix }`
 #[cycle(read)]
 #[tactic(auto, using(crate::proofs::Stepping::postfix_step, crate::proofs::Stepping::suffixes_end))]
 pub(crate) fn postfix<'a>(
@@ -100,6 +102,8 @@ fn with_suffix(alloc: Global, base: Expr, suffix: Suffix) -> Result<Expr, NoMemo
 }
 
 /// Reads what follows a postfix expression.
+///
+/// `suffix = "[" expression "]" | "(" arguments ")" | ("." | "->") identifier | "++" | "--"`
 #[cycle(read)]
 #[tactic(auto, using(crate::proofs::Stepping::suffix_nothing, crate::proofs::Stepping::suffix_index, crate::proofs::Stepping::suffix_call, crate::proofs::Stepping::suffix_other))]
 fn next_suffix<'a>(
@@ -135,6 +139,8 @@ fn next_suffix<'a>(
 }
 
 /// Reads a primary expression (X3.159-1989 3.3.1): a typedef name is not one, and a number is an integer of 32 bits.
+///
+/// `primary = identifier | number | character | literal { literal } | "(" expression ")"`
 #[cycle(read)]
 #[tactic(auto, using(crate::proofs::Stepping::primary_nothing, crate::proofs::Stepping::primary_step, crate::proofs::Stepping::primary_parens))]
 fn primary<'a>(
@@ -169,6 +175,8 @@ fn primary<'a>(
 }
 
 /// Reads an expression in parentheses, after the first of them (X3.159-1989 3.3.1).
+///
+/// `expression ")"`
 #[cycle(read)]
 #[tactic(auto, using(crate::proofs::Stepping::parens_step))]
 fn parens<'a>(
@@ -192,6 +200,8 @@ fn parens<'a>(
 }
 
 /// Reads the arguments of a call, if any, up to its `)` (X3.159-1989 3.3.2.2).
+///
+/// `arguments = [ assignment { "," assignment } ]`
 #[cycle(read)]
 #[tactic(auto, using(crate::proofs::Stepping::some_arguments_none, crate::proofs::Stepping::some_arguments_some))]
 fn arguments<'a>(

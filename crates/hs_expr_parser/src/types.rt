@@ -23,6 +23,8 @@ use hs_tokens::SourceToken;
 use std::alloc::Global;
 
 /// Reads a type name (X3.159-1989 3.5.5).
+///
+/// `type-name = specifiers [ abstract ]`
 #[cycle(read)]
 #[tactic(auto, using(crate::proofs::Stepping::type_step, crate::proofs::Seen::specification_seen))]
 pub(crate) fn type_name<'a>(
@@ -52,6 +54,8 @@ pub(crate) fn type_name<'a>(
 
 /// Reads specifiers, at least one, up to a token that begins none (X3.159-1989 3.5). A typedef name is one only if
 /// no type specifier stands before it.
+///
+/// `specifiers = specifier { specifier }`
 #[cycle(read)]
 #[tactic(auto, using(crate::proofs::Stepping::some_specifiers_nothing, crate::proofs::Stepping::some_specifiers_none, crate::proofs::Stepping::some_specifiers_some, crate::proofs::Stepping::specifiers_nothing, crate::proofs::Stepping::specifiers_end))]
 pub fn specifiers<'a>(
@@ -92,6 +96,8 @@ fn is_typed(before: bool, it: &Specifier) -> bool
 }
 
 /// Reads a specifier that begins with that token (X3.159-1989 3.5.1 to 3.5.3).
+///
+/// `specifier = storage | dropped | basic | struct | enum | typedef-name`
 #[cycle(read)]
 #[tactic(auto, using(crate::proofs::Stepping::specifier_storage, crate::proofs::Stepping::specifier_dropped, crate::proofs::Stepping::specifier_basic, crate::proofs::Stepping::specifier_struct, crate::proofs::Stepping::specifier_enum, crate::proofs::Stepping::specifier_named))]
 fn specifier<'a>(
@@ -128,6 +134,8 @@ fn specifier<'a>(
 }
 
 /// Reads the rest of a struct after its tag, if it has one: its members, or nothing (X3.159-1989 3.5.2.1, 3.5.2.3).
+///
+/// `struct = "struct" [identifier] "{" member { member } "}" | "struct" identifier`
 #[cycle(read)]
 #[tactic(auto, using(crate::proofs::Stepping::struct_body, crate::proofs::Stepping::struct_tag, crate::proofs::Seen::members_seen))]
 fn struct_specifier<'a>(
@@ -160,6 +168,8 @@ fn struct_specifier<'a>(
 }
 
 /// Reads the members of a struct, at least one, up to a `}` (X3.159-1989 3.5.2.1).
+///
+/// `member { member }`
 #[cycle(read)]
 #[tactic(auto, using(crate::proofs::Stepping::members_step))]
 fn members<'a>(
@@ -183,6 +193,8 @@ fn members<'a>(
 }
 
 /// Reads members that are declared together (X3.159-1989 3.5.2.1).
+///
+/// `member = specifiers declarator { "," declarator } ";"`
 #[cycle(read)]
 #[tactic(auto, using(crate::proofs::Stepping::member_step, crate::proofs::Seen::member_seen))]
 fn member<'a>(
@@ -207,6 +219,8 @@ fn member<'a>(
 
 /// Reads the rest of an enumeration after its tag, if it has one: its constants, or nothing (X3.159-1989 3.5.2.2,
 /// 3.5.2.3).
+///
+/// `enum = "enum" [identifier] "{" constant { "," constant } [","] "}" | "enum" identifier`
 #[cycle(read)]
 #[tactic(auto, using(crate::proofs::Stepping::enum_body, crate::proofs::Stepping::enum_tag, crate::proofs::Seen::constants_seen))]
 fn enum_specifier<'a>(
@@ -241,6 +255,8 @@ fn enum_specifier<'a>(
 
 /// Reads enumeration constants, at least one, up to a `}`, and whether a comma follows the last one
 /// (X3.159-1989 3.5.2.2; the last comma is own).
+///
+/// `constant { "," constant } [","]`
 #[cycle(read)]
 #[tactic(auto, using(crate::proofs::Stepping::constants_step))]
 fn constants<'a>(
@@ -267,6 +283,8 @@ fn constants<'a>(
 }
 
 /// Reads an enumeration constant, with or without its value (X3.159-1989 3.5.2.2).
+///
+/// `constant = identifier [ "=" conditional ]`
 #[cycle(read)]
 #[tactic(auto, using(crate::proofs::Stepping::constant_step))]
 fn constant<'a>(

@@ -18,6 +18,8 @@ use hs_tokens::SourceToken;
 use std::alloc::Global;
 
 /// Reads a cast (X3.159-1989 3.3.4).
+///
+/// `cast = unary | "(" type-name ")" cast`
 #[cycle(read)]
 #[tactic(auto, using(crate::proofs::Stepping::cast_step, crate::proofs::Seen::boxed_type_seen))]
 pub(crate) fn cast<'a>(
@@ -45,6 +47,8 @@ pub(crate) fn cast<'a>(
 }
 
 /// Reads a type name in parentheses, and gives the place of the first of them.
+///
+/// `"(" type-name ")"`
 #[cycle(read)]
 #[tactic(auto, using(crate::proofs::Stepping::type_in_parens_step))]
 fn type_in_parens<'a>(
@@ -62,6 +66,8 @@ fn type_in_parens<'a>(
 }
 
 /// Reads a unary expression (X3.159-1989 3.3.3).
+///
+/// `unary = postfix | ("++" | "--") unary | ("&" | "*" | "+" | "-" | "~" | "!") cast | "sizeof" sizeof-operand`
 #[cycle(read)]
 #[tactic(auto, using(crate::proofs::Stepping::unary_nothing, crate::proofs::Stepping::unary_prefix, crate::proofs::Stepping::unary_sizeof, crate::proofs::Stepping::unary_postfix))]
 pub(crate) fn unary<'a>(
@@ -93,6 +99,8 @@ pub(crate) fn unary<'a>(
 }
 
 /// Reads the operand of an operator: a unary expression after `++` and `--`, and a cast after the others.
+///
+/// `operand = unary | cast`
 #[cycle(read)]
 #[tactic(auto, using(crate::proofs::Stepping::operand_increment, crate::proofs::Stepping::operand_decrement, crate::proofs::Stepping::operand_address, crate::proofs::Stepping::operand_dereference, crate::proofs::Stepping::operand_plus, crate::proofs::Stepping::operand_minus, crate::proofs::Stepping::operand_complement, crate::proofs::Stepping::operand_not))]
 fn operand<'a>(
@@ -116,6 +124,8 @@ fn operand<'a>(
 }
 
 /// Reads what follows a `sizeof` at that place: a type name in parentheses, or a unary expression.
+///
+/// `sizeof-operand = unary | "(" type-name ")"`
 #[cycle(read)]
 #[tactic(auto, using(crate::proofs::Stepping::sizeof_step, crate::proofs::Seen::boxed_type_seen))]
 fn sizeof_operand<'a>(
