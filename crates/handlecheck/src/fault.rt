@@ -51,6 +51,8 @@ impl Fault {
     }
 
     /// The word that a line names it by.
+    ///
+    /// Example: `Syntax`, whose number is 10.
     pub fn word(self) -> &'static str
         ensures { result.now ≡ word_of self }
     {

@@ -102,6 +102,8 @@ fn answer<F: Files, O: Sink>(alloc: Global, words: &[String], files: &mut F, out
 /// The words are those after the program's name. The status says what the line says: `specs/Report.antt` has the meaning
 /// of each, and `specs/Causes.antt` when it comes. If the files tell their listing, the clauses speak of the bytes of the
 /// files. Any status may give way to a lack of memory or to a failed write.
+///
+/// Example: in the folder `examples`, the words `check` and `locked.c` write `accepted` and return `Status::Done`.
 pub fn run<F: Files, O: Sink>(alloc: Global, words: &[String], files: &mut F, out: &mut O) -> Status
     ensures listing_stays { F.listing files.new ≡ F.listing files.old }
     ensures counts_stay_up { NeverFall (F.counts files.old) (F.counts files.new) }

@@ -36,6 +36,8 @@ pub enum Status {
 
 impl Status {
     /// The status that the process ends with: the place of the variant, from 0.
+    ///
+    /// Example: 0 for `Done`, and 1 for `Hazards`.
     pub fn code(self) -> u8
         ensures { result ≡ code_of self }
     {

@@ -24,6 +24,8 @@ pub enum LimitKind {
 
 impl LimitKind {
     /// The number that the quantity may reach and not pass.
+    ///
+    /// Example: 256 for `Depth`.
     pub fn number(self) -> u64
         ensures { result ≡ number_of self }
     {

@@ -34,6 +34,8 @@ impl Model for MemSink {
 impl MemSink {
     /// An empty sink for `room` bytes, of which it takes the memory at once. A put whose number, from 1, is in `failing`
     /// writes the first half of its piece, rounded down, and fails. A put that does not fit writes what fits and fails.
+    ///
+    /// Example: with a room of 4, a put of `accepted` writes `acce` and fails.
     pub fn new(alloc: Global, room: usize, failing: Vec<u64>) -> Result<MemSink, NoMemory>
         ensures written { IfOk result (λ sink. sink.written ≡ []) }
         ensures room { IfOk result (λ sink. sink.room ≡ room) }

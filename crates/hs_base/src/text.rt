@@ -20,6 +20,8 @@ pub fn is_letter(byte: u8) -> bool
 }
 
 /// Whether the byte is one of identifiers and numbers.
+///
+/// Example: `a`, `_` and `7` are, `-` is not.
 pub fn is_word_byte(byte: u8) -> bool
     ensures { result ≡ is_word_byte byte }
 {
@@ -27,6 +29,8 @@ pub fn is_word_byte(byte: u8) -> bool
 }
 
 /// Whether the byte, with this text after it, is the last of its line. A line ends at LF, CR or CR LF.
+///
+/// Example: In `a`, CR, LF, the LF ends the line and the CR does not.
 pub fn ends_line(byte: u8, after: &[u8]) -> bool
     ensures { result ≡ ends_line byte after.now }
 {
@@ -38,6 +42,8 @@ pub fn ends_line(byte: u8, after: &[u8]) -> bool
 }
 
 /// The place of what follows a byte at that place, with this text after it.
+///
+/// Example: After `a` at line 3, column 5, comes line 3, column 6; after a LF there, line 4, column 1.
 pub fn next_place(place: Pos, byte: u8, after: &[u8]) -> Pos
     requires line { place.line + 1 < 2 ^ 32 }
     requires col { place.col + 1 < 2 ^ 32 }

@@ -77,6 +77,8 @@ fn print_crossings(text: &mut Vec<u8>, count: usize) -> Result<(), NoMemory>
 
 /// The text of a certificate.
 ///
+/// Example: for that cut of three vertices in a row: `inside 0`, `flow 0 1`, `flow 1 1` and `crossings 1`, a line each.
+///
 /// # Errors
 ///
 /// `NoMemory` if memory runs out.

@@ -95,6 +95,8 @@ fn character_ahead(content: &[u8]) -> Option<Character<'_>>
 }
 
 /// The 32 bits of a character constant of one to four characters, with its quotes (X3.159-1989 3.1.3.4).
+///
+/// Example: `'A'` is 65, and `'AB'` is 0x4142.
 pub fn character_value(text: &[u8]) -> Option<u32>
     ensures { result ≡ character_value text.now }
 {

@@ -100,6 +100,8 @@ fn step(
 
 /// The value of a condition, if the tokens are one (X3.159-1989 3.8.1 and 3.4). What waits for an operand stands on a
 /// stack of its own, so that no nesting is too deep.
+///
+/// Example: `1 + 2 * 3` has the value 7, and `1 +` has none.
 pub fn condition_value(alloc: Global, tokens: &[SourceToken]) -> Result<Option<Value>, AllocError>
     ensures read { IfOk result (λ value. value ≡ condition_value (tokens_of tokens.now)) }
     ensures found { IfOk result (λ value. IfSome value (Means 0 (tokens_of tokens.now))) }

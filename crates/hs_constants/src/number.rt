@@ -64,6 +64,8 @@ fn decimal_number(text: &[u8]) -> Option<Number>
 }
 
 /// The value and the suffix of an integer constant of at most 32 bits, if the text is one (X3.159-1989 3.1.3.2).
+///
+/// Example: `0x1Fu` is 31, unsigned and not decimal; `09` has no value.
 pub fn number_value(text: &[u8]) -> Option<Number>
     ensures { result ≡ number_value text.now }
 {

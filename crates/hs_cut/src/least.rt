@@ -23,6 +23,9 @@ use std::alloc::Global;
 /// 1972), in time in proportion to the edges times the crossings. The numbers of the network are below its `vertices`, and
 /// there are fewer than 2147483648 edges.
 ///
+/// Example: of the vertices 0, 1 and 2 in a row, with slots between them, where 0 must be inside and 2 outside, the cut is
+/// 0 alone, with one crossing.
+///
 /// # Errors
 ///
 /// `NoCut` exactly if edges without a slot join what must be inside to what must be outside, with the least of the

@@ -48,6 +48,9 @@ fn externals(alloc: Global, tokens: &[SourceToken]) -> Result<Vec<External>, Par
 ///
 /// `unit = { external }`
 ///
+/// Example: `int x; int f(void) { return x; }` is a unit of a declaration and a function; of `int x; int;;`, the last `;`
+/// is wrong.
+///
 /// Errors: `Limit`, of the kind `Depth`, if the tokens nest more than 256 deep, which is tried first; `Syntax` if they are no
 /// unit, with the place of the first external declaration that is wrong; `NoMemory`.
 pub fn unit(alloc: Global, tokens: &[SourceToken]) -> Result<Unit, ParseError>

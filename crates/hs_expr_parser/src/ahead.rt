@@ -56,6 +56,8 @@ pub fn first(tokens: &[SourceToken]) -> Option<(&SourceToken, &[SourceToken])>
 }
 
 /// Whether the first token is that punctuator.
+///
+/// Example: for the mark `;`, true for `; x` and false for `x ;`.
 pub fn is_mark_ahead(tokens: &[SourceToken], mark: &[u8]) -> bool
     ensures { result ≡ is_mark_ahead mark.now tokens.now }
 {
@@ -66,6 +68,8 @@ pub fn is_mark_ahead(tokens: &[SourceToken], mark: &[u8]) -> bool
 }
 
 /// Whether the first token begins a specifier (X3.159-1989 3.5).
+///
+/// Example: `int` and `const` do, and `T` does if it is a typedef name.
 pub fn begins_specifiers(known: &TypeNames, tokens: &[SourceToken]) -> bool
     ensures { result ≡ is_ahead (begins_specifier known.now false) tokens.now }
 {

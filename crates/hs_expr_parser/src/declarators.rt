@@ -24,6 +24,8 @@ use std::alloc::Global;
 /// Reads a declarator (X3.159-1989 3.5.4), or, in a parameter or a type name, one that may name nothing (3.5.5).
 ///
 /// `declarator = { "*" | dropped } direct`
+///
+/// Example: of `*p[4];`, it reads `*p[4]`: an array of 4 pointers.
 #[cycle(read)]
 #[tactic(auto, using(crate::proofs::Stepping::declarator_step))]
 pub fn declarator<'a>(

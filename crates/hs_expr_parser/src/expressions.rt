@@ -40,6 +40,8 @@ struct Operand {
 /// Reads an expression (X3.159-1989 3.3.17).
 ///
 /// `expression = assignment { "," assignment }`
+///
+/// Example: of `a = 1, b;`, it reads the comma of `a = 1` and `b`.
 #[cycle(read)]
 #[tactic(auto, using(crate::proofs::Stepping::expression_step, crate::proofs::Stepping::commas_end))]
 pub fn expression<'a>(
@@ -105,6 +107,8 @@ fn another<'a>(
 /// Reads an assignment (X3.159-1989 3.3.16): what is assigned to is a unary expression.
 ///
 /// `assignment = conditional | unary assign-operator assignment`
+///
+/// Example: of `a = 1, b;`, it reads `a = 1`.
 #[cycle(read)]
 #[tactic(auto, using(crate::proofs::Stepping::assignment_step))]
 pub fn assignment<'a>(
@@ -162,6 +166,8 @@ fn value<'a>(
 /// Reads a conditional expression (X3.159-1989 3.3.15).
 ///
 /// `conditional = binary [ "?" expression ":" conditional ]`
+///
+/// Example: of `a ? b : c = 1`, it reads `a ? b : c`.
 #[cycle(read)]
 #[tactic(auto, using(crate::proofs::Stepping::conditional_step))]
 pub fn conditional<'a>(

@@ -17,6 +17,8 @@ use std::alloc::Global;
 /// Reads the longest expression from the token numbered `at`, if these typedef names are known (X3.159-1989 3.3), and
 /// gives the number of the token after it. The tokens nest 256 deep at most, so that the stack is deep enough.
 ///
+/// Example: of `a + 1 ; b` from token 0 on, it reads `a + 1` and returns 3.
+///
 /// Errors: `NotExpr` if no expression starts there; `NoMemory`.
 pub fn expr(
     alloc: Global,

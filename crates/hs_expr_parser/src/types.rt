@@ -56,6 +56,8 @@ pub(crate) fn type_name<'a>(
 /// no type specifier stands before it.
 ///
 /// `specifiers = specifier { specifier }`
+///
+/// Example: of `unsigned int x`, it reads `unsigned int`.
 #[cycle(read)]
 #[tactic(auto, using(crate::proofs::Stepping::some_specifiers_nothing, crate::proofs::Stepping::some_specifiers_none, crate::proofs::Stepping::some_specifiers_some, crate::proofs::Stepping::specifiers_nothing, crate::proofs::Stepping::specifiers_end))]
 pub fn specifiers<'a>(

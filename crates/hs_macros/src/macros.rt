@@ -57,6 +57,8 @@ impl Macros {
     }
 
     /// Takes the name's definition away, if it has one (X3.159-1989 3.8.3.5).
+    ///
+    /// Example: after `undef` of `MAX`, the name `MAX` is not defined and is not replaced.
     pub fn undef(&mut self, name: &[u8])
         ensures { self.new ≡ map.remove self.old name.now }
     {
@@ -71,6 +73,8 @@ impl Macros {
     }
 
     /// Takes the definition that the tokens after `define` are (X3.159-1989 3.8.3).
+    ///
+    /// Example: the tokens of `SQUARE(x) ((x) * (x))` define a macro of one parameter.
     pub fn define(&mut self, line: &[Token]) -> Result<(), MacroError>
         ensures defined { OnOk result (defined self.old line.now ≡ Ok self.new) }
         ensures refused { IfErr result (IsRefusal (defined self.old line.now)) }
@@ -93,6 +97,9 @@ impl Macros {
     /// The tokens of a run, replaced, and what is left of the budget taken (X3.159-1989 3.8.3). An invocation that is open at
     /// the end of the run is refused, and so is one with the wrong number of arguments. `left` counts the replacements and the
     /// tokens that they put in place, and not the tokens of the result.
+    ///
+    /// Example: with the macro `SQUARE(x) ((x) * (x))`, the run `SQUARE(2)` becomes `((2) * (2))`, and one replacement
+    /// and its tokens are taken from `left`.
     pub fn expand(&self, run: &[Token], left: &mut Budget) -> Result<Vec<SourceToken>, MacroError>
         ensures replaced { IfOk result (λ tokens. replaced self.now left.old run.now
             ≡ Ok (record { tokens = tokens.items; left = left.new })) }

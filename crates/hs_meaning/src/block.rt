@@ -76,6 +76,8 @@ impl Block {
 
     /// The block of that number, from 1, after a decision taken by a routine that moves, or purges, or neither. What the
     /// block does not permit counts for nothing (Inside Macintosh: Memory, "Relocatable Blocks" and "Locking").
+    ///
+    /// Example: a locked block stays as it is, whatever the decision says.
     pub fn shifted(self, moves: bool, purges: bool, decision: &Decision, number: u32) -> Block
         requires epoch_fits { self.epoch + 1 < 2 ^ 32 }
         ensures exact { result ≡ shifted (record { moves = moves; purges = purges }) decision.now number self }

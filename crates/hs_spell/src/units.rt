@@ -50,6 +50,8 @@ fn externals(alloc: Global, tokens: &mut Vec<Token>, its: &[External]) -> Result
 
 /// Spells a unit: returns its tokens in order, each with the place that the tree keeps of it. A token whose place the tree
 /// does not keep has line 0 and column 0. `NoMemory` is the only error.
+///
+/// Example: the tree of `int x;` has the tokens `int`, `x` and `;`.
 #[tactic(auto, using(crate::proofs::Sourced::of_sources))]
 pub fn spell(alloc: Global, unit: &Unit) -> Result<Vec<Token>, NoMemory>
     ensures exact { IfOk result (λ tokens. tokens.items ≡ spelling (view_unit unit.now)) }

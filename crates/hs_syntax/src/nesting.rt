@@ -140,6 +140,8 @@ impl Nesting {
 }
 
 /// Whether the nesting is at most 256 at every token. It takes no memory.
+///
+/// Example: 256 open parentheses are shallow, and 257 are not.
 pub fn shallow(tokens: &[SourceToken]) -> bool
     ensures { IsTrue result ↔ IsShallow tokens.now }
 {

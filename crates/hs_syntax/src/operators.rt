@@ -56,6 +56,8 @@ impl BinaryOperator {
     }
 
     /// How tightly it binds: 10 is the tightest.
+    ///
+    /// Example: 10 for `*`, and 1 for `||`.
     pub fn level(self) -> u8
         ensures { result ≡ level_of self }
     {

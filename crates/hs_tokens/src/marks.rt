@@ -20,6 +20,8 @@ pub fn is_same_kind(first: TokenKind, second: TokenKind) -> bool
 }
 
 /// Whether the token is an identifier or a keyword.
+///
+/// Example: `x` and `while` are, `1` and `;` are not.
 pub fn is_identifier(token: &Token) -> bool
     ensures { result ≡ is_identifier token.now }
 {
@@ -27,6 +29,8 @@ pub fn is_identifier(token: &Token) -> bool
 }
 
 /// Whether the token is the punctuator of these bytes.
+///
+/// Example: the token `;` is the mark `;`, and the string literal `";"` is not.
 pub fn is_mark(mark: &[u8], token: &Token) -> bool
     ensures { result ≡ is_mark mark.now token.now }
 {

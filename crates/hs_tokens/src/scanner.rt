@@ -24,6 +24,8 @@ fn part_len(part: Part) -> usize
 
 /// The tokens of a text (X3.159-1989 2.1.1.2, phases 1 to 3), if there is room for so many. The bound keeps lines and
 /// columns within their type.
+///
+/// Example: `x = 1; /* set */` has the tokens `x`, `=`, `1` and `;`.
 pub fn scan(alloc: Global, text: &[u8], file: u16, room: usize) -> Result<Vec<Token>, ScanError>
     requires { length text.now ≤ 4194304 }
     ensures tokens { IfOk result (λ tokens. scan_of file room text.now ≡ Ok tokens.items) }

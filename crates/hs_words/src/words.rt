@@ -57,6 +57,8 @@ fn check_of(alloc: Global, words: &[String]) -> Result<Command, WordsError>
 
 /// What the words after the program's name ask for.
 ///
+/// Example: `check` and `a.c` ask for the check of `a.c`; `chekc` is not a command.
+///
 /// # Errors
 ///
 /// As [`WordsError`] says.

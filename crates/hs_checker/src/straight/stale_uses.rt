@@ -159,6 +159,8 @@ fn count_stale_uses(steps: &[Step]) -> u64
 }
 
 /// The number of stale uses of a straight tree. A tree without one is safe.
+///
+/// Example: 1 for `p = *h; g = NewHandle(4); putchar(*p);` with h not locked.
 pub fn check(_alloc: Global, straight: &Straight) -> Result<u64, NoMemory>
     ensures { IfOk result (HasStaleUses straight.now) }
 {
