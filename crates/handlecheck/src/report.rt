@@ -93,7 +93,7 @@ impl Report {
 
     /// The line of the report.
     ///
-    /// Example: `hazards 1` and a line feed.
+    /// Example: of `Report::Hazards(1)`: `hazards 1` and a line feed.
     pub fn text(&self, alloc: Global) -> Result<Vec<u8>, AllocError>
         ensures { IfOk result (λ text. text.items ≡ text_of self.now) }
     {

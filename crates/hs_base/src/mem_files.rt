@@ -53,8 +53,8 @@ impl MemFiles {
     /// Files with these names and bytes, of which the first counts if a name stands twice. The reads whose numbers,
     /// from 1, are in `failing` answer `Failed`.
     ///
-    /// Example: with `("a.c", "int x;")` and no failing reads, a read of `a.c` returns those 6 bytes, and a read of `b.c`
-    /// `Missing`.
+    /// Example: with `("a.c", "int x;")` and no failing reads, a read of `a.c` puts those 6 bytes into `into` if `max` is at
+    /// least 6, and a read of `b.c` answers `Missing`.
     pub fn new(listing: Vec<(String, Vec<u8>)>, failing: Vec<u64>) -> MemFiles
         ensures listing { result.listing ≡ map (λ file. (string_bytes file.0, file.1.items)) listing.items }
         ensures failing { result.failing ≡ failing.items }

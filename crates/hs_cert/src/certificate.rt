@@ -1,4 +1,4 @@
-//! Certificates, and what can be wrong with one.
+//! Certificates, what can be wrong with one, and why a text is not read.
 
 ghost use Rattle.std.specs.Prelude.{◌≡◌};
 ghost use Rattle.hs_cert.specs.declared.certificate.CertError.TheVariants.{NoMemory as no_memory};

@@ -1,4 +1,4 @@
-//! What a flow may be, and what it adds up to at each vertex.
+//! How much may flow over an edge, and what a flow adds up to at each vertex and over a set of them.
 
 ghost use Rattle.std.specs.Prelude.{◌≡◌, ◌+◌, ◌<◌, ◌≤◌, ◌^◌, ℕ, pos, ◌+ℤ◌, cond, length, not, nat_eq, nat_lt, nat_abs, set, slice_index_or};
 ghost use Rattle.std.specs.List.{All, position, zip};

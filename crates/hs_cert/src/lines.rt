@@ -1,4 +1,4 @@
-//! The lines of the text of a certificate, one at a time.
+//! Reads words, numbers and the line of an edge from the front of a certificate's text.
 
 ghost use Rattle.std.specs.Prelude.{◌≡◌, ◌<◌, ◌≤◌, ◌+◌, ◌-◌, ◌*◌, min};
 ghost use Rattle.hs_cert.specs.Reading.{Gives, after, line_at, number_at, signed_at};

@@ -77,7 +77,8 @@ fn print_crossings(text: &mut Vec<u8>, count: usize) -> Result<(), NoMemory>
 
 /// The text of a certificate.
 ///
-/// Example: for that cut of three vertices in a row: `inside 0`, `flow 0 1`, `flow 1 1` and `crossings 1`, a line each.
+/// Example: for edges from 0 to 1 and from 1 to 2, with 0 inside and 1 along each edge: `inside 0`, `flow 0 1`, `flow 1 1`
+/// and `crossings 1`, a line each.
 ///
 /// # Errors
 ///

@@ -1,4 +1,4 @@
-//! The value of a token that is a constant.
+//! The value of a token that is an operand: a constant, or an identifier, which is 0 (X3.159-1989 3.8.1).
 
 ghost use Rattle.std.specs.Prelude.{◌≡◌};
 ghost use Rattle.hs_constants.specs.Conditions.{plain, constant_of};

@@ -1,4 +1,4 @@
-//! The operators of conditions, with their levels.
+//! The operators of conditions but `?:`, and the levels of those between two operands.
 
 ghost use Rattle.std.specs.Prelude.{◌≡◌};
 ghost use Rattle.hs_constants.specs.Conditions.{unary_of, binary_of, level_of};

@@ -1,4 +1,4 @@
-//! Operators that wait for their right operand.
+//! What waits for the value of an operand: operators, open parentheses, `?` and `:`.
 
 ghost use Rattle.std.specs.Prelude.{◌≡◌, reverse};
 ghost use Rattle.hs_constants.specs.Reading.{applied, settled};

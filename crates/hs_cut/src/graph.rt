@@ -1,4 +1,4 @@
-//! The edges of a network, by the vertices at which they end.
+//! The arcs out of each vertex: an edge is one at each of its two ends.
 
 ghost use Rattle.std.specs.Prelude.{◌≡◌, ℕ, ◌<◌, ◌^◌, List, [], ◌∷◌, ◌++◌, length, cond, IfOk, OnOk, nat_eq};
 ghost use Rattle.hs_cut.specs.Arcs.{arcs_from, IsGraph};

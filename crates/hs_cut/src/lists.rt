@@ -1,4 +1,4 @@
-//! Lists of edges and of flows.
+//! A list of edges, and a flow: a number for each edge.
 
 ghost use Rattle.std.specs.Prelude.{◌≡◌, List, ℤ};
 

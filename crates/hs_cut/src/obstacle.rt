@@ -1,4 +1,4 @@
-//! The shortest path that prevents a cut.
+//! The least of the shortest paths that prevent a cut.
 
 ghost use Rattle.std.specs.Prelude.{◌≡◌, ℕ, ◌+◌, ◌<◌, ◌^◌, ◌↔◌, List, ◌∷◌, length, map, All, Some, IfOk, IfSome, IfNone, IsTrue};
 ghost use Rattle.hs_cut.specs.Arcs.{IsGraph};

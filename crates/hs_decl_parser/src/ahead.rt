@@ -1,4 +1,4 @@
-//! What the first tokens of a phrase tell.
+//! Whether a given word is the first token.
 
 ghost use Rattle.std.specs.Prelude.{◌≡◌, suc, length, IfSome, IfOk};
 ghost use Rattle.hs_expr_parser.specs.Given.{Gives, Seen};

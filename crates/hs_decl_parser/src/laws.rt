@@ -1,4 +1,4 @@
-//! Laws of units, proved and without code: the grammar is not ambiguous.
+//! Laws of units, proved and without code: the grammar is not ambiguous, and a refusal has one place.
 
 ghost use Rattle.std.specs.Prelude.{◌≡◌, List};
 ghost use Rattle.hs_base.specs.declared.pos.Pos.{Pos};

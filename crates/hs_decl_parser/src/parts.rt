@@ -1,4 +1,4 @@
-//! Parses the parts of statements that are in parentheses.
+//! Parses parts of statements: tests, the controls of a `for`, and expressions that may be missing.
 
 ghost use Rattle.std.specs.Prelude.{◌≡◌, ◌<◌, length, option_map, IfOk};
 ghost use Rattle.hs_syntax.specs.Views.{view};

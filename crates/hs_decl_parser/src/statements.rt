@@ -59,7 +59,7 @@ fn statement<'a>(
 
 /// Reads an expression and its semicolon (X3.159-1989 3.6.3).
 ///
-/// `[expression] ";"`
+/// `expression ";"`
 #[tactic(auto, using(crate::proofs::Stepping::ended_expression_step))]
 fn expression_statement<'a>(
     alloc: Global,
@@ -75,6 +75,8 @@ fn expression_statement<'a>(
 }
 
 /// Reads the semicolon of a statement that is a word alone (X3.159-1989 3.6.6).
+///
+/// `";"`
 #[tactic(auto, using(crate::proofs::Stepping::ended_step))]
 fn ended<'a>(it: Stmt, rest: &'a [SourceToken]) -> Result<(Stmt, &'a [SourceToken]), ParseEnd>
     ensures read { Gives (λ x. (view_statement x.0, x.1.now)) result (ended_at (view_statement it) rest.now) }

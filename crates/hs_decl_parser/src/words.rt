@@ -1,4 +1,4 @@
-//! The keywords with which statements begin.
+//! The keywords with which statements and labels begin.
 
 ghost use Rattle.std.specs.Prelude.{◌≡◌};
 ghost use Rattle.hs_expr_parser.specs.Ahead.{spelled_so};

@@ -1,4 +1,4 @@
-//! What a run of text or a directive does to the state.
+//! What a run of text, or a directive that includes no file, does to the sections and the state.
 
 ghost use Rattle.std.specs.Prelude.{◌≡◌, ℕ, List, drop, Option, None, Result};
 ghost use Rattle.hs_base.specs.declared.pos.Pos.{Pos};

@@ -1,4 +1,4 @@
-//! Enters an included file (X3.159-1989 3.8.2).
+//! Finds the file that an `#include` names, if one more level may be opened (X3.159-1989 3.8.2).
 
 ghost use Rattle.std.specs.Prelude.{◌≡◌, ◌<◌, IfOk};
 ghost use Rattle.hs_base.specs.Files.{NeverFall};

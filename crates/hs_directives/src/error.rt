@@ -1,4 +1,4 @@
-//! The refusals of reading, each with its place.
+//! The refusals of reading, each with its place if it has one.
 
 ghost use Rattle.std.specs.Prelude.{◌≡◌};
 ghost use Rattle.hs_directives.specs.declared.error.ReadError.TheVariants.{NoMemory as no_memory};

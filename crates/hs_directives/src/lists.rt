@@ -1,4 +1,4 @@
-//! Lists of names, texts and numbers.
+//! Lists of texts, of file numbers and of tokens.
 
 ghost use Rattle.std.specs.Prelude.{◌≡◌, ◌++◌, List, ℕ, OnOk};
 ghost use Rattle.hs_tokens.specs.declared.token.SourceToken.{SourceToken};

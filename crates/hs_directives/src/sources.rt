@@ -107,8 +107,8 @@ fn source_of(
 
 /// The sources of the named files, in their order, each read once (X3.159-1989 2.1.1.2 phase 4, and 3.8).
 ///
-/// Example: of the name `a.c`, if `a.c` includes `a.h`, it makes one unit of two files: `a.c` is number 0, and `a.h` is
-/// number 1.
+/// Example: of the name `a.c`, if `a.c` includes `a.h` and nothing else, it makes one unit of two files: `a.c` is number 0,
+/// and `a.h` is number 1.
 ///
 /// # Errors
 ///

@@ -23,7 +23,7 @@ use std::alloc::Global;
 
 /// Reads a declarator (X3.159-1989 3.5.4), or, in a parameter or a type name, one that may name nothing (3.5.5).
 ///
-/// `declarator = { "*" | dropped } direct`
+/// `declarator = { "*" | dropped } direct`, where `direct` is what [`base`] and [`directs`] read
 ///
 /// Example: of `*p[4];`, it reads `*p[4]`: an array of 4 pointers.
 #[cycle(read)]
@@ -46,7 +46,7 @@ pub fn declarator<'a>(
 /// Reads what the rest of a declarator follows: a name, a declarator in parentheses, or nothing if a name may
 /// be missing. There a `(` that may begin a list of parameters does.
 ///
-/// `base = identifier | "(" declarator ")" | nothing`
+/// `identifier | "(" declarator ")" | nothing`
 #[cycle(read)]
 #[tactic(auto, using(crate::proofs::Stepping::base_nothing, crate::proofs::Stepping::base_step))]
 fn base<'a>(
@@ -96,7 +96,7 @@ fn inside<'a>(
 
 /// Reads the rest of a declarator: lengths of arrays and lists of parameters (X3.159-1989 3.5.4.2, 3.5.4.3).
 ///
-/// `direct = base { "[" [conditional] "]" | "(" [ "void" | parameters ] ")" }`
+/// `{ "[" [conditional] "]" | "(" [ "void" | parameters ] ")" }`
 #[cycle(read)]
 #[tactic(auto, using(crate::proofs::Stepping::directs_nothing, crate::proofs::Stepping::directs_length, crate::proofs::Stepping::directs_list, crate::proofs::Stepping::directs_end))]
 fn directs<'a>(

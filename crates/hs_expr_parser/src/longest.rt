@@ -1,4 +1,4 @@
-//! The longest expression from a token on: the call for other crates.
+//! The longest expression from a token on, as the grammar has it: for tests and measurements.
 
 ghost use Rattle.std.specs.Prelude.{◌≡◌, ℕ, ◌<◌, ◌≤◌, ◌-◌, length, take, drop, IfOk, Err};
 ghost use Rattle.hs_syntax.specs.Grammar.{IsExpression};

@@ -1,4 +1,4 @@
-//! Whether a declarator names something.
+//! Whether a declarator names something, and whether it is empty.
 
 ghost use Rattle.std.specs.Prelude.{◌≡◌, Bool};
 ghost use Rattle.hs_syntax.specs.Phrases.{is_named, names, is_empty};

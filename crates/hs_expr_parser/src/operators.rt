@@ -1,4 +1,4 @@
-//! The operators that tokens are.
+//! The operators and the words of specifiers that tokens are.
 
 ghost use Rattle.std.specs.Prelude.{◌≡◌};
 ghost use Rattle.hs_syntax.specs.Operators.{binary_text, assign_text, prefix_text, postfix_text, access_text, storage_text, dropped_text, basic_text};

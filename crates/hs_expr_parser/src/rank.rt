@@ -1,4 +1,4 @@
-//! How tightly an expression binds.
+//! Whether an expression is a unary one, or one that binds more tightly (X3.159-1989 3.3.3).
 
 ghost use Rattle.std.specs.Prelude.{◌≡◌, nat_le};
 ghost use Rattle.hs_syntax.specs.Phrases.{rank};

@@ -1,4 +1,4 @@
-//! Kinds of bytes.
+//! Kinds of bytes, and the values of digits.
 
 ghost use Rattle.std.specs.Prelude.{◌≡◌, ◌-◌, ◌<◌};
 ghost use Rattle.hs_tokens.specs.Characters.{is_blank, is_octal, is_hex};

@@ -1,4 +1,4 @@
-//! The names that a straight program may declare.
+//! The names that a straight program may declare, and the numbers of its variables.
 
 ghost use Rattle.std.specs.Prelude.{◌≡◌, ◌<◌, ◌^◌, length, map};
 ghost use Rattle.std.specs.List.{list_any, list_all};
