@@ -1,5 +1,5 @@
-//! The tokens of one text. `specs/` has the definition, phase by phase on whole lists; the scanner goes once over the
-//! bytes.
+//! The tokens of one text. `specs/` has the definition, phase by phase on whole lists; the scanner takes one part of the text
+//! after another.
 #![tactic(auto)]
 
 mod characters;
