@@ -1,18 +1,15 @@
 -- Files and a sink that are kept in memory. Own to this project.
---     raised count                 a count that rises by one, and stands still at the end of its type
+--     counts_of files              the counts of files in memory
 --     AnswersRead ..               what a read of files in memory answers
 --     put_front ..                 the front of a piece that a put into a sink in memory writes
 --     put_succeeds ..              whether that put succeeds
-use Rattle.std.specs.Prelude.{◌≡◌, ℕ, ◌+◌, ◌-◌, ◌/◌, ◌^◌, ◌==◌, nat_lt, nat_le, min, Bool, false, List, length, Option, Some, None, Result, Err, IsOkUnless, if◌then◌else◌}
+use Rattle.std.specs.Prelude.{◌≡◌, ℕ, ◌-◌, ◌/◌, ◌==◌, nat_lt, nat_le, min, Bool, false, List, length, Option, Some, None, Result, Err, IsOkUnless, if◌then◌else◌}
 use Rattle.std.specs.Bool.{MatchBool}
 use Rattle.std.specs.List.{list_any}
-use Rattle.hs_base.specs.Files.{Listing, file_of}
+use Rattle.hs_base.specs.Count.{raised}
+use Rattle.hs_base.specs.Files.{Listing, Counts, file_of}
 use Rattle.hs_base.specs.declared.errors.FileEnd.{FileEnd}
 use Rattle.hs_base.specs.declared.errors.FileEnd.TheVariants as end
-
--- a u64 that rises by one
-abbrev pub raised : ℕ → ℕ
-raised count = min (count + 1) (2 ^ 64 - 1)
 
 -- the number is among them
 abbrev pub is_among : List ℕ → ℕ → Bool
@@ -26,6 +23,10 @@ pub record MemoryFiles : Type 0 where
   pub reads : ℕ
   pub misses : ℕ
   pub faults : ℕ
+
+-- its counts, as those of any files
+abbrev pub counts_of : MemoryFiles → Counts
+counts_of files = record { misses = files.misses; faults = files.faults }
 
 -- an answer by the file alone: missing, too long, or its bytes unless memory runs out
 abbrev pub AnswersFile : ℕ → Option (List ℕ) → Result Unit FileEnd → Type 0

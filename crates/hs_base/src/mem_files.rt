@@ -1,10 +1,11 @@
 //! Files in memory.
 
-ghost use Rattle.std.specs.Prelude.{◌≡◌, ◌==◌, Option, Some, map};
+ghost use Rattle.std.specs.Prelude.{◌≡◌, ◌==◌, [], Option, Some, OnErr, map};
 ghost use Rattle.std.specs.Option.{option_map};
 ghost use Rattle.std.specs.String.{string_bytes};
-ghost use Rattle.hs_base.specs.Files.{Listing, Counts, NeverFall, IsRead, file_of};
-ghost use Rattle.hs_base.specs.Memory.{AnswersRead, is_among, raised};
+ghost use Rattle.hs_base.specs.Count.{raised};
+ghost use Rattle.hs_base.specs.Files.{Listing, Counts, NeverFall, IsRead, counts_after, file_of, read_of};
+ghost use Rattle.hs_base.specs.Memory.{AnswersRead, counts_of, is_among};
 
 use crate::{FileEnd, Files};
 use std::marker::Model;
@@ -75,16 +76,18 @@ impl MemFiles {
 impl Files for MemFiles {
     ghost listing = { λ files. Some files.listing };
 
-    ghost counts = { λ files. record { misses = files.misses; faults = files.faults } };
+    ghost counts = { counts_of };
 
     fn read(&mut self, name: &str, max: usize, into: &mut Vec<u8>) -> Result<(), FileEnd>
         ensures listing_stays { Some self.new.listing ≡ Some self.old.listing }
-        ensures counts_stay_up { NeverFall (record { misses = self.old.misses; faults = self.old.faults }) (record { misses = self.new.misses; faults = self.new.faults }) }
-        ensures means { IsRead (Some self.old.listing) name.now max (record { misses = self.old.misses; faults = self.old.faults }) (record { misses = self.new.misses; faults = self.new.faults }) into.new.items result }
-        // Which answer it is.
+        ensures counts_stay_up { NeverFall (counts_of self.old) (counts_of self.new) }
+        ensures means { IsRead (Some self.old.listing) (read_of name.now max into.new.items result (counts_of self.old) (counts_of self.new)) }
+        ensures emptied { OnErr result (into.new.items ≡ []) }
+        // Which answer it is, and what it counts.
         ensures exact { AnswersRead self.old name.now max result }
         ensures failing_stays { self.new.failing ≡ self.old.failing }
-        ensures counted { self.new.reads ≡ raised self.old.reads }
+        ensures reads { self.new.reads ≡ raised self.old.reads }
+        ensures counted { counts_of self.new ≡ counts_after (counts_of self.old) result }
     {
         into.clear();
         self.reads = self.reads.saturating_add(1);

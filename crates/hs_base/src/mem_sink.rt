@@ -1,8 +1,9 @@
 //! A sink in memory.
 
-ghost use Rattle.std.specs.Prelude.{◌≡◌, ◌+◌, ◌≤◌, ◌++◌, [], Option, Some, IfOk, take, length, is_ok, vec_len, vec_capacity};
+ghost use Rattle.std.specs.Prelude.{◌≡◌, ◌+◌, ◌≤◌, ◌++◌, [], Option, Some, IfOk, take, length, is_ok, vec_len, vec_capacity, if◌then◌else◌};
 ghost use Rattle.hs_base.specs.Sink.{IsPut};
-ghost use Rattle.hs_base.specs.Memory.{put_len, put_succeeds, raised};
+ghost use Rattle.hs_base.specs.Count.{raised};
+ghost use Rattle.hs_base.specs.Memory.{put_len, put_succeeds};
 
 use crate::mem_files::is_listed;
 use crate::{Failed, NoMemory, Sink};
@@ -73,7 +74,8 @@ impl Sink for MemSink {
         ensures grown { self.new.written ≡ self.old.written ++ take (put_len self.old piece.now) piece.now }
         ensures room_stays { self.new.room ≡ self.old.room }
         ensures failing_stays { self.new.failing ≡ self.old.failing }
-        ensures counted { self.new.puts ≡ raised self.old.puts }
+        ensures puts { self.new.puts ≡ raised self.old.puts }
+        ensures counted { self.new.faults ≡ (if is_ok result then self.old.faults else raised self.old.faults) }
     {
         self.puts = self.puts.saturating_add(1);
         let fails = is_listed(&self.failing, self.puts);
