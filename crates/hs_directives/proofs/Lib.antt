@@ -1,8 +1,10 @@
 pub mod Cuts
 pub mod InTurn
+pub mod Listed
 pub mod Nesting
 pub mod Printable
 pub mod Reading
 pub mod Resolving
+pub mod Through
 pub mod Units
 pub mod Walking

@@ -1,17 +1,13 @@
--- What a step says that may read files. Its outcome is the definition's, of any listing that has the files that were read.
+-- What a step says of the files that were read by then. Its outcome is the definition's, of any listing that has these files.
 --     Agrees listing files       the files are listed, with their texts
 --     listing_of files           the files, as a listing
---     Grows told old new         more files were read: those of the listing, if one is known
---     IsCaused before now error  a miss or a fault was counted if the error says so
---     Seeks ..                   the file that a refusal names is the next one that the definition reads
+--     Grows old new              more files were read
 --     IsReading ..               what each result says
---     IsText ..                  what a read of a text says
+--     AnswersText ..             what the bytes of a file are, or why there are none
 --     entry levels listing ..    the file of an `#include`, and the state after it
---     IsPreprocessed ..          what each answer of `preprocess` says
-use Rattle.std.specs.Prelude.{◌≡◌, List, [], ◌∷◌, ◌++◌, map, Option, Some, None, Result, Ok, Err, ℕ, zero, suc, ◌≤◌, length, nat_lt, if◌then◌else◌, IfSome, Vec, zip}
+use Rattle.std.specs.Prelude.{◌≡◌, List, [], ◌∷◌, ◌++◌, map, Option, Some, Result, Ok, Err, ℕ, zero, suc, Vec}
 use Rattle.std.specs.declared.alloc.Global.{Global}
-use Rattle.hs_base.specs.Files.{Listing, Counts, file_of}
-use Rattle.hs_base.specs.Count.{HasRisen, IsSteady}
+use Rattle.hs_base.specs.Files.{Listing, Counts, Read, file_of}
 use Rattle.hs_base.specs.Limit.{number_of}
 use Rattle.hs_base.specs.declared.limit.LimitKind.TheVariants.{FileBytes}
 use Rattle.hs_base.specs.declared.errors.FileEnd.{FileEnd}
@@ -19,9 +15,8 @@ use Rattle.hs_base.specs.declared.errors.FileEnd.TheVariants as ends
 use Rattle.hs_tokens.specs.declared.token.Token.{Token}
 use Rattle.hs_directives.specs.Includes.{Named, include_name}
 use Rattle.hs_directives.specs.Directives.{with_left}
-use Rattle.hs_directives.specs.Preprocessing.{included_file, UnitRead, Units, preprocessed}
-use Rattle.hs_directives.specs.States.{and_then, passed, Found, found_file}
-use Rattle.hs_directives.specs.Outcomes.{IsRefusal}
+use Rattle.hs_directives.specs.Preprocessing.{included_file, UnitRead, Units}
+use Rattle.hs_directives.specs.States.{and_then, Found, found_file}
 use Rattle.hs_directives.specs.declared.error.ReadError.{ReadError}
 use Rattle.hs_directives.specs.declared.error.ReadError.TheVariants.{Missing, ReadFault, IncludeDepth, Limit, NoMemory}
 use Rattle.hs_directives.specs.declared.state.File.{File}
@@ -29,7 +24,6 @@ use Rattle.hs_directives.specs.declared.state.Known.{Known}
 use Rattle.hs_directives.specs.declared.state.Progress.{Progress}
 use Rattle.hs_directives.specs.declared.state.State.{State}
 use Rattle.hs_directives.specs.declared.unit.TranslationUnit.{TranslationUnit}
-use Rattle.hs_directives.specs.declared.source.Source.{Source}
 
 -- the files are listed, with their texts
 abbrev pub Agrees : Listing → List File → Type 0
@@ -41,59 +35,17 @@ abbrev pub listing_of : List File → Listing
 listing_of files = map (λ file. (file.name, file.text)) files
 
 -- files that were read so far, and more
-pub record Grows (told : Option Listing) (old new : List File) : Type 0 where
+pub record Grows (old new : List File) : Type 0 where
   pub more : List File
   pub longer : new ≡ old ++ more
-  -- they are the listing's, if one is known
-  pub told_agrees : (listing : Listing) → told ≡ Some listing → Agrees listing old → Agrees listing new
   -- no name stands for two texts
   pub own_agrees : Agrees (listing_of old) old → Agrees (listing_of new) new
 
--- a miss or a fault was counted, if the error says so
-abbrev pub IsCaused : Counts → Counts → ReadError → Type 0
-IsCaused before now (Missing name) = HasRisen before.misses now.misses
-IsCaused before now (ReadFault name) = HasRisen before.faults now.faults
-IsCaused before now _ = Unit {0}
-
--- a file of that name is sought, once the files are read: if it is not listed, it is missing
-pub record IsSought {B : Type 0} (told : Option Listing) (old new : List File) (outcome : Listing → Result B ReadError) (name : List ℕ) : Type 0 where
-  pub grows : Grows told old new
-  pub unknown : file_of (listing_of new) name ≡ None
-  pub sought : (listing : Listing) → Agrees listing new → file_of listing name ≡ None → outcome listing ≡ Err (Missing name)
-
--- a refusal that names a file names the one that is sought
-abbrev pub Seeks : {B : Type 0} → Option Listing → List File → List File → (Listing → Result B ReadError) → ReadError → Type 0
-Seeks told old new outcome (Missing name) = IsSought told old new outcome name
-Seeks told old new outcome (ReadFault name) = IsSought told old new outcome name
-Seeks told old new outcome _ = Unit {0}
-
--- A result that was returned, of a definition over listings: it is that of any listing that has the files that were read. A
--- refusal is that of the known listing, if no fault was counted.
-abbrev pub IsReading : {A B : Type 0} → Option Listing → Counts → Counts → List File → List File → (A → B) → (Listing → Result B ReadError)
-    → Result A ReadError → Type 0
-IsReading told before now old new view outcome (Ok value) =
-    Grows told old new × ((listing : Listing) → Agrees listing new → outcome listing ≡ Ok (view value))
-IsReading told before now old new view outcome (Err error) =
-    IsCaused before now error × Seeks told old new outcome error
-    × ((listing : Listing) → told ≡ Some listing → IsSteady before.faults now.faults → Agrees listing old → IsRefusal (outcome listing) error)
-
--- the bytes of a named file, if it is listed and has not too many
-abbrev pub text_of_listed : List ℕ → Option (List ℕ) → Result (List ℕ) ReadError
-text_of_listed name None = Err (Missing name)
-text_of_listed name (Some text) = if nat_lt (number_of FileBytes) (length text) then Err (passed FileBytes) else Ok text
-
--- a refusal that names a file names this one
-abbrev pub IsNamed : List ℕ → ReadError → Type 0
-IsNamed name (Missing missing) = missing ≡ name
-IsNamed name (ReadFault unread) = unread ≡ name
-IsNamed name _ = Unit {0}
-
--- what a read of a text says
-abbrev pub IsText : Option Listing → List ℕ → Counts → Counts → Result (List ℕ) ReadError → Type 0
-IsText told name before now (Ok text) = (length text ≤ number_of FileBytes) × IfSome told (λ listing. file_of listing name ≡ Some text)
-IsText told name before now (Err error) =
-    IsCaused before now error × IsNamed name error
-    × ((listing : Listing) → told ≡ Some listing → IsSteady before.faults now.faults → IsRefusal (text_of_listed name (file_of listing name)) error)
+-- A value that was returned, of a definition over listings: it is that of any listing that has the files that were read.
+-- What a refusal says is in `Reads.antt`.
+abbrev pub IsReading : {A B : Type 0} → List File → List File → (A → B) → (Listing → Result B ReadError) → Result A ReadError → Type 0
+IsReading old new view outcome (Ok value) = Grows old new × ((listing : Listing) → Agrees listing new → outcome listing ≡ Ok (view value))
+IsReading old new view outcome (Err error) = Unit {0}
 
 -- a file that is known, in what reading has come to
 abbrev pub found_of : Progress → Known → Found
@@ -107,10 +59,23 @@ FailsAs name end (Limit limit) = (limit ≡ record { kind = FileBytes; reached =
 FailsAs name end NoMemory = Unit {0}
 FailsAs name end _ = ⊥
 
--- bytes that were read
-abbrev pub seen_text : Result (Vec ℕ Global) ReadError → Result (List ℕ) ReadError
-seen_text (Ok text) = Ok text.items
-seen_text (Err error) = Err error
+-- the bytes that a read of the named file gave, or why it gave none, as the reader of texts answers
+abbrev pub AnswersText : List ℕ → Result (List ℕ) FileEnd → Result (Vec ℕ Global) ReadError → Type 0
+AnswersText name (Ok bytes) (Ok text) = text.items ≡ bytes
+AnswersText name (Err end) (Err error) = FailsAs name end error
+AnswersText name (Ok bytes) (Err error) = ⊥
+AnswersText name (Err end) (Ok text) = ⊥
+
+-- the read of a named file, of at most as many bytes as a file may have
+abbrev pub text_read : List ℕ → Result (List ℕ) FileEnd → Counts → Counts → Read
+text_read name answer before now = record { name = name; max = number_of FileBytes; answer = answer; before = before; now = now }
+
+-- one read of the named file was made, and the result is what it gave
+pub record IsText {F : Type 0} (leads : F → Read → F → Type 0) (first last : F) (name : List ℕ) (before now : Counts)
+    (result : Result (Vec ℕ Global) ReadError) : Type 0 where
+  pub answer : Result (List ℕ) FileEnd
+  pub led : leads first (text_read name answer before now) last
+  pub answers : AnswersText name answer result
 
 -- the tokens of an included file, and the state after its `#include`
 pub record Entry : Type 0 where
@@ -147,31 +112,7 @@ unit_by progress unit = record { unit = unit; progress = progress }
 abbrev pub units_by : Progress → List TranslationUnit → Units
 units_by progress units = record { units = units; progress = progress }
 
--- the files of a source, as a listing
-abbrev pub own_listing : Source → Listing
-own_listing source = zip source.names source.texts
-
 -- each of these files is listed
 abbrev pub AreListed : Listing → Listing → Type 0
 AreListed listing [] = Unit {0}
 AreListed listing (file ∷ files) = (file_of listing file.0 ≡ Some file.1) × AreListed listing files
-
--- some files, of the listing if one is known, of which alone the definition says that one of this name is missing
-abbrev pub IsUnread : Option Listing → List (List ℕ) → List ℕ → Type 0
-IsUnread told names name = (files : Listing) × IfSome told (λ listing. AreListed listing files) × (preprocessed files names ≡ Err (Missing name))
-
--- a refusal that names a file names one that is sought, and the count of its cause rose
-abbrev pub IsCausedBy : Option Listing → Counts → Counts → List (List ℕ) → ReadError → Type 0
-IsCausedBy told before now names (Missing name) = HasRisen before.misses now.misses × IsUnread told names name
-IsCausedBy told before now names (ReadFault name) = HasRisen before.faults now.faults × IsUnread told names name
-IsCausedBy told before now names _ = Unit {0}
-
--- What a reader of sources answers, of the listing if it is known, and of the source's own files in any case.
---     a source is the definition's
---     a refusal is the definition's, or that memory ran out, if no fault was counted
-abbrev pub IsPreprocessed : Option Listing → Counts → Counts → List (List ℕ) → Result Source ReadError → Type 0
-IsPreprocessed told before now names (Ok source) =
-    IfSome told (λ listing. preprocessed listing names ≡ Ok source) × (preprocessed (own_listing source) names ≡ Ok source)
-IsPreprocessed told before now names (Err error) =
-    IsCausedBy told before now names error
-    × IfSome told (λ listing. IsSteady before.faults now.faults → IsRefusal (preprocessed listing names) error)

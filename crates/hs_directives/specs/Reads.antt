@@ -1,71 +1,121 @@
--- The reads that a step makes, in their order. Which file is read next is said by the definition alone: it is the one that is
--- missing if the files that were read before it are listed and it is not.
---     IsNext outcome known name              the file of that name is the next one
---     AreReads told outcome known names read each of the names was the next one, and the files are what was read
---     AreBegun told outcome known names      the same, but that the last read may have given no file
---     Leads leads first names last           reads of these names, one after another, made of the files what they are
---     ReadsInTurn ..                         the reads of a step
---     AreFirstReads told names reads         the reads of the named files: what the numbers of files count
---     IsReadThrough ..                       the reads of a reader of sources
-use Rattle.std.specs.Prelude.{◌≡◌, ℕ, List, [], ◌∷◌, ◌++◌, Option, None, Some, Result, Ok, Err, IfSome}
-use Rattle.hs_base.specs.Files.{Listing, file_of}
+-- The reads that a step makes, in their order, and what its refusal says of them. Which file is read next is said by the
+-- definition alone: it is the one that is missing if the files that were read before it are listed and it is not.
+--     IsNext outcome known read              the file that the read asks for is the next one
+--     AreReads outcome known reads all       each read was the next one, and the files are what the reads gave
+--     AreBegun outcome known reads           the same, but that the last read may have given no file
+--     EndsAs reads error                     an error that names a file is that of the last read
+--     RefusesFor outcome files error         of these files, the definition refuses so
+--     ReadsInTurn ..                         the reads of a step, and what its refusal says
+--     AreFirstReads names reads              the reads of the named files: what the numbers of files count
+--     IsOutcome reads names result           what each answer of a reader of sources says of its reads
+--     IsReadThrough ..                       the reads of a reader of sources, with what it answers
+use Rattle.std.specs.Prelude.{◌≡◌, ℕ, List, [], ◌∷◌, ◌++◌, map, Option, None, Some, Result, Ok, Err}
+use Rattle.hs_base.specs.Files.{Listing, Read, file_of}
 use Rattle.hs_base.specs.Limit.{number_of}
+use Rattle.hs_base.specs.Reads.{Leads, OnLast, Fits, given}
+use Rattle.hs_base.specs.declared.errors.FileEnd.{FileEnd}
+use Rattle.hs_base.specs.declared.errors.FileEnd.TheVariants as ends
 use Rattle.hs_base.specs.declared.limit.LimitKind.TheVariants.{FileBytes}
 use Rattle.hs_directives.specs.Preprocessing.{preprocessed}
 use Rattle.hs_directives.specs.Readings.{AreListed, listing_of}
 use Rattle.hs_directives.specs.declared.error.ReadError.{ReadError}
-use Rattle.hs_directives.specs.declared.error.ReadError.TheVariants.{Missing}
+use Rattle.hs_directives.specs.declared.error.ReadError.TheVariants.{Missing, ReadFault, NoMemory}
 use Rattle.hs_directives.specs.declared.source.Source.{Source}
 use Rattle.hs_directives.specs.declared.state.File.{File}
 
--- if these files are listed and the named one is not, it is missing
-pub record IsNext {B : Type 0} (outcome : Listing → Result B ReadError) (known : Listing) (name : List ℕ) : Type 0 where
-  pub unknown : file_of known name ≡ None
-  pub missing : (listing : Listing) → AreListed listing known → file_of listing name ≡ None → outcome listing ≡ Err (Missing name)
+-- The read asks for a file, of at most as many bytes as a file may have. If the files that are known are listed and this one is
+-- not, it is missing.
+pub record IsNext {B : Type 0} (outcome : Listing → Result B ReadError) (known : Listing) (read : Read) : Type 0 where
+  pub whole : read.max ≡ number_of FileBytes
+  pub unknown : file_of known read.name ≡ None
+  pub missing : (listing : Listing) → AreListed listing known → file_of listing read.name ≡ None → outcome listing ≡ Err (Missing read.name)
 
--- the file of that name has these bytes, if the listing is known
-abbrev pub IsTold : Option Listing → List ℕ → List ℕ → Type 0
-IsTold told name text = IfSome told (λ listing. file_of listing name ≡ Some text)
+-- each read was the next one, and gave its file
+pub data AreReads {B : Type 0} (outcome : Listing → Result B ReadError) : Listing → List Read → Listing → Type 0 where
+  none : (known : Listing) → AreReads outcome known [] known
+  then : (known : Listing) (read : Read) (text : List ℕ) (reads : List Read) (all : Listing) → IsNext outcome known read
+      → read.answer ≡ Ok text → AreReads outcome (known ++ (read.name, text) ∷ []) reads all → AreReads outcome known (read ∷ reads) all
 
--- each name was the next one, and its file was read
-pub data AreReads {B : Type 0} (told : Option Listing) (outcome : Listing → Result B ReadError) : Listing → List (List ℕ) → Listing → Type 0 where
-  none : (known : Listing) → AreReads told outcome known [] known
-  then : (known : Listing) (name text : List ℕ) (names : List (List ℕ)) (read : Listing) → IsNext outcome known name → IsTold told name text
-      → AreReads told outcome (known ++ (name, text) ∷ []) names read → AreReads told outcome known (name ∷ names) read
+-- each read was the next one; the last of them may have given no file
+pub data AreBegun {B : Type 0} (outcome : Listing → Result B ReadError) : Listing → List Read → Type 0 where
+  none : (known : Listing) → AreBegun outcome known []
+  last : (known : Listing) (read : Read) → IsNext outcome known read → AreBegun outcome known (read ∷ [])
+  then : (known : Listing) (read : Read) (text : List ℕ) (reads : List Read) → IsNext outcome known read
+      → read.answer ≡ Ok text → AreBegun outcome (known ++ (read.name, text) ∷ []) reads → AreBegun outcome known (read ∷ reads)
 
--- each name was the next one; the last of them may have given no file
-pub data AreBegun {B : Type 0} (told : Option Listing) (outcome : Listing → Result B ReadError) : Listing → List (List ℕ) → Type 0 where
-  none : (known : Listing) → AreBegun told outcome known []
-  last : (known : Listing) (name : List ℕ) → IsNext outcome known name → AreBegun told outcome known (name ∷ [])
-  then : (known : Listing) (name text : List ℕ) (names : List (List ℕ)) → IsNext outcome known name → IsTold told name text
-      → AreBegun told outcome (known ++ (name, text) ∷ []) names → AreBegun told outcome known (name ∷ names)
+-- the last of the reads asked for that name, and ended so
+abbrev pub IsLast : List Read → List ℕ → FileEnd → Type 0
+IsLast reads name end = OnLast reads (λ read. (read.name ≡ name) × (read.answer ≡ Err end))
 
--- one read after another, each of at most as many bytes as a file may have
-abbrev pub Leads : {F : Type 0} → (F → List ℕ → ℕ → F → Type 0) → F → List (List ℕ) → F → Type 0
-Leads leads first [] final = final ≡ first
-Leads leads first (name ∷ names) final = (next : _) × leads first name (number_of FileBytes) next × Leads leads next names final
+-- an error that names a file is that of the last read
+abbrev pub EndsAs : List Read → ReadError → Type 0
+EndsAs reads (Missing name) = IsLast reads name ends.Missing
+EndsAs reads (ReadFault name) = IsLast reads name ends.Failed
+EndsAs reads _ = Unit {0}
 
--- the reads that led from the first files to the last: of all that was sought, or up to a refusal
-abbrev pub ReadsInTurn : {F A B : Type 0} → (F → List ℕ → ℕ → F → Type 0) → Option Listing → F → F → List File → List File
+-- Of these files, the definition refuses so. If a read failed, the file that it asked for is the one that is sought then. That
+-- memory ran out says nothing of files.
+abbrev pub RefusesFor : {B : Type 0} → (Listing → Result B ReadError) → Listing → ReadError → Type 0
+RefusesFor outcome files (ReadFault name) = file_of files name ≡ None → outcome files ≡ Err (Missing name)
+RefusesFor outcome files NoMemory = Unit {0}
+RefusesFor outcome files error = outcome files ≡ Err error
+
+-- the reads that led from the first files to the last, of all that was sought
+pub record WasRead {F B : Type 0} (leads : F → Read → F → Type 0) (first final : F) (old new : List File)
+    (outcome : Listing → Result B ReadError) : Type 0 where
+  pub reads : List Read
+  pub leads_on : Leads leads first reads final
+  pub in_turn : AreReads outcome (listing_of old) reads (listing_of new)
+
+-- The reads up to a refusal. It is the definition's, of any listing that has the files of before and that the reads fit.
+pub record WasRefused {F B : Type 0} (leads : F → Read → F → Type 0) (first final : F) (old : List File)
+    (outcome : Listing → Result B ReadError) (error : ReadError) : Type 0 where
+  pub reads : List Read
+  pub leads_on : Leads leads first reads final
+  pub begun : AreBegun outcome (listing_of old) reads
+  pub ends : EndsAs reads error
+  pub refuses : (listing : Listing) → AreListed listing (listing_of old) → Fits listing reads → RefusesFor outcome listing error
+
+-- the reads of a step: of all that was sought, or up to a refusal
+abbrev pub ReadsInTurn : {F A B : Type 0} → (F → Read → F → Type 0) → F → F → List File → List File
     → (Listing → Result B ReadError) → Result A ReadError → Type 0
-ReadsInTurn leads told first final old new outcome (Ok value) =
-    (names : List (List ℕ)) × Leads leads first names final × AreReads told outcome (listing_of old) names (listing_of new)
-ReadsInTurn leads told first final old new outcome (Err error) =
-    (names : List (List ℕ)) × Leads leads first names final × AreBegun told outcome (listing_of old) names
+ReadsInTurn leads first final old new outcome (Ok value) = WasRead leads first final old new outcome
+ReadsInTurn leads first final old new outcome (Err error) = WasRefused leads first final old outcome error
 
 -- The reads of the named files and their headers, in their order: a file's number is its place here, from 0.
-abbrev pub AreFirstReads : Option Listing → List (List ℕ) → List (List ℕ) → Type 0
-AreFirstReads told names reads = AreBegun told (λ listing. preprocessed listing names) [] reads
+abbrev pub AreFirstReads : List (List ℕ) → List Read → Type 0
+AreFirstReads names reads = AreBegun (λ listing. preprocessed listing names) [] reads
 
--- the names that were read are those of the source
-abbrev pub AreItsNames : Result Source ReadError → List (List ℕ) → Type 0
-AreItsNames (Ok source) reads = reads ≡ source.names
-AreItsNames (Err error) reads = Unit {0}
+-- The sources have the names and the bytes of the reads, in their order, and are the definition's of any files that the reads fit.
+pub record IsReadAs (reads : List Read) (names : List (List ℕ)) (source : Source) : Type 0 where
+  pub names_are : map (λ read. read.name) reads ≡ source.names
+  pub texts_are : map (λ read. read.answer) reads ≡ map (λ text. Ok text) source.texts
+  pub exact : (files : Listing) → Fits files reads → preprocessed files names ≡ Ok source
+  pub of_given : preprocessed (given reads) names ≡ Ok source
 
--- each file was read once, in the order of first reads, and no other was
-pub record IsReadThrough {F : Type 0} (leads : F → List ℕ → ℕ → F → Type 0) (told : Option Listing) (first last : F) (names : List (List ℕ))
+-- the files do not have the one whose read failed
+abbrev pub Lacks : Listing → ReadError → Type 0
+Lacks files (ReadFault name) = file_of files name ≡ None
+Lacks files _ = Unit {0}
+
+-- Reading is refused so, of any files that the reads fit, and there are such files. An error that names a file is that of the
+-- last read.
+pub record IsRefusedAs (reads : List Read) (names : List (List ℕ)) (error : ReadError) : Type 0 where
+  pub ends : EndsAs reads error
+  pub exact : (files : Listing) → Fits files reads → RefusesFor (λ listing. preprocessed listing names) files error
+  pub files : Listing
+  pub fits : Fits files reads
+  pub lacks : Lacks files error
+
+-- what each answer of a reader of sources says of its reads
+abbrev pub IsOutcome : List Read → List (List ℕ) → Result Source ReadError → Type 0
+IsOutcome reads names (Ok source) = IsReadAs reads names source
+IsOutcome reads names (Err error) = IsRefusedAs reads names error
+
+-- Each file was read once, in the order of first mentions, and no other was. The answer is the definition's, of what the reads gave.
+pub record IsReadThrough {F : Type 0} (leads : F → Read → F → Type 0) (first final : F) (names : List (List ℕ))
     (result : Result Source ReadError) : Type 0 where
-  pub reads : List (List ℕ)
-  pub leads_on : Leads leads first reads last
-  pub in_turn : AreFirstReads told names reads
-  pub all : AreItsNames result reads
+  pub reads : List Read
+  pub leads_on : Leads leads first reads final
+  pub in_turn : AreFirstReads names reads
+  pub outcome : IsOutcome reads names result

@@ -2,6 +2,7 @@
 
 ghost use Rattle.std.specs.Prelude.{◌≡◌, ◌<◌, IfOk};
 ghost use Rattle.hs_base.specs.Files.{NeverFall};
+ghost use Rattle.hs_base.specs.Reads.{Makes};
 ghost use Rattle.hs_directives.specs.Readings.{IsReading, entered_by, entry};
 ghost use Rattle.hs_directives.specs.Reads.{ReadsInTurn};
 
@@ -25,10 +26,9 @@ pub(crate) fn entry<F: Files>(
 ) -> Result<FileTokens, ReadError>
     ensures listing_stays { F.listing files.new ≡ F.listing files.old }
     ensures counts_stay_up { NeverFall (F.counts files.old) (F.counts files.new) }
-    ensures means { IsReading (F.listing files.old) (F.counts files.old) (F.counts files.new)
-        state.old.progress.files state.new.progress.files
+    ensures means { IsReading state.old.progress.files state.new.progress.files
         (entered_by state.new) (λ listing. entry levels listing hash.now line.now state.old) result }
-    ensures reads { ReadsInTurn F.leads_to (F.listing files.old) files.old files.new state.old.progress.files state.new.progress.files
+    ensures reads { ReadsInTurn (Makes F.leads_to F.listing F.counts) files.old files.new state.old.progress.files state.new.progress.files
         (λ listing. entry levels listing hash.now line.now state.old) result }
     ensures deep { IfOk result (λ _. 0 < levels) }
 {

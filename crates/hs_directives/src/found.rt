@@ -2,13 +2,14 @@
 
 ghost use Rattle.std.specs.Prelude.{◌≡◌, ◌≤◌, ◌<◌, length, IfOk};
 ghost use Rattle.hs_base.specs.Files.{NeverFall};
+ghost use Rattle.hs_base.specs.Limit.{number_of};
+ghost use Rattle.hs_base.specs.Reads.{Makes};
+ghost use Rattle.hs_base.specs.declared.limit.LimitKind.TheVariants.{FileBytes};
 ghost use Rattle.hs_tokens.specs.Scan.{scan_of};
 ghost use Rattle.hs_directives.specs.States.{of_scan, scanned_file, found_file};
-ghost use Rattle.hs_directives.specs.Readings.{FailsAs, IsText, IsReading, seen_text, found_of};
+ghost use Rattle.hs_directives.specs.Readings.{FailsAs, IsText, IsReading, found_of};
 ghost use Rattle.hs_directives.specs.Outcomes.{Gives, ReadsNone};
 ghost use Rattle.hs_directives.specs.Reads.{ReadsInTurn};
-ghost use Rattle.hs_base.specs.Limit.{number_of};
-ghost use Rattle.hs_base.specs.declared.limit.LimitKind.TheVariants.{FileBytes};
 
 use crate::error::{ReadError, ScanKind};
 use crate::file_tokens::FileTokens;
@@ -54,8 +55,8 @@ fn unread(alloc: Global, name: &str, end: FileEnd) -> ReadError
 fn text_of<F: Files>(alloc: Global, files: &mut F, name: &str) -> Result<Vec<u8>, ReadError>
     ensures listing_stays { F.listing files.new ≡ F.listing files.old }
     ensures counts_stay_up { NeverFall (F.counts files.old) (F.counts files.new) }
-    ensures one_read { F.leads_to files.old name.now (number_of FileBytes) files.new }
-    ensures means { IsText (F.listing files.old) name.now (F.counts files.old) (F.counts files.new) (seen_text result) }
+    ensures read { IsText (Makes F.leads_to F.listing F.counts) files.old files.new name.now (F.counts files.old) (F.counts files.new) result }
+    ensures short { IfOk result (λ text. length text.items ≤ number_of FileBytes) }
 {
     let mut text = Vec::new(alloc);
     match files.read(name, 4_194_304, &mut text) {
@@ -101,9 +102,9 @@ pub(crate) fn found_file<F: Files>(
 ) -> Result<Known, ReadError>
     ensures listing_stays { F.listing files.new ≡ F.listing files.old }
     ensures counts_stay_up { NeverFall (F.counts files.old) (F.counts files.new) }
-    ensures means { IsReading (F.listing files.old) (F.counts files.old) (F.counts files.new) progress.old.files progress.new.files
+    ensures means { IsReading progress.old.files progress.new.files
         (found_of progress.new) (λ listing. found_file listing name.now progress.old) result }
-    ensures reads { ReadsInTurn F.leads_to (F.listing files.old) files.old files.new progress.old.files progress.new.files
+    ensures reads { ReadsInTurn (Makes F.leads_to F.listing F.counts) files.old files.new progress.old.files progress.new.files
         (λ listing. found_file listing name.now progress.old) result }
 {
     if let Some(known) = progress.files.known(name.as_bytes())? {

@@ -3,8 +3,9 @@
 ghost use Rattle.std.specs.Prelude.{◌≡◌, IfOk, map, List, ℕ};
 ghost use Rattle.std.specs.String.{string_bytes};
 ghost use Rattle.hs_base.specs.Files.{NeverFall};
+ghost use Rattle.hs_base.specs.Reads.{Makes};
 ghost use Rattle.hs_directives.specs.Preprocessing.{fresh, start, units_of, source_of};
-ghost use Rattle.hs_directives.specs.Readings.{IsReading, units_by, IsPreprocessed};
+ghost use Rattle.hs_directives.specs.Readings.{IsReading, units_by};
 ghost use Rattle.hs_directives.specs.Reads.{ReadsInTurn, IsReadThrough};
 
 use crate::changes::UnitChanges;
@@ -44,10 +45,9 @@ fn units_of<F: Files>(
     requires { state.old.unit ≡ fresh }
     ensures listing_stays { F.listing files.new ≡ F.listing files.old }
     ensures counts_stay_up { NeverFall (F.counts files.old) (F.counts files.new) }
-    ensures means { IsReading (F.listing files.old) (F.counts files.old) (F.counts files.new)
-        state.old.progress.files state.new.progress.files
+    ensures means { IsReading state.old.progress.files state.new.progress.files
         (λ units. units_by state.new.progress units.items) (λ listing. units_of listing (map string_bytes roots.now) state.old.progress) result }
-    ensures reads { ReadsInTurn F.leads_to (F.listing files.old) files.old files.new state.old.progress.files state.new.progress.files
+    ensures reads { ReadsInTurn (Makes F.leads_to F.listing F.counts) files.old files.new state.old.progress.files state.new.progress.files
         (λ listing. units_of listing (map string_bytes roots.now) state.old.progress) result }
 {
     let mut units = Vec::new(alloc);
@@ -120,9 +120,9 @@ pub fn preprocess<F: Files>(
 ) -> Result<Source, ReadError>
     ensures listing_stays { F.listing files.new ≡ F.listing files.old }
     ensures counts_stay_up { NeverFall (F.counts files.old) (F.counts files.new) }
-    ensures means { IsPreprocessed (F.listing files.old) (F.counts files.old) (F.counts files.new) (map string_bytes roots.now) result }
-    // Each file was read once, in the order of its number, and no other.
-    ensures reads { IsReadThrough F.leads_to (F.listing files.old) files.old files.new (map string_bytes roots.now) result }
+    // Each file was read once, in the order of its number, and no other; and the answer is the definition's, of what the
+    // reads gave.
+    ensures reads { IsReadThrough (Makes F.leads_to F.listing F.counts) files.old files.new (map string_bytes roots.now) result }
 {
     let mut state = State {
         progress: start(alloc),

@@ -2,6 +2,7 @@
 
 ghost use Rattle.std.specs.Prelude.{◌≡◌, IfOk, IfErr, OnOk};
 ghost use Rattle.hs_base.specs.Files.{NeverFall};
+ghost use Rattle.hs_base.specs.Reads.{Makes};
 ghost use Rattle.hs_directives.specs.Preprocessing.{fresh, unit_of};
 ghost use Rattle.hs_directives.specs.Readings.{IsReading, unit_by};
 ghost use Rattle.hs_directives.specs.Reads.{ReadsInTurn};
@@ -51,10 +52,9 @@ pub(crate) fn unit_of<F: Files>(
     requires { state.old.unit ≡ fresh }
     ensures listing_stays { F.listing files.new ≡ F.listing files.old }
     ensures counts_stay_up { NeverFall (F.counts files.old) (F.counts files.new) }
-    ensures means { IsReading (F.listing files.old) (F.counts files.old) (F.counts files.new)
-        state.old.progress.files state.new.progress.files
+    ensures means { IsReading state.old.progress.files state.new.progress.files
         (unit_by state.new.progress) (λ listing. unit_of listing name.now state.old.progress) result }
-    ensures reads { ReadsInTurn F.leads_to (F.listing files.old) files.old files.new state.old.progress.files state.new.progress.files
+    ensures reads { ReadsInTurn (Makes F.leads_to F.listing F.counts) files.old files.new state.old.progress.files state.new.progress.files
         (λ listing. unit_of listing name.now state.old.progress) result }
     ensures again { OnOk result (state.new.unit ≡ fresh) }
 {

@@ -1,6 +1,7 @@
 //! Goes through the pieces of a file.
 
 ghost use Rattle.hs_base.specs.Files.{NeverFall};
+ghost use Rattle.hs_base.specs.Reads.{Makes};
 ghost use Rattle.hs_directives.specs.Pieces.{pieces};
 ghost use Rattle.hs_directives.specs.Preprocessing.{walked, entered};
 ghost use Rattle.hs_directives.specs.Readings.{IsReading};
@@ -30,10 +31,9 @@ pub(crate) fn walk<F: Files>(
 ) -> Result<(), ReadError>
     ensures listing_stays { F.listing files.new ≡ F.listing files.old }
     ensures counts_stay_up { NeverFall (F.counts files.old) (F.counts files.new) }
-    ensures means { IsReading (F.listing files.old) (F.counts files.old) (F.counts files.new)
-        state.old.progress.files state.new.progress.files
+    ensures means { IsReading state.old.progress.files state.new.progress.files
         (λ _. state.new) (λ listing. walked (entered levels listing) outer (pieces file.now) [] state.old) result }
-    ensures reads { ReadsInTurn F.leads_to (F.listing files.old) files.old files.new state.old.progress.files state.new.progress.files
+    ensures reads { ReadsInTurn (Makes F.leads_to F.listing F.counts) files.old files.new state.old.progress.files state.new.progress.files
         (λ listing. walked (entered levels listing) outer (pieces file.now) [] state.old) result }
 {
     let mut sections = Sections::new(alloc);
