@@ -2,6 +2,8 @@
 use Rattle.std.proofs.Common.{◌≡◌, ◌⊎◌, ℕ, ◌<◌, List, sym, subst, ◌∙◌, inl, inr, arith, refl, if◌then◌else◌, ◌==◌, false, Some, None, Result, Ok, Err}
 use Rattle.std.proofs.lemmas.Bool.Decides.{nat_tests}
 use Rattle.hs_base.specs.Count.{HasRisen}
+use Rattle.hs_base.specs.Files.{Read}
+use Rattle.hs_base.specs.Reads.{Leads, AreRight}
 use Rattle.hs_base.specs.Sink.{IsPut}
 use Rattle.hs_base.specs.declared.errors.Failed.{Failed}
 use Rattle.hs_base.specs.declared.limit.Limit.{Limit}
@@ -13,7 +15,6 @@ use Rattle.hs_directives.specs.declared.error.ReadError.{ReadError}
 use Rattle.hs_directives.specs.declared.error.ReadError.TheVariants as reading
 use Rattle.hs_directives.specs.declared.source.Source.{Source}
 use Rattle.hs_words.specs.Words.{IsCheck, IsNoCheck}
-use Rattle.hs_directives.specs.Reads.{Leads}
 use Rattle.hs_checker.specs.Source.{IsTheProgram, SpellsNone, AreParsed, HasSyntaxAt, IsTooDeep}
 use Rattle.handlecheck.specs.Causes.{Spells, IsBut, Checks, AreFaulty, HaveSyntax, ArePast, AreUnread, Headline, HasCauses, IsRejected}
 use Rattle.handlecheck.specs.Faults.{placed_by}
@@ -24,6 +25,7 @@ use Rattle.handlecheck.specs.declared.report.Report.TheVariants.{Accepted, Hazar
 use Rattle.handlecheck.specs.declared.status.Status.{Status}
 use Rattle.handlecheck.specs.declared.status.Status.TheVariants as status
 use Rattle.handlecheck.proofs.Outcomes.{Agrees, agrees, same_count}
+use Rattle.handlecheck.proofs.Reads.{miss_rose, fault_rose, fault_rose_last}
 use Rattle.handlecheck.proofs.Units.{parsed-no_syntax, parsed-not_deep, syntax-not_deep}
 
 -- an answer is Unwritten and a fault was counted, or it is the report's status
@@ -79,7 +81,7 @@ no_check : (words names : List (List ℕ)) → IsNoCheck words → IsCheck words
 no_check words names (inl other) is_check = other is_check.command
 no_check words names (inr refused) is_check = refused is_check.taken
 
-module _ (call : Call) (answer : Status) (reads : List (List ℕ)) where
+module _ (call : Call) (answer : Status) (right : AreRight call.told call.before call.now call.reads) where
   -- ---- what is so where a status came
 
   -- the status is that of the report, or the put was cut
@@ -89,7 +91,7 @@ module _ (call : Call) (answer : Status) (reads : List (List ℕ)) where
 
   -- accepted files are a safe program
   pub headline_by : (report : Report) → ((tree : Straight) → HasStaleUses tree 0 → IsSafe tree)
-      → IsReport call.told call.words reads call.before call.now report → answer ≡ status_of report → Headline call answer
+      → IsReport call.words call.reads report → answer ≡ status_of report → Headline call answer
   headline_by Accepted safe (names, is_check, (source, read, are, (tree, program, counted))) is_status done =
       (names, is_check, (source, read, are, (tree, program, safe tree counted)))
   headline_by (Hazards count) safe is_report is_status done = absurd (cc)
@@ -214,7 +216,7 @@ module _ (call : Call) (answer : Status) (reads : List (List ℕ)) where
 
   -- ---- what is so where a status came
 
-  hazards_only : (report : Report) → IsReport call.told call.words reads call.before call.now report
+  hazards_only : (report : Report) → IsReport call.words call.reads report
       → IsPutAs (text_of report) (status_of report) call.old call.new answer
       → answer ≡ status.Hazards → answer ≡ status_of report → Checks call (IsRejected call)
   hazards_only (Hazards count) (names, is_check, (some, program)) put came is_status =
@@ -228,8 +230,8 @@ module _ (call : Call) (answer : Status) (reads : List (List ℕ)) where
   hazards_only (Limited limit) is_report put came is_status = absurd (cc)
   hazards_only NoMemory is_report put came is_status = absurd (cc)
 
-  refused_only : (report : Report) → IsReport call.told call.words reads call.before call.now report
-      → answer ≡ status.Refused → answer ≡ status_of report → Checks call (λ names. AreFaulty call names ⊎ HaveSyntax call names ⊎ AreUnbuilt call.told names)
+  refused_only : (report : Report) → IsReport call.words call.reads report
+      → answer ≡ status.Refused → answer ≡ status_of report → Checks call (λ names. AreFaulty call names ⊎ HaveSyntax call names ⊎ AreUnbuilt call.reads names)
   refused_only (Refused refusal) (names, is_check, inl (error, placed, refused, named)) came is_status =
       (names, is_check, inl (error, ((refusal.fault, refusal.pos), placed), refused))
   refused_only (Refused refusal) (names, is_check, inr (fault, have, named)) came is_status = (names, is_check, inr (inl (refusal.pos, have)))
@@ -242,7 +244,7 @@ module _ (call : Call) (answer : Status) (reads : List (List ℕ)) where
   refused_only (Limited limit) is_report came is_status = absurd (cc)
   refused_only NoMemory is_report came is_status = absurd (cc)
 
-  usage_only : (report : Report) → IsReport call.told call.words reads call.before call.now report → answer ≡ status.Usage
+  usage_only : (report : Report) → IsReport call.words call.reads report → answer ≡ status.Usage
       → answer ≡ status_of report → IsNoCheck call.words
   usage_only Usage is_report came is_status = is_report
   usage_only Accepted is_report came is_status = absurd (cc)
@@ -255,7 +257,7 @@ module _ (call : Call) (answer : Status) (reads : List (List ℕ)) where
   usage_only NoMemory is_report came is_status = absurd (cc)
 
   -- words that are no command get the usage line
-  usage : (report : Report) → IsReport call.told call.words reads call.before call.now report → IsNoCheck call.words
+  usage : (report : Report) → IsReport call.words call.reads report → IsNoCheck call.words
       → answer ≡ status_of report → IsBut status.Usage answer
   usage Usage is_report none is_status = inl is_status
   usage NoMemory is_report none is_status = inr (inr is_status)
@@ -267,10 +269,15 @@ module _ (call : Call) (answer : Status) (reads : List (List ℕ)) where
   usage (Unread name) (names, is_check, is) none is_status = absurd (no_check call.words names none is_check)
   usage (Limited limit) (names, is_check, is) none is_status = absurd (no_check call.words names none is_check)
 
-  unread_only : (report : Report) → IsReport call.told call.words reads call.before call.now report → answer ≡ status.Unread
+  unread_only : (report : Report) → IsReport call.words call.reads report → answer ≡ status.Unread
       → answer ≡ status_of report → Checks call (AreUnread call)
-  unread_only (Missing name) (names, is_check, is) came is_status = (names, is_check, (name, inl is))
-  unread_only (Unread name) (names, is_check, is) came is_status = (names, is_check, (name, inr is))
+  unread_only (Missing name) (names, is_check, is) came is_status =
+      (names, is_check, (name, inl (is, miss_rose call.told call.before call.now call.reads name right is.ends)))
+  unread_only (Unread name) (names, is_check, is) came is_status = (names, is_check, (name, inr (
+    is,
+    fault_rose_last call.told call.before call.now call.reads name right is.ends,
+    fault_rose call.told call.before call.now call.reads name right is.ends,
+  )))
   unread_only Accepted is_report came is_status = absurd (cc)
   unread_only (Hazards count) is_report came is_status = absurd (cc)
   unread_only (Refused refusal) is_report came is_status = absurd (cc)
@@ -279,8 +286,8 @@ module _ (call : Call) (answer : Status) (reads : List (List ℕ)) where
   unread_only (Limited limit) is_report came is_status = absurd (cc)
   unread_only NoMemory is_report came is_status = absurd (cc)
 
-  limited_only : (report : Report) → IsReport call.told call.words reads call.before call.now report → answer ≡ status.Limited → answer ≡ status_of report
-      → Checks call (λ names. ArePast call names ⊎ AreTooDeep call.told names)
+  limited_only : (report : Report) → IsReport call.words call.reads report → answer ≡ status.Limited → answer ≡ status_of report
+      → Checks call (λ names. ArePast call names ⊎ AreTooDeep call.reads names)
   limited_only (Limited limit) (names, is_check, inl is) came is_status = (names, is_check, inl (limit, is))
   limited_only (Limited limit) (names, is_check, inr (is, same)) came is_status = (names, is_check, inr is)
   limited_only Accepted is_report came is_status = absurd (cc)
@@ -315,49 +322,47 @@ module _ (call : Call) (answer : Status) (reads : List (List ℕ)) where
   unwritten_only report (whole is_status) came = absurd (no_cut report came is_status)
 
   -- each status has its cause
-  pub causes_by : (report : Report) → IsReport call.told call.words reads call.before call.now report
+  pub causes_by : (report : Report) → IsReport call.words call.reads report
       → IsPutAs (text_of report) (status_of report) call.old call.new answer
       → IsCause report answer call.old call.new → HasCauses call answer
   causes_by report is_report put caused = record {
     accepted = λ source tree asks are spells counted. but report status.Done caused
-        (judged report source tree 0 (agrees call (Ok source) asks reads report is_report) are spells counted);
+        (judged report source tree 0 (agrees call (Ok source) asks right report is_report) are spells counted);
     hazards_only = λ came. hazards_only report is_report put came (whole_put report status.Hazards caused came (λ is. absurd cc));
     hazards = λ source tree count asks are spells counted some. but report status.Hazards caused (λ is_status.
-        rw (above-zero count some) at (judged report source tree count (agrees call (Ok source) asks reads report is_report) are spells counted is_status));
+        rw (above-zero count some) at (judged report source tree count (agrees call (Ok source) asks right report is_report) are spells counted is_status));
     refused_only = λ came. refused_only report is_report came (whole_put report status.Refused caused came (λ is. absurd cc));
     refused = λ error place asks placed.
-        but report status.Refused caused (faulty report error place (agrees call (Err error) asks reads report is_report) placed);
-    syntax = λ source pos asks has. but report status.Refused caused (syntax report source pos (agrees call (Ok source) asks reads report is_report) has);
-    unbuilt = λ source asks are none. but report status.Refused caused (unbuilt report source (agrees call (Ok source) asks reads report is_report) are none);
+        but report status.Refused caused (faulty report error place (agrees call (Err error) asks right report is_report) placed);
+    syntax = λ source pos asks has. but report status.Refused caused (syntax report source pos (agrees call (Ok source) asks right report is_report) has);
+    unbuilt = λ source asks are none. but report status.Refused caused (unbuilt report source (agrees call (Ok source) asks right report is_report) are none);
     usage_only = λ came. usage_only report is_report came (whole_put report status.Usage caused came (λ is. absurd cc));
     usage = λ none. but report status.Usage caused (usage report is_report none);
     unread_only = λ came. unread_only report is_report came (whole_put report status.Unread caused came (λ is. absurd cc));
-    missing = λ name asks. but report status.Unread caused (missing report name (agrees call (Err (reading.Missing name)) asks reads report is_report));
+    missing = λ name asks. but report status.Unread caused (missing report name (agrees call (Err (reading.Missing name)) asks right report is_report));
     limited_only = λ came. limited_only report is_report came (whole_put report status.Limited caused came (λ is. absurd cc));
-    limited = λ limit asks. but report status.Limited caused (past report limit (agrees call (Err (reading.Limit limit)) asks reads report is_report));
-    deep = λ source asks is. but report status.Limited caused (deep report source (agrees call (Ok source) asks reads report is_report) is);
+    limited = λ limit asks. but report status.Limited caused (past report limit (agrees call (Err (reading.Limit limit)) asks right report is_report));
+    deep = λ source asks is. but report status.Limited caused (deep report source (agrees call (Ok source) asks right report is_report) is);
     unwritten_only = unwritten_only report caused;
   }
 
 -- a whole call
-pub headline_of : {F : Type 0} (leads : F → List ℕ → ℕ → F → Type 0) (first final : F) (call : Call) (answer : Status)
-    → ((tree : Straight) → HasStaleUses tree 0 → IsSafe tree)
-    → IsAnswered leads first final call answer → Headline call answer
-headline_of leads first final call answer safe answered =
+pub headline_of : (call : Call) (answer : Status) → ((tree : Straight) → HasStaleUses tree 0 → IsSafe tree)
+    → IsAnswered call answer → Headline call answer
+headline_of call answer safe answered =
     go (cause answered.report answer call.old call.new answered.is_put) where
       go : IsCause answered.report answer call.old call.new → Headline call answer
       go (cut unwritten fault) = λ done. absurd (cc)
-      go (whole is_status) = headline_by call answer answered.reads answered.report safe answered.is_report is_status
+      go (whole is_status) = headline_by call answer answered.right answered.report safe answered.is_report is_status
 
-pub causes_of : {F : Type 0} (leads : F → List ℕ → ℕ → F → Type 0) (first final : F) (call : Call) (answer : Status)
-    → IsAnswered leads first final call answer → HasCauses call answer
-causes_of leads first final call answer answered =
-    causes_by call answer answered.reads answered.report answered.is_report answered.is_put (cause answered.report answer call.old call.new answered.is_put)
+pub causes_of : (call : Call) (answer : Status) → IsAnswered call answer → HasCauses call answer
+causes_of call answer answered =
+    causes_by call answer answered.right answered.report answered.is_report answered.is_put (cause answered.report answer call.old call.new answered.is_put)
 
 -- if the words are no command, nothing is read
-pub nothing_read : {F : Type 0} (leads : F → List ℕ → ℕ → F → Type 0) (first final : F) (call : Call) (answer : Status)
-    → IsAnswered leads first final call answer → IsNoCheck call.words → final ≡ first
-nothing_read leads first final call answer answered none = go answered.asked where
-  go : AreAsked call.told call.words answered.reads → final ≡ first
-  go (inl nothing) = subst (λ (reads : List (List ℕ)). Leads leads first reads final) nothing answered.leads_on
+pub nothing_read : {F : Type 0} {leads : F → Read → F → Type 0} (first last : F) (call : Call) (answer : Status)
+    → Leads leads first call.reads last → IsAnswered call answer → IsNoCheck call.words → last ≡ first
+nothing_read {leads = leads} first last call answer led answered none = go answered.asked where
+  go : AreAsked call.words call.reads → last ≡ first
+  go (inl nothing) = subst (λ (reads : List Read). Leads leads first reads last) nothing led
   go (inr asked) = absurd (no_check call.words asked.0 none asked.1)

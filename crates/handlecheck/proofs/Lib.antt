@@ -1,5 +1,6 @@
 pub mod Answering
 pub mod Causes
 pub mod Outcomes
+pub mod Reads
 pub mod Through
 pub mod Units

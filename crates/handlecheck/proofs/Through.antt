@@ -1,7 +1,9 @@
 -- Reads through named files are reads of the files after them, and their names are noted in order.
-use Rattle.std.proofs.Common.{◌≡◌, ℕ, List, [], ◌∷◌, ◌++◌, Some, None, sym, ap, subst, ◌∙◌, append-nil, append_assoc}
+use Rattle.std.proofs.Common.{◌≡◌, ℕ, List, [], ◌∷◌, ◌++◌, Option, Some, None, sym, ap, subst, ◌∙◌, append-nil, append_assoc}
 use Rattle.std.specs.Prelude.{IfSome, IsSomeAnd}
-use Rattle.hs_directives.specs.Reads.{Leads}
+use Rattle.hs_base.specs.Files.{Listing, Counts, Read}
+use Rattle.hs_base.specs.Reads.{Makes, Leads}
+use Rattle.handlecheck.specs.Report.{names_of}
 use Rattle.handlecheck.specs.Names.{Names, IsNoted}
 
 -- if the names are there, these follow those before
@@ -22,25 +24,40 @@ noted_more None (Some between) (Some names) name reads first later = absurd firs
 noted_more (Some earlier) (Some between) (Some names) name reads first later =
     later ∙ ap (λ (list : List (List ℕ)). list ++ reads) first ∙ append_assoc earlier (name ∷ []) reads
 
-module _ {N F R S : Type 0} (files : N → F) (reference : N → R) (noting : N → S) (names : N → Names) (leads : F → List ℕ → ℕ → F → Type 0) where
+module _ {N F R S : Type 0} (files : N → F) (reference : N → R) (noting : N → S) (names : N → Names) (leads : F → Read → F → Type 0)
+    (listing : F → Option Listing) (counts : F → Counts) where
   -- a read through them
-  abbrev pub LeadsThrough : N → List ℕ → ℕ → N → Type 0
-  LeadsThrough old name max new =
-      (reference new ≡ reference old) × (noting new ≡ noting old) × leads (files old) name max (files new)
-      × IsNoted (names old) name (names new)
+  abbrev pub LeadsThrough : N → Read → N → Type 0
+  LeadsThrough old read new =
+      (reference new ≡ reference old) × (noting new ≡ noting old) × leads (files old) read (files new)
+      × IsNoted (names old) read.name (names new)
+
+  -- what it made of them it made of the files behind them
+  abbrev pub MakesThrough : N → Read → N → Type 0
+  MakesThrough = Makes LeadsThrough (λ it. listing (files it)) (λ it. counts (files it))
+
+  made_behind : (old : N) (read : Read) (new : N) → MakesThrough old read new → Makes leads listing counts (files old) read (files new)
+  made_behind old read new it = record {
+    led = it.led.2;
+    listing_stays = it.listing_stays;
+    before = it.before;
+    now = it.now;
+    never_fall = it.never_fall;
+    right = it.right;
+  }
 
   -- many of them
-  pub leads_through : (first final : N) (reads : List (List ℕ)) → Leads LeadsThrough first reads final
-      → (reference final ≡ reference first) × (noting final ≡ noting first) × Leads leads (files first) reads (files final)
-      × AreNoted (names first) reads (names final)
-  leads_through first final [] is =
+  pub leads_through : (first last : N) (reads : List Read) → Leads MakesThrough first reads last
+      → (reference last ≡ reference first) × (noting last ≡ noting first) × Leads (Makes leads listing counts) (files first) reads (files last)
+      × AreNoted (names first) (names_of reads) (names last)
+  leads_through first last [] is =
       (ap reference is, ap noting is, ap files is, subst (λ (it : N). AreNoted (names first) [] (names it)) (sym is) (noted_none (names first)))
-  leads_through first final (name ∷ reads) step =
-      let later = leads_through step.0 final reads step.2 in (
-        later.0 ∙ step.1.0,
-        later.1 ∙ step.1.1,
-        (files step.0, step.1.2, later.2),
-        noted_more (names first) (names step.0) (names final) name reads step.1.3 later.3,
+  leads_through first last (read ∷ reads) step =
+      let later = leads_through step.0 last reads step.2 in (
+        later.0 ∙ step.1.led.0,
+        later.1 ∙ step.1.led.1,
+        (files step.0, made_behind first read step.0 step.1, later.2),
+        noted_more (names first) (names step.0) (names last) read.name (names_of reads) step.1.led.3 later.3,
       )
 
 -- if none was noted before, they are the names that were read

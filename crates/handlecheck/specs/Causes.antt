@@ -1,10 +1,12 @@
 -- The causes of each status of the program, and the headline. Own to this project.
+-- What is said of files is said of the bytes that the reads of the call gave, and `Asks` of those of a listing that is known.
 --     Asks call outcome           the words ask for files that are known, and reading gives this outcome
 --     Headline call answer        an accepted program is safe
 --     HasCauses call answer       when each status comes, and when it must come
-use Rattle.std.specs.Prelude.{◌≡◌, ◌⊎◌, ℕ, ◌<◌, List, [], ◌∷◌, Option, Some, Result, Ok, Err}
+use Rattle.std.specs.Prelude.{◌≡◌, ◌⊎◌, ℕ, ◌<◌, List, [], ◌∷◌, Some, Result, Ok, Err}
 use Rattle.hs_base.specs.Count.{HasRisen, IsSteady}
-use Rattle.hs_base.specs.Files.{Listing}
+use Rattle.hs_base.specs.Files.{Listing, Read}
+use Rattle.hs_base.specs.Reads.{OnLast}
 use Rattle.hs_base.specs.declared.limit.Limit.{Limit}
 use Rattle.hs_base.specs.declared.pos.Pos.{Pos}
 use Rattle.hs_tokens.specs.declared.token.SourceToken.{SourceToken}
@@ -12,12 +14,13 @@ use Rattle.hs_tree.specs.declared.straight.tree.Straight.{Straight}
 use Rattle.hs_meaning.specs.Straight.Run.{IsSafe}
 use Rattle.hs_meaning.specs.Straight.StaleUses.{HasStaleUses}
 use Rattle.hs_directives.specs.Preprocessing.{preprocessed}
+use Rattle.hs_directives.specs.Reads.{IsReadAs, IsRefusedAs}
 use Rattle.hs_directives.specs.declared.error.ReadError.{ReadError}
 use Rattle.hs_directives.specs.declared.error.ReadError.TheVariants as reading
 use Rattle.hs_directives.specs.declared.source.Source.{Source}
 use Rattle.hs_words.specs.Words.{IsCheck, IsNoCheck}
 use Rattle.hs_checker.specs.Straight.Grammar.{IsStraight}
-use Rattle.hs_checker.specs.Source.{IsTheProgram, SpellsNone, AreParsed, HasSyntaxAt, IsTooDeep, IsReadAs, IsRefusedAs}
+use Rattle.hs_checker.specs.Source.{IsTheProgram, SpellsNone, AreParsed, HasSyntaxAt, IsTooDeep}
 use Rattle.handlecheck.specs.Faults.{placed_by}
 use Rattle.handlecheck.specs.Report.{Call, IsPutAs, text_of, HasProgramOf, AreUnbuilt, HaveSyntaxAt, AreTooDeep}
 use Rattle.handlecheck.specs.declared.fault.Fault.{Fault}
@@ -48,38 +51,46 @@ Checks call P = (names : List (List ℕ)) × IsCheck call.words names × P names
 
 -- The named files are one straight program, whose unit is one of the grammar, and it is safe, for every input, number of turns
 -- and schedule of moves.
-abbrev pub AreSafe : Option Listing → List (List ℕ) → Type 0
-AreSafe told names =
-    (source : Source) × IsReadAs told names source × AreParsed source.units × ((tree : Straight) × IsTheProgram source tree × IsSafe tree)
+abbrev pub AreSafe : List Read → List (List ℕ) → Type 0
+AreSafe reads names =
+    (source : Source) × IsReadAs reads names source × AreParsed source.units × ((tree : Straight) × IsTheProgram source tree × IsSafe tree)
 
--- the headline: accepted files are a straight program and safe
+-- the headline: accepted files, as the reads of the call gave them, are a straight program and safe
 abbrev pub Headline : Call → Status → Type 0
-Headline call answer = answer ≡ status.Done → Checks call (AreSafe call.told)
+Headline call answer = answer ≡ status.Done → Checks call (AreSafe call.reads)
 
 -- the program has stale uses, and their number was put
 abbrev pub IsRejected : Call → List (List ℕ) → Type 0
 IsRejected call names =
-    (count : ℕ) × (0 < count) × HasProgramOf count call.told names × IsPutAs (text_of (Hazards count)) status.Hazards call.old call.new status.Hazards
+    (count : ℕ) × (0 < count) × HasProgramOf count call.reads names × IsPutAs (text_of (Hazards count)) status.Hazards call.old call.new status.Hazards
 
 -- reading refuses, at a place
 abbrev pub AreFaulty : Call → List (List ℕ) → Type 0
 AreFaulty call names =
-    (error : ReadError) × ((place : Fault × Pos) × (placed_by error ≡ Some place)) × IsRefusedAs call.told names call.before call.now error
+    (error : ReadError) × ((place : Fault × Pos) × (placed_by error ≡ Some place)) × IsRefusedAs call.reads names error
 
 -- a unit is not in the grammar, at a place
 abbrev pub HaveSyntax : Call → List (List ℕ) → Type 0
-HaveSyntax call names = (pos : Pos) × HaveSyntaxAt call.told names pos
+HaveSyntax call names = (pos : Pos) × HaveSyntaxAt call.reads names pos
+
+-- the file that is asked for last is missing: a miss was counted
+abbrev pub IsMissing : Call → List (List ℕ) → List ℕ → Type 0
+IsMissing call names name = IsRefusedAs call.reads names (reading.Missing name) × HasRisen call.before.misses call.now.misses
+
+-- the read of the file that is asked for last failed: a fault was counted, by this very read
+abbrev pub IsUnread : Call → List (List ℕ) → List ℕ → Type 0
+IsUnread call names name =
+    IsRefusedAs call.reads names (reading.ReadFault name)
+    × OnLast call.reads (λ read. (read.name ≡ name) × HasRisen read.before.faults read.now.faults)
+    × HasRisen call.before.faults call.now.faults
 
 -- a file that is asked for is missing, or its read failed
 abbrev pub AreUnread : Call → List (List ℕ) → Type 0
-AreUnread call names =
-    (name : List ℕ)
-    × (IsRefusedAs call.told names call.before call.now (reading.Missing name)
-    ⊎ IsRefusedAs call.told names call.before call.now (reading.ReadFault name))
+AreUnread call names = (name : List ℕ) × (IsMissing call names name ⊎ IsUnread call names name)
 
 -- a quantity passed its limit in reading
 abbrev pub ArePast : Call → List (List ℕ) → Type 0
-ArePast call names = (limit : Limit) × IsRefusedAs call.told names call.before call.now (reading.Limit limit)
+ArePast call names = (limit : Limit) × IsRefusedAs call.reads names (reading.Limit limit)
 
 -- The causes of each status. A field with `only` in its name says what is so where the status came; its fellow says where
 -- it must come, unless the write failed or memory ran out.
@@ -92,7 +103,7 @@ pub record HasCauses (call : Call) (answer : Status) : Type 0 where
   pub hazards : (source : Source) (tree : Straight) (count : ℕ) → Asks call (Ok source) → AreParsed source.units → Spells source tree
       → HasStaleUses tree count → 0 < count → IsBut status.Hazards answer
   -- Refused: reading refuses at a place, or a unit is not in the grammar, or the files are no straight program
-  pub refused_only : answer ≡ status.Refused → Checks call (λ names. AreFaulty call names ⊎ HaveSyntax call names ⊎ AreUnbuilt call.told names)
+  pub refused_only : answer ≡ status.Refused → Checks call (λ names. AreFaulty call names ⊎ HaveSyntax call names ⊎ AreUnbuilt call.reads names)
   pub refused : (error : ReadError) (place : Fault × Pos) → Asks call (Err error) → placed_by error ≡ Some place → IsBut status.Refused answer
   pub syntax : (source : Source) (pos : Pos) → Asks call (Ok source) → HasSyntaxAt source.units pos → IsBut status.Refused answer
   pub unbuilt : (source : Source) → Asks call (Ok source) → AreParsed source.units → SpellsNone source → IsBut status.Refused answer
@@ -103,7 +114,7 @@ pub record HasCauses (call : Call) (answer : Status) : Type 0 where
   pub unread_only : answer ≡ status.Unread → Checks call (AreUnread call)
   pub missing : (name : List ℕ) → Asks call (Err (reading.Missing name)) → IsBut status.Unread answer
   -- Limited: a quantity passed its limit in reading, or a unit nests too deeply
-  pub limited_only : answer ≡ status.Limited → Checks call (λ names. ArePast call names ⊎ AreTooDeep call.told names)
+  pub limited_only : answer ≡ status.Limited → Checks call (λ names. ArePast call names ⊎ AreTooDeep call.reads names)
   pub limited : (limit : Limit) → Asks call (Err (reading.Limit limit)) → IsBut status.Limited answer
   pub deep : (source : Source) → Asks call (Ok source) → IsTooDeep source.units → IsBut status.Limited answer
   -- Unwritten: the sink failed

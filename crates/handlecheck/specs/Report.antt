@@ -1,27 +1,29 @@
 -- What a call of the program may answer, what each answer means, and the text that is put for it. Own to this project.
 --     text_of report              the bytes of the report's line
 --     status_of report            its status
---     IsReport ..                 what the report says is so
+--     IsReport ..                 what the report says is so, of what the reads gave
 --     IsReportOf ..               the report of what the reader of programs gives
---     IsAnswered ..               what a call did: the files that it read, and a report that is right, put whole or cut by a
+--     Call                        what a call is about, with the reads that it made
+--     IsAnswered call answer      what a call did: the files that it read, and a report that is right, put whole or cut by a
 --                                 write fault
 -- The causes of each status, and the headline, are in `Causes.antt`.
-use Rattle.std.specs.Prelude.{◌≡◌, ◌⊎◌, ℕ, ◌<◌, List, [], ◌∷◌, ◌++◌, codes, Option, Some, Result, Ok, Err, IfSome, IsSomeAnd, slice_get}
+use Rattle.std.specs.Prelude.{◌≡◌, ◌⊎◌, ℕ, ◌<◌, List, [], ◌∷◌, ◌++◌, codes, map, Option, Some, Result, Ok, Err, IfSome, IsSomeAnd, slice_get}
 use Rattle.std.specs.Fmt.{decimal}
-use Rattle.hs_base.specs.Files.{Listing, Counts}
+use Rattle.hs_base.specs.Files.{Listing, Counts, Read}
 use Rattle.hs_base.specs.Limit as limits
+use Rattle.hs_base.specs.Reads.{AreRight}
 use Rattle.hs_base.specs.Sink.{IsPut}
 use Rattle.hs_base.specs.declared.errors.Failed.{Failed}
 use Rattle.hs_base.specs.declared.pos.Pos.{Pos}
 use Rattle.hs_tree.specs.declared.straight.tree.Straight.{Straight}
 use Rattle.hs_meaning.specs.Straight.StaleUses.{HasStaleUses}
-use Rattle.hs_directives.specs.Reads.{Leads, AreFirstReads}
+use Rattle.hs_directives.specs.Reads.{AreFirstReads, IsReadAs, IsRefusedAs}
 use Rattle.hs_directives.specs.declared.error.ReadError.{ReadError}
 use Rattle.hs_directives.specs.declared.error.ReadError.TheVariants as reading
 use Rattle.hs_directives.specs.declared.source.Source.{Source}
 use Rattle.hs_words.specs.Words.{IsCheck, IsNoCheck}
 use Rattle.hs_decl_parser.specs.Units.{depth}
-use Rattle.hs_checker.specs.Source.{IsTheProgram, SpellsNone, AreParsed, HasSyntaxAt, IsTooDeep, IsReadAs, IsRefusedAs, IsSource}
+use Rattle.hs_checker.specs.Source.{IsTheProgram, SpellsNone, AreParsed, HasSyntaxAt, IsTooDeep, IsSource}
 use Rattle.hs_checker.specs.declared.source.SourceError.{SourceError}
 use Rattle.handlecheck.specs.Names.{Names}
 use Rattle.handlecheck.specs.Faults.{number_of, word_of, placed_by}
@@ -66,68 +68,72 @@ status_of (Unread name) = status.Unread
 status_of (Limited limit) = status.Limited
 status_of NoMemory = status.NoMemory
 
+-- What follows speaks of the bytes that the reads of a call gave: `IsReadAs` and `IsRefusedAs` say what these come to.
+
 -- the named files are one straight program, which has n stale uses; its unit is one of the grammar
-abbrev pub HasProgramOf : ℕ → Option Listing → List (List ℕ) → Type 0
-HasProgramOf n told names =
-    (source : Source) × IsReadAs told names source × AreParsed source.units × ((tree : Straight) × IsTheProgram source tree × HasStaleUses tree n)
+abbrev pub HasProgramOf : ℕ → List Read → List (List ℕ) → Type 0
+HasProgramOf n reads names =
+    (source : Source) × IsReadAs reads names source × AreParsed source.units × ((tree : Straight) × IsTheProgram source tree × HasStaleUses tree n)
 
 -- the named files are read, their units are of the grammar, and they are no straight program
-abbrev pub AreUnbuilt : Option Listing → List (List ℕ) → Type 0
-AreUnbuilt told names = (source : Source) × IsReadAs told names source × AreParsed source.units × SpellsNone source
+abbrev pub AreUnbuilt : List Read → List (List ℕ) → Type 0
+AreUnbuilt reads names = (source : Source) × IsReadAs reads names source × AreParsed source.units × SpellsNone source
 
 -- the named files are read, and of the first unit that is not in the grammar this is the place
-abbrev pub HaveSyntaxAt : Option Listing → List (List ℕ) → Pos → Type 0
-HaveSyntaxAt told names pos = (source : Source) × IsReadAs told names source × HasSyntaxAt source.units pos
+abbrev pub HaveSyntaxAt : List Read → List (List ℕ) → Pos → Type 0
+HaveSyntaxAt reads names pos = (source : Source) × IsReadAs reads names source × HasSyntaxAt source.units pos
 
 -- the named files are read, and the first unit that is not in the grammar nests too deeply
-abbrev pub AreTooDeep : Option Listing → List (List ℕ) → Type 0
-AreTooDeep told names = (source : Source) × IsReadAs told names source × IsTooDeep source.units
+abbrev pub AreTooDeep : List Read → List (List ℕ) → Type 0
+AreTooDeep reads names = (source : Source) × IsReadAs reads names source × IsTooDeep source.units
 
--- The files are read, and a unit is not in the grammar. The name is that of the file whose number the place has.
-abbrev pub IsSyntaxOf : Option Listing → List (List ℕ) → List (List ℕ) → Refusal → Type 0
-IsSyntaxOf told names reads refusal =
-    (refusal.fault ≡ Syntax) × HaveSyntaxAt told names refusal.pos × (slice_get reads refusal.pos.file ≡ Some refusal.file)
+-- the names of the files that were read, in their order
+abbrev pub names_of : List Read → List (List ℕ)
+names_of reads = map (λ read. read.name) reads
 
--- Reading refuses with this fault at this place. The name is that of the file whose number the place has: its place, from 0,
--- among the reads of the call.
-abbrev pub IsRefusalOf : Option Listing → List (List ℕ) → List (List ℕ) → Counts → Counts → Refusal → Type 0
-IsRefusalOf told names reads before now refusal =
-    (error : ReadError) × (placed_by error ≡ Some (refusal.fault, refusal.pos)) × IsRefusedAs told names before now error
-    × (slice_get reads refusal.pos.file ≡ Some refusal.file)
+-- The files are read, and a unit is not in the grammar. The name is that of the file whose number the place has: its place, from
+-- 0, among the reads of the call.
+abbrev pub IsSyntaxOf : List Read → List (List ℕ) → Refusal → Type 0
+IsSyntaxOf reads names refusal =
+    (refusal.fault ≡ Syntax) × HaveSyntaxAt reads names refusal.pos × (slice_get (names_of reads) refusal.pos.file ≡ Some refusal.file)
 
--- What a report says of the named files. The listing and the counts are those of the files: what is known, and how many misses and
--- faults there were before the call and are now. The reads are those of the call, in their order.
-abbrev pub IsVerdict : Option Listing → List (List ℕ) → List (List ℕ) → Counts → Counts → Report → Type 0
+-- reading refuses with this fault at this place, in the file that has the place's number
+abbrev pub IsRefusalOf : List Read → List (List ℕ) → Refusal → Type 0
+IsRefusalOf reads names refusal =
+    (error : ReadError) × (placed_by error ≡ Some (refusal.fault, refusal.pos)) × IsRefusedAs reads names error
+    × (slice_get (names_of reads) refusal.pos.file ≡ Some refusal.file)
+
+-- what a report says of the named files
+abbrev pub IsVerdict : List Read → List (List ℕ) → Report → Type 0
 -- they are one straight program, which has no stale use
-IsVerdict told names reads before now Accepted = HasProgramOf 0 told names
+IsVerdict reads names Accepted = HasProgramOf 0 reads names
 -- they are one, which has so many stale uses
-IsVerdict told names reads before now (Hazards count) = (0 < count) × HasProgramOf count told names
+IsVerdict reads names (Hazards count) = (0 < count) × HasProgramOf count reads names
 -- reading refuses them, at a place; or a unit is not in the grammar
-IsVerdict told names reads before now (Refused refusal) =
-    IsRefusalOf told names reads before now refusal ⊎ IsSyntaxOf told names reads refusal
+IsVerdict reads names (Refused refusal) = IsRefusalOf reads names refusal ⊎ IsSyntaxOf reads names refusal
 -- they are read, their units are of the grammar, and they are no straight program
-IsVerdict told names reads before now Unbuilt = AreUnbuilt told names
--- a file that is asked for is missing
-IsVerdict told names reads before now (Missing name) = IsRefusedAs told names before now (reading.Missing name)
--- the read of a file that is asked for failed
-IsVerdict told names reads before now (Unread name) = IsRefusedAs told names before now (reading.ReadFault name)
+IsVerdict reads names Unbuilt = AreUnbuilt reads names
+-- the file that is asked for last is missing
+IsVerdict reads names (Missing name) = IsRefusedAs reads names (reading.Missing name)
+-- the read of the file that is asked for last failed
+IsVerdict reads names (Unread name) = IsRefusedAs reads names (reading.ReadFault name)
 -- a quantity passed its limit: in reading, or the nesting of a unit
-IsVerdict told names reads before now (Limited limit) =
-    IsRefusedAs told names before now (reading.Limit limit) ⊎ (AreTooDeep told names × (limit ≡ depth))
+IsVerdict reads names (Limited limit) =
+    IsRefusedAs reads names (reading.Limit limit) ⊎ (AreTooDeep reads names × (limit ≡ depth))
 -- memory ran out: the one answer that may always come
-IsVerdict told names reads before now NoMemory = Unit {0}
+IsVerdict reads names NoMemory = Unit {0}
 -- no answer on files
-IsVerdict told names reads before now Usage = ⊥
+IsVerdict reads names Usage = ⊥
 
 -- the report is right: of the words, or of the files that they name
-abbrev pub IsReport : Option Listing → List (List ℕ) → List (List ℕ) → Counts → Counts → Report → Type 0
-IsReport told words reads before now Usage = IsNoCheck words
-IsReport told words reads before now NoMemory = Unit {0}
-IsReport told words reads before now report = (names : List (List ℕ)) × IsCheck words names × IsVerdict told names reads before now report
+abbrev pub IsReport : List (List ℕ) → List Read → Report → Type 0
+IsReport words reads Usage = IsNoCheck words
+IsReport words reads NoMemory = Unit {0}
+IsReport words reads report = (names : List (List ℕ)) × IsCheck words names × IsVerdict reads names report
 
 -- the names that were noted are these, if there was memory for them
-abbrev pub AreNoted : Names → List (List ℕ) → Type 0
-AreNoted noted reads = IfSome noted (λ names. names ≡ reads)
+abbrev pub AreNoted : Names → List Read → Type 0
+AreNoted noted reads = IfSome noted (λ names. names ≡ names_of reads)
 
 -- a refusal with this fault at this place, in the file that has the place's number; or that memory ran out
 abbrev pub IsFaultAt : Names → Fault → Pos → Report → Type 0
@@ -145,12 +151,11 @@ unplaced _ = NoMemory
 -- what the reader of programs gives, as a report: what the one says of the files, the other says
 abbrev pub IsReportOf : Names → Result Straight SourceError → Report → Type 0
 IsReportOf noted result report =
-    (told : Option Listing) (names reads : List (List ℕ)) (before now : Counts) → AreNoted noted reads
-    → IsSource told names before now result → IsVerdict told names reads before now report
+    (reads : List Read) (names : List (List ℕ)) → AreNoted noted reads → IsSource reads names result → IsVerdict reads names report
 
 -- nothing was read, or the files that the words name and their headers, each once, in the order of its number
-abbrev pub AreAsked : Option Listing → List (List ℕ) → List (List ℕ) → Type 0
-AreAsked told words reads = (reads ≡ []) ⊎ ((names : List (List ℕ)) × IsCheck words names × AreFirstReads told names reads)
+abbrev pub AreAsked : List (List ℕ) → List Read → Type 0
+AreAsked words reads = (reads ≡ []) ⊎ ((names : List (List ℕ)) × IsCheck words names × AreFirstReads names reads)
 
 -- what is known of a sink, and its count of faults
 pub record Written : Type 0 where
@@ -173,21 +178,21 @@ abbrev pub IsPutReport : Report → Written → Written → Status → Type 0
 IsPutReport report before now answer =
     IsPutAs (text_of report) (status_of report) before now answer ⊎ IsPutAs (text_of NoMemory) status.NoMemory before now answer
 
--- What a call is about: what the files tell, the words, the files' counts before it and after it, and the sink before it
--- and after it.
+-- What a call is about: what the files tell, the words, the reads that were made, the files' counts before the call and after it,
+-- and the sink before it and after it.
 pub record Call : Type 0 where
   pub told : Option Listing
   pub words : List (List ℕ)
+  pub reads : List Read
   pub before : Counts
   pub now : Counts
   pub old : Written
   pub new : Written
 
--- what a call did: these reads led from the first files to the last, and a report that is right was put
-pub record IsAnswered {F : Type 0} (leads : F → List ℕ → ℕ → F → Type 0) (first last : F) (call : Call) (answer : Status) : Type 0 where
-  pub reads : List (List ℕ)
-  pub leads_on : Leads leads first reads last
-  pub asked : AreAsked call.told call.words reads
+-- what a call did: it made these reads, whose answers are right, and a report that is right was put
+pub record IsAnswered (call : Call) (answer : Status) : Type 0 where
+  pub right : AreRight call.told call.before call.now call.reads
+  pub asked : AreAsked call.words call.reads
   pub report : Report
-  pub is_report : IsReport call.told call.words reads call.before call.now report
+  pub is_report : IsReport call.words call.reads report
   pub is_put : IsPutAs (text_of report) (status_of report) call.old call.new answer

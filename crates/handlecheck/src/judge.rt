@@ -1,9 +1,10 @@
 //! From the named files to the report on them.
 
-ghost use Rattle.std.specs.Prelude.{◌≡◌, [], map, List, ℕ, Ok, Err, IfSome, Some};
+ghost use Rattle.std.specs.Prelude.{◌≡◌, [], map, Ok, Err, Some};
 ghost use Rattle.std.specs.String.{string_bytes};
 ghost use Rattle.hs_base.specs.Files.{NeverFall};
-ghost use Rattle.hs_directives.specs.Reads.{Leads, AreFirstReads};
+ghost use Rattle.hs_base.specs.Reads.{Makes, MadeReads};
+ghost use Rattle.hs_directives.specs.Reads.{AreFirstReads};
 ghost use Rattle.hs_checker.specs.Source.{IsSource};
 ghost use Rattle.handlecheck.specs.Names.{Names};
 ghost use Rattle.handlecheck.specs.Report.{AreNoted, IsFaultAt, IsReportOf, IsVerdict, unplaced};
@@ -14,6 +15,7 @@ use crate::named_files::NamedFiles;
 use crate::{Fault, Refusal, Report};
 use hs_base::{Bytes, Files, Pos};
 use hs_checker::{SourceError, check, read_program};
+use hs_decl_parser::ParseError;
 use hs_directives::ReadError;
 use hs_tree::straight::Straight;
 use std::alloc::Global;
@@ -29,9 +31,9 @@ fn read_named<F: Files>(
     ensures same_names { named.new.names.ghost_name ≡ named.old.names.ghost_name }
     ensures listing_stays { F.listing named.new.files.now ≡ F.listing named.old.files.now }
     ensures counts_stay_up { NeverFall (F.counts named.old.files.now) (F.counts named.new.files.now) }
-    ensures reads { (reads : List (List ℕ)) × Leads F.leads_to named.old.files.now reads named.new.files.now
-        × AreFirstReads (F.listing named.old.files.now) (map string_bytes roots.now) reads × AreNoted named.new.names.now reads }
-    ensures means { IsSource (F.listing named.old.files.now) (map string_bytes roots.now) (F.counts named.old.files.now) (F.counts named.new.files.now) result }
+    ensures means { MadeReads (Makes F.leads_to F.listing F.counts) named.old.files.now named.new.files.now
+        (λ reads. AreFirstReads (map string_bytes roots.now) reads × AreNoted named.new.names.now reads
+        × IsSource reads (map string_bytes roots.now) result) }
 {
     read_program(alloc, named, roots)
 }
@@ -46,9 +48,9 @@ fn read_noting<F: Files>(
     requires { names.old ≡ Some [] }
     ensures listing_stays { F.listing files.new ≡ F.listing files.old }
     ensures counts_stay_up { NeverFall (F.counts files.old) (F.counts files.new) }
-    ensures reads { (reads : List (List ℕ)) × Leads F.leads_to files.old reads files.new
-        × AreFirstReads (F.listing files.old) (map string_bytes roots.now) reads × AreNoted names.new reads }
-    ensures means { IsSource (F.listing files.old) (map string_bytes roots.now) (F.counts files.old) (F.counts files.new) result }
+    ensures means { MadeReads (Makes F.leads_to F.listing F.counts) files.old files.new
+        (λ reads. AreFirstReads (map string_bytes roots.now) reads × AreNoted names.new reads
+        × IsSource reads (map string_bytes roots.now) result) }
 {
     let mut named = NamedFiles { files, names };
     read_named(alloc, &mut named, roots)
@@ -83,6 +85,16 @@ fn unplaced(error: ReadError) -> Report
     }
 }
 
+/// The report of a unit that is not in the grammar.
+fn unparsed(alloc: Global, names: &FileNames, error: ParseError) -> Report
+    ensures { IsReportOf names.now (Err (SourceError.Parse error)) result }
+{
+    match error {
+        ParseError::Syntax(pos) => fault_at(alloc, names, Fault::Syntax, pos),
+        ParseError::Limit(_) | ParseError::NoMemory => Report::NoMemory,
+    }
+}
+
 /// The report of files that give no program.
 fn refused(alloc: Global, names: &FileNames, error: SourceError) -> Report
     ensures { IsReportOf names.now (Err error) result }
@@ -92,8 +104,8 @@ fn refused(alloc: Global, names: &FileNames, error: SourceError) -> Report
             Some((fault, pos)) => fault_at(alloc, names, fault, pos),
             None => unplaced(error),
         },
+        SourceError::Parse(error) => unparsed(alloc, names, error),
         SourceError::Limit(limit) => Report::Limited(limit),
-        SourceError::Syntax(pos) => fault_at(alloc, names, Fault::Syntax, pos),
         SourceError::Unbuilt => Report::Unbuilt,
         SourceError::NoMemory => Report::NoMemory,
     }
@@ -119,9 +131,8 @@ fn verdict(alloc: Global, program: &Straight) -> Report
 pub(crate) fn judge<F: Files>(alloc: Global, files: &mut F, roots: &[String]) -> Report
     ensures listing_stays { F.listing files.new ≡ F.listing files.old }
     ensures counts_stay_up { NeverFall (F.counts files.old) (F.counts files.new) }
-    ensures means { (reads : List (List ℕ)) × Leads F.leads_to files.old reads files.new
-        × AreFirstReads (F.listing files.old) (map string_bytes roots.now) reads
-        × IsVerdict (F.listing files.old) (map string_bytes roots.now) reads (F.counts files.old) (F.counts files.new) result }
+    ensures means { MadeReads (Makes F.leads_to F.listing F.counts) files.old files.new
+        (λ reads. AreFirstReads (map string_bytes roots.now) reads × IsVerdict reads (map string_bytes roots.now) result) }
 {
     let mut names = FileNames::new(alloc);
     match read_noting(alloc, files, &mut names, roots) {

@@ -3,6 +3,7 @@
 ghost use Rattle.std.specs.Prelude.{◌≡◌, map, List, ℕ, Ok};
 ghost use Rattle.std.specs.String.{string_bytes};
 ghost use Rattle.hs_base.specs.Files.{NeverFall};
+ghost use Rattle.hs_base.specs.Reads.{Makes, MadeReads};
 ghost use Rattle.hs_words.specs.Words.{IsCommand, IsNoCheck};
 ghost use Rattle.handlecheck.specs.Causes.{Headline, HasCauses};
 ghost use Rattle.handlecheck.specs.Report.{IsAnswered, IsPutAs, IsPutReport, text_of};
@@ -48,14 +49,15 @@ fn put_report<O: Sink>(alloc: Global, out: &mut O, report: &Report) -> Status
 fn obey<F: Files, O: Sink>(alloc: Global, command: &Command, files: &mut F, out: &mut O) -> Status
     ensures listing_stays { F.listing files.new ≡ F.listing files.old }
     ensures counts_stay_up { NeverFall (F.counts files.old) (F.counts files.new) }
-    ensures answered { (words : List (List ℕ)) → IsCommand words (Ok command.now) → IsAnswered F.leads_to files.old files.new (record {
+    ensures answered { (words : List (List ℕ)) → IsCommand words (Ok command.now) → MadeReads (Makes F.leads_to F.listing F.counts) files.old files.new (λ reads. IsAnswered (record {
       told = F.listing files.old;
       words = words;
+      reads = reads;
       before = F.counts files.old;
       now = F.counts files.new;
       old = record { bytes = O.written out.old; faults = O.faults out.old };
       new = record { bytes = O.written out.new; faults = O.faults out.new };
-    }) result }
+    }) result) }
 {
     match command {
         Command::Check(names) => {
@@ -82,14 +84,15 @@ fn refuse<O: Sink>(out: &mut O, error: WordsError) -> Status
 fn answer<F: Files, O: Sink>(alloc: Global, words: &[String], files: &mut F, out: &mut O) -> Status
     ensures listing_stays { F.listing files.new ≡ F.listing files.old }
     ensures counts_stay_up { NeverFall (F.counts files.old) (F.counts files.new) }
-    ensures answered { IsAnswered F.leads_to files.old files.new (record {
+    ensures answered { MadeReads (Makes F.leads_to F.listing F.counts) files.old files.new (λ reads. IsAnswered (record {
       told = F.listing files.old;
       words = map string_bytes words.now;
+      reads = reads;
       before = F.counts files.old;
       now = F.counts files.new;
       old = record { bytes = O.written out.old; faults = O.faults out.old };
       new = record { bytes = O.written out.new; faults = O.faults out.new };
-    }) result }
+    }) result) }
 {
     match command_of(alloc, words) {
         Ok(command) => obey(alloc, &command, files, out),
@@ -100,8 +103,8 @@ fn answer<F: Files, O: Sink>(alloc: Global, words: &[String], files: &mut F, out
 /// Does all that the program does: reads the words, the files that they name with their headers, judges them, and puts one line.
 ///
 /// The words are those after the program's name. The status says what the line says: `specs/Report.antt` has the meaning
-/// of each, and `specs/Causes.antt` when it comes. If the files tell their listing, the clauses speak of the bytes of the
-/// files. Any status may give way to a lack of memory or to a failed write.
+/// of each, and `specs/Causes.antt` when it comes. The clauses speak of the bytes that the reads of this call gave; if the
+/// files tell their listing, these are the listing's. Any status may give way to a lack of memory or to a failed write.
 ///
 /// Example: in the folder `examples`, the words `check` and `locked.c` write `accepted` and return `Status::Done`.
 pub fn run<F: Files, O: Sink>(alloc: Global, words: &[String], files: &mut F, out: &mut O) -> Status
@@ -113,34 +116,37 @@ pub fn run<F: Files, O: Sink>(alloc: Global, words: &[String], files: &mut F, ou
 
     // The files that the words name and their headers were read, each once, in the order of its number, and no other; and a
     // report that is right was put, whole, or with Unwritten a front of it.
-    ensures answered { IsAnswered F.leads_to files.old files.new (record {
+    ensures answered { MadeReads (Makes F.leads_to F.listing F.counts) files.old files.new (λ reads. IsAnswered (record {
       told = F.listing files.old;
       words = map string_bytes words.now;
+      reads = reads;
       before = F.counts files.old;
       now = F.counts files.new;
       old = record { bytes = O.written out.old; faults = O.faults out.old };
       new = record { bytes = O.written out.new; faults = O.faults out.new };
-    }) result }
+    }) result) }
 
     // The headline: an accepted program is safe, for every input, number of turns and schedule of moves.
-    ensures headline { Headline (record {
+    ensures headline { MadeReads (Makes F.leads_to F.listing F.counts) files.old files.new (λ reads. Headline (record {
       told = F.listing files.old;
       words = map string_bytes words.now;
+      reads = reads;
       before = F.counts files.old;
       now = F.counts files.new;
       old = record { bytes = O.written out.old; faults = O.faults out.old };
       new = record { bytes = O.written out.new; faults = O.faults out.new };
-    }) result }
+    }) result) }
 
     // Each status comes if its cause is, and only there.
-    ensures causes { HasCauses (record {
+    ensures causes { MadeReads (Makes F.leads_to F.listing F.counts) files.old files.new (λ reads. HasCauses (record {
       told = F.listing files.old;
       words = map string_bytes words.now;
+      reads = reads;
       before = F.counts files.old;
       now = F.counts files.new;
       old = record { bytes = O.written out.old; faults = O.faults out.old };
       new = record { bytes = O.written out.new; faults = O.faults out.new };
-    }) result }
+    }) result) }
 {
     safe_without_stale_uses();
     answer(alloc, words, files, out)

@@ -5,29 +5,26 @@
 --     AreParsed units            each unit is one of the grammar, and nests no more deeply than it may
 --     IsFirst units Is           the first wrong unit is so
 --     HasSyntaxAt, IsTooDeep     it is no unit of the grammar; it nests too deeply
---     IsReadAs ..                the named files and their headers are read as these sources
---     HasReads ..                the files that were read, in their order
---     IsSource ..                the meaning of each answer
+--     IsSource ..                the meaning of each answer, of what the reads gave
 --     RefusesAs error answer     the answer to a refusal of reading
 --     IsProgramOf source result  the program of sources that were read, or why they give none
 --     IsParsedAs, IsStraightOf   its two steps: each unit is parsed; the one unit is a straight program
-use Rattle.std.specs.Prelude.{◌≡◌, ◌⊎◌, ℕ, List, [], ◌∷◌, ◌++◌, Option, Result, Ok, Err, IfSome}
-use Rattle.hs_base.specs.Count.{IsSteady}
-use Rattle.hs_base.specs.Files.{Listing, Counts}
+use Rattle.std.specs.Prelude.{◌≡◌, ◌⊎◌, ℕ, List, [], ◌∷◌, ◌++◌, Result, Ok, Err}
+use Rattle.hs_base.specs.Files.{Read as FileRead}
 use Rattle.hs_base.specs.declared.pos.Pos.{Pos}
 use Rattle.hs_tokens.specs.declared.token.SourceToken.{SourceToken}
 use Rattle.hs_syntax.specs.Nesting.{IsShallow}
 use Rattle.hs_decl_parser.specs.Units.{depth, IsParsed, IsRefusedAt}
+use Rattle.hs_decl_parser.specs.declared.parse_error.ParseError.{ParseError}
+use Rattle.hs_decl_parser.specs.declared.parse_error.ParseError.TheVariants as parsing
 use Rattle.hs_tree.specs.declared.straight.tree.Straight.{Straight}
-use Rattle.hs_directives.specs.Preprocessing.{preprocessed}
-use Rattle.hs_directives.specs.Readings.{own_listing, IsCausedBy}
-use Rattle.hs_directives.specs.Reads.{Leads, AreFirstReads}
+use Rattle.hs_directives.specs.Reads.{IsReadAs, IsRefusedAs}
 use Rattle.hs_directives.specs.declared.error.ReadError.{ReadError}
 use Rattle.hs_directives.specs.declared.error.ReadError.TheVariants as reading
 use Rattle.hs_directives.specs.declared.source.Source.{Source as Sources}
 use Rattle.hs_checker.specs.Straight.Grammar.{IsStraight}
 use Rattle.hs_checker.specs.declared.source.SourceError.{SourceError}
-use Rattle.hs_checker.specs.declared.source.SourceError.TheVariants.{Read, Limit, Syntax, Unbuilt, NoMemory}
+use Rattle.hs_checker.specs.declared.source.SourceError.TheVariants.{Read, Parse, Limit, Unbuilt, NoMemory}
 
 -- the tokens spell this tree and no other
 abbrev pub IsTheTree : List SourceToken → Straight → Type 0
@@ -63,49 +60,34 @@ HasSyntaxAt units pos = IsFirst units (λ tokens. IsRefusedAt tokens pos)
 abbrev pub IsTooDeep : List (List SourceToken) → Type 0
 IsTooDeep units = IsFirst units (λ tokens. IsShallow tokens → ⊥)
 
--- The named files and their headers are read as these sources: by the listing, if it is known, and by the sources' own names
--- and texts in any case.
-abbrev pub IsReadAs : Option Listing → List (List ℕ) → Sources → Type 0
-IsReadAs told names source =
-    IfSome told (λ listing. preprocessed listing names ≡ Ok source) × (preprocessed (own_listing source) names ≡ Ok source)
-
--- Reading refuses so, if the listing is known and no fault was counted. A refusal that names a file names one that is sought,
--- and the count of its cause rose.
-abbrev pub IsRefusedAs : Option Listing → List (List ℕ) → Counts → Counts → ReadError → Type 0
-IsRefusedAs told names before now error =
-    IsCausedBy told before now names error
-    × IfSome told (λ listing. IsSteady before.faults now.faults → preprocessed listing names ≡ Err error)
-
 -- the error is a limit or that memory ran out, which have answers of their own
 abbrev pub HasOwnAnswer : ReadError → Type 0
 HasOwnAnswer (reading.Limit limit) = Unit {0}
 HasOwnAnswer reading.NoMemory = Unit {0}
 HasOwnAnswer _ = ⊥
 
--- The reads of the named files and their headers led from the first files to the last: each file once, in the order of its
--- number, and no other.
-pub record HasReads {F : Type 0} (leads : F → List ℕ → ℕ → F → Type 0) (told : Option Listing) (first last : F) (names : List (List ℕ)) : Type 0 where
-  pub reads : List (List ℕ)
-  pub leads_on : Leads leads first reads last
-  pub in_turn : AreFirstReads told names reads
+-- a unit is not in the grammar, in the way that the parser says; its limit and memory have answers of their own
+abbrev pub IsUnparsedAs : List (List SourceToken) → ParseError → Type 0
+IsUnparsedAs units (parsing.Syntax pos) = HasSyntaxAt units pos
+IsUnparsedAs units _ = ⊥
 
--- the counts are those of the files, before the call and after it
-abbrev pub IsSource : Option Listing → List (List ℕ) → Counts → Counts → Result Straight SourceError → Type 0
-IsSource told names before now (Ok tree) = (source : Sources) × IsReadAs told names source × AreParsed source.units × IsTheProgram source tree
-IsSource told names before now (Err (Read error)) = (HasOwnAnswer error → ⊥) × IsRefusedAs told names before now error
+-- The reads are those of the call, and `IsReadAs` and `IsRefusedAs` say what the bytes that they gave come to.
+abbrev pub IsSource : List FileRead → List (List ℕ) → Result Straight SourceError → Type 0
+IsSource reads names (Ok tree) = (source : Sources) × IsReadAs reads names source × AreParsed source.units × IsTheProgram source tree
+IsSource reads names (Err (Read error)) = (HasOwnAnswer error → ⊥) × IsRefusedAs reads names error
+IsSource reads names (Err (Parse error)) = (source : Sources) × IsReadAs reads names source × IsUnparsedAs source.units error
 -- a limit of reading, or the limit of nesting
-IsSource told names before now (Err (Limit limit)) =
-    IsRefusedAs told names before now (reading.Limit limit)
-    ⊎ ((source : Sources) × IsReadAs told names source × IsTooDeep source.units × (limit ≡ depth))
-IsSource told names before now (Err (Syntax pos)) = (source : Sources) × IsReadAs told names source × HasSyntaxAt source.units pos
-IsSource told names before now (Err Unbuilt) = (source : Sources) × IsReadAs told names source × AreParsed source.units × SpellsNone source
-IsSource told names before now (Err NoMemory) = Unit {0}
+IsSource reads names (Err (Limit limit)) =
+    IsRefusedAs reads names (reading.Limit limit)
+    ⊎ ((source : Sources) × IsReadAs reads names source × IsTooDeep source.units × (limit ≡ depth))
+IsSource reads names (Err Unbuilt) = (source : Sources) × IsReadAs reads names source × AreParsed source.units × SpellsNone source
+IsSource reads names (Err NoMemory) = Unit {0}
 
 -- an answer to a refusal of reading
 abbrev pub RefusesAs : ReadError → SourceError → Type 0
 RefusesAs error (Read read) = (read ≡ error) × (HasOwnAnswer read → ⊥)
 RefusesAs error (Limit limit) = error ≡ reading.Limit limit
-RefusesAs error (Syntax pos) = ⊥
+RefusesAs error (Parse wrong) = ⊥
 RefusesAs error Unbuilt = ⊥
 RefusesAs error NoMemory = error ≡ reading.NoMemory
 
@@ -114,7 +96,7 @@ abbrev pub IsProgramOf : Sources → Result Straight SourceError → Type 0
 IsProgramOf source (Ok tree) = AreParsed source.units × IsTheProgram source tree
 IsProgramOf source (Err (Read error)) = ⊥
 IsProgramOf source (Err (Limit limit)) = IsTooDeep source.units × (limit ≡ depth)
-IsProgramOf source (Err (Syntax pos)) = HasSyntaxAt source.units pos
+IsProgramOf source (Err (Parse error)) = IsUnparsedAs source.units error
 IsProgramOf source (Err Unbuilt) = AreParsed source.units × SpellsNone source
 IsProgramOf source (Err NoMemory) = Unit {0}
 
@@ -123,7 +105,7 @@ abbrev pub IsParsedAs : List (List SourceToken) → Result Unit SourceError → 
 IsParsedAs units (Ok _) = AreParsed units
 IsParsedAs units (Err (Read error)) = ⊥
 IsParsedAs units (Err (Limit limit)) = IsTooDeep units × (limit ≡ depth)
-IsParsedAs units (Err (Syntax pos)) = HasSyntaxAt units pos
+IsParsedAs units (Err (Parse error)) = IsUnparsedAs units error
 IsParsedAs units (Err Unbuilt) = ⊥
 IsParsedAs units (Err NoMemory) = Unit {0}
 

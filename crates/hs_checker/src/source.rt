@@ -3,11 +3,13 @@
 ghost use Rattle.std.specs.Prelude.{◌≡◌, map};
 ghost use Rattle.std.specs.String.{string_bytes};
 ghost use Rattle.hs_base.specs.Files.{NeverFall};
+ghost use Rattle.hs_base.specs.Reads.{Makes, MadeReads};
+ghost use Rattle.hs_directives.specs.Reads.{AreFirstReads};
 ghost use Rattle.hs_directives.specs.declared.source.Source.{Source};
-ghost use Rattle.hs_checker.specs.Source.{HasReads, IsParsedAs, IsProgramOf, IsSource, IsStraightOf, RefusesAs};
+ghost use Rattle.hs_checker.specs.Source.{IsParsedAs, IsProgramOf, IsSource, IsStraightOf, RefusesAs};
 
 use crate::straight::read;
-use hs_base::{Files, NoMemory, Pos};
+use hs_base::{Files, NoMemory};
 use hs_decl_parser::{ParseError, unit};
 use hs_directives::{ReadError, SourceTokens, preprocess};
 use hs_tree::straight::Straight;
@@ -18,10 +20,10 @@ use std::alloc::Global;
 pub enum SourceError {
     /// Reading refuses them: the first refusal. It is not a limit, and not that memory ran out.
     Read(ReadError),
+    /// A unit is not in the grammar: the first such unit. It is not a limit, and not that memory ran out.
+    Parse(ParseError),
     /// A quantity passed its limit.
     Limit(hs_base::Limit),
-    /// A unit is not in the grammar; the place is that of its first external declaration that is wrong.
-    Syntax(Pos),
     /// They are not one unit, or one that is no straight program.
     Unbuilt,
     /// Memory was refused.
@@ -47,7 +49,7 @@ fn parsed(alloc: Global, units: &[SourceTokens]) -> Result<(), SourceError>
         match unit(alloc, tokens.items()) {
             Ok(_) => {}
             Err(ParseError::Limit(limit)) => return Err(SourceError::Limit(limit)),
-            Err(ParseError::Syntax(pos)) => return Err(SourceError::Syntax(pos)),
+            Err(ParseError::Syntax(pos)) => return Err(SourceError::Parse(ParseError::Syntax(pos))),
             Err(ParseError::NoMemory) => return Err(SourceError::NoMemory),
         }
     }
@@ -81,7 +83,7 @@ fn program_of(alloc: Global, units: &[SourceTokens]) -> Result<Straight, SourceE
 /// # Errors
 ///
 /// The first refusal of reading; then, of the first unit that is not in the grammar, the limit of nesting or
-/// [`SourceError::Syntax`]; then [`SourceError::Unbuilt`] if the files are not one unit whose tokens spell a straight
+/// [`SourceError::Parse`]; then [`SourceError::Unbuilt`] if the files are not one unit whose tokens spell a straight
 /// program.
 pub fn read_program<F: Files>(
     alloc: Global,
@@ -90,8 +92,9 @@ pub fn read_program<F: Files>(
 ) -> Result<Straight, SourceError>
     ensures listing_stays { F.listing files.new ≡ F.listing files.old }
     ensures counts_stay_up { NeverFall (F.counts files.old) (F.counts files.new) }
-    ensures reads { HasReads F.leads_to (F.listing files.old) files.old files.new (map string_bytes roots.now) }
-    ensures means { IsSource (F.listing files.old) (map string_bytes roots.now) (F.counts files.old) (F.counts files.new) result }
+    // The files were read, each once, in the order of its number, and no other; and the answer is right of what the reads gave.
+    ensures means { MadeReads (Makes F.leads_to F.listing F.counts) files.old files.new
+        (λ reads. AreFirstReads (map string_bytes roots.now) reads × IsSource reads (map string_bytes roots.now) result) }
 {
     match preprocess(alloc, files, roots) {
         Ok(source) => program_of(alloc, source.units.items()),

@@ -5,20 +5,16 @@ use Rattle.handlecheck.proofs.judge.judge.Goals as goal
 
 pub returns-in-Ok-clause-means : goal.returns-in-Ok-clause-means
 returns-in-Ok-clause-means g c =
-    let reads = c.in-Ok.ensures.reads in (
-      reads.0,
-      reads.1,
-      reads.2,
-      c.verdict.ensures _ (g.F.Files.listing c.args.files.now) (map string_bytes c.args.roots.now) reads.0
-          (g.F.Files.counts c.args.files.now) (g.F.Files.counts c.read_noting.new.files) reads.3 c.in-Ok.ensures.means,
+    let made = c.in-Ok.ensures.means in (
+      made.0,
+      made.1,
+      (made.2.0, c.verdict.ensures _ made.0 (map string_bytes c.args.roots.now) made.2.1 made.2.2),
     )
 
 pub returns-clause-means : goal.returns-clause-means
 returns-clause-means g c =
-    let reads = c.in-Err.ensures.reads in (
-      reads.0,
-      reads.1,
-      reads.2,
-      c.refused.ensures (g.F.Files.listing c.args.files.now) (map string_bytes c.args.roots.now) reads.0
-          (g.F.Files.counts c.args.files.now) (g.F.Files.counts c.read_noting.new.files) reads.3 c.in-Err.ensures.means,
+    let made = c.in-Err.ensures.means in (
+      made.0,
+      made.1,
+      (made.2.0, c.refused.ensures made.0 (map string_bytes c.args.roots.now) made.2.1 made.2.2),
     )

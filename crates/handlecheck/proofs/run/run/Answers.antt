@@ -3,12 +3,14 @@ use Rattle.handlecheck.proofs.Causes.{headline_of, causes_of, nothing_read}
 use Rattle.handlecheck.proofs.run.run.Goals as goal
 
 pub returns-clause-no_read : goal.returns-clause-no_read
-returns-clause-no_read g c none = nothing_read g.F.Files.leads_to c.args.files.now c.answer.new.files _ c.answer.result c.answer.ensures.answered none
+returns-clause-no_read g c none =
+    let made = c.answer.ensures.answered in nothing_read c.args.files.now c.answer.new.files _ c.answer.result made.1 made.2 none
 
 pub returns-clause-headline : goal.returns-clause-headline
 returns-clause-headline g c =
-    headline_of g.F.Files.leads_to c.args.files.now c.answer.new.files _ c.answer.result c.safe_without_stale_uses.ensures
-    c.answer.ensures.answered
+    let made = c.answer.ensures.answered in
+    (made.0, made.1, headline_of _ c.answer.result c.safe_without_stale_uses.ensures made.2)
 
 pub returns-clause-causes : goal.returns-clause-causes
-returns-clause-causes g c = causes_of g.F.Files.leads_to c.args.files.now c.answer.new.files _ c.answer.result c.answer.ensures.answered
+returns-clause-causes g c =
+    let made = c.answer.ensures.answered in (made.0, made.1, causes_of _ c.answer.result made.2)

@@ -1,9 +1,29 @@
-use Rattle.std.proofs.Common.{sym}
-use Rattle.hs_checker.proofs.Programs.{IsSource-of_program}
+use Rattle.std.proofs.Common.{map, sym}
+use Rattle.std.specs.String.{string_bytes}
+use Rattle.hs_checker.proofs.Programs.{IsSource-of_program, IsSource-of_refusal}
 use Rattle.hs_checker.proofs.source.read_program.Goals as goal
 
 -- the program of the sources is that of the files
 pub returns-in-Ok-clause-means : goal.returns-in-Ok-clause-means
 returns-in-Ok-clause-means g c =
-    IsSource-of_program _ _ _ _ c.in-Ok.source c.program_of.result c.in-Ok.ensures.means
-    (c.program_of.ensures c.in-Ok.source (sym c.items.ensures))
+    let it = c.in-Ok.ensures.reads in (
+      it.reads,
+      it.leads_on,
+      (
+        it.in_turn,
+        IsSource-of_program it.reads (map string_bytes c.args.roots.now) c.in-Ok.source c.program_of.result it.outcome
+            (c.program_of.ensures c.in-Ok.source (sym c.items.ensures)),
+      ),
+    )
+
+-- reading refuses
+pub returns-in-Err-clause-means : goal.returns-in-Err-clause-means
+returns-in-Err-clause-means g c =
+    let it = c.in-Err.ensures.reads in (
+      it.reads,
+      it.leads_on,
+      (
+        it.in_turn,
+        IsSource-of_refusal it.reads (map string_bytes c.args.roots.now) c.in-Err.error c.refused.result it.outcome c.refused.ensures,
+      ),
+    )
