@@ -48,5 +48,5 @@ fn main(rt: HostRuntime) -> ExitCode {
             _ => run(rt.alloc(), &[], &mut HostFiles::new(&rt), &mut out),
         },
     };
-    ExitCode::from(status.code())
+    ExitCode::from(status)
 }

@@ -1,7 +1,10 @@
 //! The statuses of a call, and their numbers.
 
 ghost use Rattle.std.specs.Prelude.{◌≡◌};
+ghost use Rattle.std.specs.Process.{exit_status};
 ghost use Rattle.handlecheck.specs.Status.{code_of};
+
+use std::process::ExitCode;
 
 /// What a call of the program came to. `specs/Report.antt` says when each comes.
 #[derive(Clone, Copy, Debug, PartialEq, Eq)]
@@ -56,5 +59,14 @@ impl Status {
             Status::RanStopped => 11,
             Status::RanOut => 12,
         }
+    }
+}
+
+/// The process ends with the code of the status.
+impl From<Status> for ExitCode {
+    ghost from_gives = { λ status code. exit_status code ≡ code_of status };
+
+    fn from(status: Status) -> ExitCode {
+        ExitCode::from(status.code())
     }
 }
