@@ -435,6 +435,74 @@ fn host_files_read_the_system(rt: HostRuntime) -> Result<(), Fail> {
     Ok(())
 }
 
+/// Whether the file of that name has this text.
+fn is_read_as(rt: &HostRuntime, name: &str, text: &str) -> bool {
+    let mut into = Vec::new(rt.alloc());
+    let answer = HostFiles::new(rt).read(name, 4_194_304, &mut into);
+    answer == Ok(()) && into.as_slice() == text.as_bytes()
+}
+
+// A file that is longer than a buffer of the system, and one that is named from the folder of the process.
+#[test]
+fn host_files_read_whole_files(rt: HostRuntime) -> Result<(), Fail> {
+    let alloc = rt.alloc();
+    let folder = env::temp_dir(&rt)?;
+    let Some(folder) = folder.as_path().to_str() else {
+        return Err(Fail::from("the folder's name is no text"));
+    };
+    let name = format!(in alloc; "{folder}/handlecheck-long-file.c")?;
+    let text = copies(alloc, "int x;\n", 10_000)?;
+    fs::write(&rt, name.as_str(), text.as_str())?;
+    assert!(rt; is_read_as(&rt, name.as_str(), text.as_str()));
+    // The folder above the root is the root.
+    let up = copies(alloc, "../", 40)?;
+    let relative = format!(in alloc; "{up}{name}")?;
+    assert!(rt; is_read_as(&rt, relative.as_str(), text.as_str()));
+    fs::remove_file(&rt, name.as_str())?;
+    Ok(())
+}
+
+/// A writer that counts what is written only when it is flushed, and whose first write is interrupted.
+#[derive(Drop)]
+struct Holding<'a> {
+    was_interrupted: bool,
+    held: usize,
+    flushed: &'a mut usize,
+}
+
+impl Write for Holding<'_> {
+    fn write(&mut self, buf: &[u8]) -> io::Result<usize> {
+        if !self.was_interrupted {
+            self.was_interrupted = true;
+            return Err(io::Error::from(io::ErrorKind::Interrupted));
+        }
+        self.held = self.held.saturating_add(buf.len());
+        Ok(buf.len())
+    }
+
+    fn flush(&mut self) -> io::Result<()> {
+        *self.flushed = self.flushed.saturating_add(self.held);
+        self.held = 0;
+        Ok(())
+    }
+}
+
+// A put repeats a write that was interrupted, and ends with a flush.
+#[test]
+fn a_put_is_flushed(rt: HostRuntime) -> Result<(), Fail> {
+    let mut flushed = 0;
+    let mut sink = HostSink::new(Holding {
+        was_interrupted: false,
+        held: 0,
+        flushed: &mut flushed,
+    });
+    let succeeds = sink.put(b"line").is_ok();
+    drop(sink);
+    assert!(rt; succeeds);
+    assert_eq!(rt; flushed, 4);
+    Ok(())
+}
+
 /// A writer that takes so many bytes, and then fails; its flush fails when it is set to.
 #[derive(Drop)]
 struct Narrow {
