@@ -2,6 +2,7 @@
 
 ghost use Rattle.std.specs.Prelude.{◌≡◌, ◌≢◌, ◌+◌, ◌-◌, ◌^◌, ◌<◌, ◌≤◌, ◌↔◌, ◌++◌, [], length, take, min, None, Ok, Err, OnOk, OnErr, IfErr, IfSome};
 ghost use Rattle.std.specs.IoError.{error_kind};
+ghost use Rattle.std.specs.Result.{IsErrAnd, IsOkAnd};
 ghost use Rattle.hs_base.specs.Files.{NeverFall, IsRead};
 ghost use Rattle.handlecheck.specs.Host.{counts_after};
 
@@ -90,15 +91,14 @@ fn taken<T: Read + Drop>(
     into: &mut Vec<u8>,
 ) -> Result<(), FileEnd>
     // If the bytes of the reader are known, these are all of them. So it is refused if they are more than `max`.
-    ensures whole { OnOk result ((file : T) × (opened ≡ Ok file) × IfSome (T.remaining file) (λ bytes. into.new.items ≡ bytes)) }
+    ensures whole { OnOk result (IsOkAnd opened (λ file. IfSome (T.remaining file) (λ bytes. into.new.items ≡ bytes))) }
     ensures fits { OnOk result (length into.new.items ≤ max) }
-    ensures long { result ≡ Err FileEnd.TooLong → (file : T) × (opened ≡ Ok file) × IfSome (T.remaining file) (λ bytes. max < length bytes) }
+    ensures long { result ≡ Err FileEnd.TooLong → IsOkAnd opened (λ file. IfSome (T.remaining file) (λ bytes. max < length bytes)) }
 
-    // A file that was not opened is answered by the kind of its error, and one that was opened is not missing.
-    ensures missing { IfErr opened (λ error. result ≡ Err FileEnd.Missing ↔ error_kind error ≡ ErrorKind.NotFound) }
+    // A file that was not opened is answered by the kind of the error.
+    ensures missing { result ≡ Err FileEnd.Missing ↔ IsErrAnd opened (λ error. error_kind error ≡ ErrorKind.NotFound) }
     ensures memory { IfErr opened (λ error. result ≡ Err FileEnd.NoMemory ↔ error_kind error ≡ ErrorKind.OutOfMemory) }
     ensures failed { IfErr opened (λ error. result ≡ Err FileEnd.Failed ↔ (error_kind error ≢ ErrorKind.NotFound) × (error_kind error ≢ ErrorKind.OutOfMemory)) }
-    ensures found { OnOk opened (result ≢ Err FileEnd.Missing) }
 
     ensures emptied { OnErr result (into.new.items ≡ []) }
 {
