@@ -3,8 +3,7 @@
 ghost use Rattle.std.specs.Prelude.{◌≡◌, ◌≢◌, ◌+◌, ◌-◌, ◌^◌, ◌<◌, ◌≤◌, ◌↔◌, ◌++◌, [], length, take, min, None, Ok, Err, OnOk, OnErr, IfErr, IfSome};
 ghost use Rattle.std.specs.IoError.{error_kind};
 ghost use Rattle.std.specs.Result.{IsErrAnd, IsOkAnd};
-ghost use Rattle.hs_base.specs.Files.{NeverFall, IsRead};
-ghost use Rattle.handlecheck.specs.Host.{counts_after};
+ghost use Rattle.hs_base.specs.Files.{NeverFall, IsRead, counts_after, read_of};
 
 use hs_base::{FileEnd, Files};
 use std::io::{ErrorKind, Read};
@@ -121,9 +120,9 @@ impl<R: fs::Files + Drop> Files for HostFiles<R> {
     ghost counts = { λ files. record { misses = files.misses; faults = files.faults } };
 
     fn read(&mut self, name: &str, max: usize, into: &mut Vec<u8>) -> Result<(), FileEnd>
-        ensures means { IsRead None name.now max (record { misses = self.old.misses; faults = self.old.faults }) (record { misses = self.new.misses; faults = self.new.faults }) into.new.items result }
+        ensures means { IsRead None (read_of name.now max into.new.items result (record { misses = self.old.misses; faults = self.old.faults }) (record { misses = self.new.misses; faults = self.new.faults })) }
         ensures counts_stay_up { NeverFall (record { misses = self.old.misses; faults = self.old.faults }) (record { misses = self.new.misses; faults = self.new.faults }) }
-        ensures quiet { OnOk result ((self.new.misses ≡ self.old.misses) × (self.new.faults ≡ self.old.faults)) }
+        ensures emptied { OnErr result (into.new.items ≡ []) }
         // If the system exposes the bytes of its files, these are all the bytes of one of them.
         ensures whole { OnOk result ((file : R.File) × IfSome (R.File.remaining file) (λ bytes. into.new.items ≡ bytes)) }
         ensures long { result ≡ Err FileEnd.TooLong → (file : R.File) × IfSome (R.File.remaining file) (λ bytes. max < length bytes) }

@@ -2,7 +2,7 @@
 
 ghost use Rattle.std.specs.Prelude.{◌≡◌, None, OnOk, OnErr};
 ghost use Rattle.std.specs.Io.KnownBytes.{Appends};
-ghost use Rattle.hs_base.specs.Memory.{raised};
+ghost use Rattle.hs_base.specs.Count.{raised};
 ghost use Rattle.hs_base.specs.Sink.{IsPut};
 ghost use Rattle.handlecheck.specs.Host.{AppendsFront};
 
