@@ -3,4 +3,5 @@ pub mod Numbered
 pub mod Reached
 pub mod Seen
 pub mod Stepping
+pub mod Taken
 pub mod WorkedReadings

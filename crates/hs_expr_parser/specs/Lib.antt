@@ -1,4 +1,5 @@
 pub mod Ahead
+pub mod Conditionals
 pub mod Expected
 pub mod Found
 pub mod Given

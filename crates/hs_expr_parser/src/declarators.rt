@@ -3,6 +3,7 @@
 ghost use Rattle.std.specs.Prelude.{◌≡◌, ◌<◌, ◌≤◌, [], length, map, IfOk};
 ghost use Rattle.hs_syntax.specs.RowViews.{view_parameter};
 ghost use Rattle.hs_syntax.specs.Views.{view_declarator, view_direct};
+ghost use Rattle.hs_expr_parser.specs.Conditionals.{MayAsk, ReadsConditionals};
 ghost use Rattle.hs_expr_parser.specs.Given.{Gives};
 ghost use Rattle.hs_expr_parser.specs.Steps.{declarator_at, base_at, inside_at, directs_at, length_at, list_at, declarators_at, parameters_at, parameter_at};
 
@@ -10,14 +11,14 @@ use crate::ahead::{
     begins_list, first, is_mark_ahead, is_punctuator, mark, mark_ahead, pointers, void_alone,
     word_of,
 };
-use crate::expressions::conditional;
+use crate::conditionals::conditional_by;
 use crate::held::with;
 use crate::named::is_empty;
 use crate::parse_end::ParseEnd;
 use crate::type_names::TypeNames;
 use crate::types::specifiers;
 use crate::words::is_name;
-use hs_syntax::{Declarator, Direct, Parameter};
+use hs_syntax::{Declarator, Direct, Expr, Parameter};
 use hs_tokens::{SourceToken, is_identifier};
 use std::alloc::Global;
 
@@ -26,20 +27,23 @@ use std::alloc::Global;
 /// `declarator = { "*" | dropped } direct`, where `direct` is what [`base`] and [`directs`] read
 ///
 /// Example: of `*p[4];`, it reads `*p[4]`: an array of 4 pointers.
-#[cycle(read)]
+#[cycle(types)]
 #[tactic(auto, using(crate::proofs::Stepping::declarator_step))]
-pub fn declarator<'a>(
+pub(crate) fn declarator<'a, F: Fn(&[SourceToken]) -> Result<(Expr, usize), ParseEnd>>(
     alloc: Global,
     known: &TypeNames,
+    conditional: &F,
     inner: bool,
     tokens: &'a [SourceToken],
 ) -> Result<(Declarator, &'a [SourceToken]), ParseEnd>
+    requires asks { MayAsk (F.pre conditional.now) (length tokens.now) }
+    requires reads { ReadsConditionals (F.post conditional.now) known.now (length tokens.now) }
     ensures read { Gives (λ x. (view_declarator x.0, x.1.now)) result (declarator_at known.now inner tokens.now) }
     ensures shorter { IfOk result (λ x. length x.1.now ≤ length tokens.now) }
 {
     let (pointers, behind) = pointers(alloc, tokens)?;
-    let (base, left) = base(alloc, known, inner, behind)?;
-    let (direct, rest) = directs(alloc, known, base, left)?;
+    let (base, left) = base(alloc, known, conditional, inner, behind)?;
+    let (direct, rest) = directs(alloc, known, conditional, base, left)?;
     Ok((Declarator { pointers, direct }, rest))
 }
 
@@ -47,14 +51,17 @@ pub fn declarator<'a>(
 /// be missing. There a `(` that may begin a list of parameters does.
 ///
 /// `identifier | "(" declarator ")" | nothing`
-#[cycle(read)]
+#[cycle(types)]
 #[tactic(auto, using(crate::proofs::Stepping::base_nothing, crate::proofs::Stepping::base_step))]
-fn base<'a>(
+fn base<'a, F: Fn(&[SourceToken]) -> Result<(Expr, usize), ParseEnd>>(
     alloc: Global,
     known: &TypeNames,
+    conditional: &F,
     inner: bool,
     tokens: &'a [SourceToken],
 ) -> Result<(Direct, &'a [SourceToken]), ParseEnd>
+    requires asks { MayAsk (F.pre conditional.now) (length tokens.now) }
+    requires reads { ReadsConditionals (F.post conditional.now) known.now (length tokens.now) }
     ensures read { Gives (λ x. (view_direct x.0, x.1.now)) result (base_at known.now inner tokens.now) }
     ensures shorter { IfOk result (λ x. length x.1.now ≤ length tokens.now) }
 {
@@ -63,7 +70,7 @@ fn base<'a>(
             return Ok((Direct::Name(word_of(alloc, source)?), rest));
         }
         if is_punctuator(source, b"(") && !(inner && begins_list(known, rest)) {
-            return inside(alloc, known, inner, rest);
+            return inside(alloc, known, conditional, inner, rest);
         }
     }
     if inner {
@@ -75,18 +82,21 @@ fn base<'a>(
 /// Reads a declarator in parentheses, after the first of them: it is not empty.
 ///
 /// `declarator ")"`
-#[cycle(read)]
+#[cycle(types)]
 #[tactic(auto, using(crate::proofs::Stepping::inside_step))]
-fn inside<'a>(
+fn inside<'a, F: Fn(&[SourceToken]) -> Result<(Expr, usize), ParseEnd>>(
     alloc: Global,
     known: &TypeNames,
+    conditional: &F,
     inner: bool,
     rest: &'a [SourceToken],
 ) -> Result<(Direct, &'a [SourceToken]), ParseEnd>
+    requires asks { MayAsk (F.pre conditional.now) (length rest.now) }
+    requires reads { ReadsConditionals (F.post conditional.now) known.now (length rest.now) }
     ensures read { Gives (λ x. (view_direct x.0, x.1.now)) result (inside_at known.now inner rest.now) }
     ensures shorter { IfOk result (λ x. length x.1.now ≤ length rest.now) }
 {
-    let (it, close) = declarator(alloc, known, inner, rest)?;
+    let (it, close) = declarator(alloc, known, conditional, inner, rest)?;
     let (it, (_, left)) = with(it, mark(close, b")"))?;
     if is_empty(&it) {
         return Err(ParseEnd::NotExpr);
@@ -97,14 +107,17 @@ fn inside<'a>(
 /// Reads the rest of a declarator: lengths of arrays and lists of parameters (X3.159-1989 3.5.4.2, 3.5.4.3).
 ///
 /// `{ "[" [conditional] "]" | "(" [ "void" | parameters ] ")" }`
-#[cycle(read)]
+#[cycle(types)]
 #[tactic(auto, using(crate::proofs::Stepping::directs_nothing, crate::proofs::Stepping::directs_length, crate::proofs::Stepping::directs_list, crate::proofs::Stepping::directs_end))]
-fn directs<'a>(
+fn directs<'a, F: Fn(&[SourceToken]) -> Result<(Expr, usize), ParseEnd>>(
     alloc: Global,
     known: &TypeNames,
+    conditional: &F,
     base: Direct,
     tokens: &'a [SourceToken],
 ) -> Result<(Direct, &'a [SourceToken]), ParseEnd>
+    requires asks { MayAsk (F.pre conditional.now) (length tokens.now) }
+    requires reads { ReadsConditionals (F.post conditional.now) known.now (length tokens.now) }
     ensures read { Gives (λ x. (view_direct x.0, x.1.now)) result (directs_at known.now (view_direct base) tokens.now) }
     ensures shorter { IfOk result (λ x. length x.1.now ≤ length tokens.now) }
 {
@@ -112,11 +125,11 @@ fn directs<'a>(
     let mut rest = tokens;
     'directs: while let Some((source, behind)) = first(rest) {
         if is_punctuator(source, b"[") {
-            let (it, left) = array_length(alloc, known, direct, behind)?;
+            let (it, left) = array_length(alloc, known, conditional, direct, behind)?;
             direct = it;
             rest = left;
         } else if is_punctuator(source, b"(") {
-            let (it, left) = parameter_list(alloc, known, direct, behind)?;
+            let (it, left) = parameter_list(alloc, known, conditional, direct, behind)?;
             direct = it;
             rest = left;
         } else {
@@ -129,14 +142,16 @@ fn directs<'a>(
 /// Reads the length of an array, if it has one, after the `[` (X3.159-1989 3.5.4.2).
 ///
 /// `[conditional] "]"`
-#[cycle(read)]
 #[tactic(auto, using(crate::proofs::Stepping::length_step))]
-fn array_length<'a>(
+fn array_length<'a, F: Fn(&[SourceToken]) -> Result<(Expr, usize), ParseEnd>>(
     alloc: Global,
     known: &TypeNames,
+    conditional: &F,
     base: Direct,
     rest: &'a [SourceToken],
 ) -> Result<(Direct, &'a [SourceToken]), ParseEnd>
+    requires asks { MayAsk (F.pre conditional.now) (length rest.now) }
+    requires reads { ReadsConditionals (F.post conditional.now) known.now (length rest.now) }
     ensures read { Gives (λ x. (view_direct x.0, x.1.now)) result (length_at known.now (view_direct base) rest.now) }
     ensures shorter { IfOk result (λ x. length x.1.now < length rest.now) }
 {
@@ -144,7 +159,7 @@ fn array_length<'a>(
     if let Some((_, left)) = mark_ahead(rest, b"]") {
         return Ok((Direct::Array(base), left));
     }
-    let (base, (length, close)) = with(base, conditional(alloc, known, rest))?;
+    let (base, (length, close)) = with(base, conditional_by(known, conditional, rest))?;
     let ((base, length), (_, left)) = with((base, length), mark(close, b"]"))?;
     let (base, length) = with(base, Box::new(alloc, length))?;
     Ok((Direct::Sized { base, length }, left))
@@ -153,14 +168,17 @@ fn array_length<'a>(
 /// Reads a list of parameters after the `(`: none, `void` alone, or some (X3.159-1989 3.5.4.3).
 ///
 /// `[ "void" | parameters ] ")"`
-#[cycle(read)]
+#[cycle(types)]
 #[tactic(auto, using(crate::proofs::Stepping::list_step, crate::proofs::Seen::parameters_seen))]
-fn parameter_list<'a>(
+fn parameter_list<'a, F: Fn(&[SourceToken]) -> Result<(Expr, usize), ParseEnd>>(
     alloc: Global,
     known: &TypeNames,
+    conditional: &F,
     base: Direct,
     rest: &'a [SourceToken],
 ) -> Result<(Direct, &'a [SourceToken]), ParseEnd>
+    requires asks { MayAsk (F.pre conditional.now) (length rest.now) }
+    requires reads { ReadsConditionals (F.post conditional.now) known.now (length rest.now) }
     ensures read { Gives (λ x. (view_direct x.0, x.1.now)) result (list_at known.now (view_direct base) rest.now) }
     ensures shorter { IfOk result (λ x. length x.1.now < length rest.now) }
 {
@@ -182,7 +200,7 @@ fn parameter_list<'a>(
             left,
         ));
     }
-    let (base, (parameters, close)) = with(base, parameters(alloc, known, rest))?;
+    let (base, (parameters, close)) = with(base, parameters(alloc, known, conditional, rest))?;
     let ((base, parameters), (_, left)) = with((base, parameters), mark(close, b")"))?;
     let (parameters, base) = with(parameters, Box::new(alloc, base))?;
     Ok((Direct::Function { base, parameters }, left))
@@ -191,22 +209,25 @@ fn parameter_list<'a>(
 /// Reads declarators with commas between them (X3.159-1989 3.5).
 ///
 /// `declarator { "," declarator }`
-#[cycle(read)]
+#[cycle(types)]
 #[tactic(auto, using(crate::proofs::Stepping::declarators_step))]
-pub(crate) fn declarators<'a>(
+pub(crate) fn declarators<'a, F: Fn(&[SourceToken]) -> Result<(Expr, usize), ParseEnd>>(
     alloc: Global,
     known: &TypeNames,
+    conditional: &F,
     tokens: &'a [SourceToken],
 ) -> Result<(Vec<Declarator>, &'a [SourceToken]), ParseEnd>
+    requires asks { MayAsk (F.pre conditional.now) (length tokens.now) }
+    requires reads { ReadsConditionals (F.post conditional.now) known.now (length tokens.now) }
     ensures read { Gives (λ x. (map view_declarator x.0.items, x.1.now)) result (declarators_at known.now [] tokens.now) }
     ensures shorter { IfOk result (λ x. length x.1.now ≤ length tokens.now) }
 {
     let mut its = Vec::new(alloc);
-    let (start, behind) = declarator(alloc, known, false, tokens)?;
+    let (start, behind) = declarator(alloc, known, conditional, false, tokens)?;
     its.push(start)?;
     let mut rest = behind;
     'declarators: while let Some((_, next)) = mark_ahead(rest, b",") {
-        let (it, left) = declarator(alloc, known, false, next)?;
+        let (it, left) = declarator(alloc, known, conditional, false, next)?;
         its.push(it)?;
         rest = left;
     }
@@ -216,22 +237,25 @@ pub(crate) fn declarators<'a>(
 /// Reads parameters with commas between them (X3.159-1989 3.5.4.3).
 ///
 /// `parameters = parameter { "," parameter }`
-#[cycle(read)]
+#[cycle(types)]
 #[tactic(auto, using(crate::proofs::Stepping::parameters_step))]
-fn parameters<'a>(
+fn parameters<'a, F: Fn(&[SourceToken]) -> Result<(Expr, usize), ParseEnd>>(
     alloc: Global,
     known: &TypeNames,
+    conditional: &F,
     tokens: &'a [SourceToken],
 ) -> Result<(Vec<Parameter>, &'a [SourceToken]), ParseEnd>
+    requires asks { MayAsk (F.pre conditional.now) (length tokens.now) }
+    requires reads { ReadsConditionals (F.post conditional.now) known.now (length tokens.now) }
     ensures read { Gives (λ x. (map view_parameter x.0.items, x.1.now)) result (parameters_at known.now [] tokens.now) }
     ensures shorter { IfOk result (λ x. length x.1.now < length tokens.now) }
 {
     let mut its = Vec::new(alloc);
-    let (start, behind) = parameter(alloc, known, tokens)?;
+    let (start, behind) = parameter(alloc, known, conditional, tokens)?;
     its.push(start)?;
     let mut rest = behind;
     'parameters: while let Some((_, next)) = mark_ahead(rest, b",") {
-        let (it, left) = parameter(alloc, known, next)?;
+        let (it, left) = parameter(alloc, known, conditional, next)?;
         its.push(it)?;
         rest = left;
     }
@@ -241,20 +265,23 @@ fn parameters<'a>(
 /// Reads a parameter: specifiers, and a declarator that may name nothing (X3.159-1989 3.5.4.3).
 ///
 /// `parameter = specifiers [ declarator | abstract ]`
-#[cycle(read)]
+#[cycle(types)]
 #[tactic(auto, using(crate::proofs::Stepping::parameter_step, crate::proofs::Seen::specification_seen))]
-fn parameter<'a>(
+fn parameter<'a, F: Fn(&[SourceToken]) -> Result<(Expr, usize), ParseEnd>>(
     alloc: Global,
     known: &TypeNames,
+    conditional: &F,
     tokens: &'a [SourceToken],
 ) -> Result<(Parameter, &'a [SourceToken]), ParseEnd>
+    requires asks { MayAsk (F.pre conditional.now) (length tokens.now) }
+    requires reads { ReadsConditionals (F.post conditional.now) known.now (length tokens.now) }
     ensures read { Gives (λ x. (view_parameter x.0, x.1.now)) result (parameter_at known.now tokens.now) }
     ensures shorter { IfOk result (λ x. length x.1.now < length tokens.now) }
 {
-    let (specifiers, behind) = specifiers(alloc, known, tokens)?;
+    let (specifiers, behind) = specifiers(alloc, known, conditional, tokens)?;
     let (specifiers, (declarator, rest)) = with(
         specifiers,
-        declarator(alloc, known, true, behind),
+        declarator(alloc, known, conditional, true, behind),
     )?;
     Ok((
         Parameter {

@@ -1,6 +1,6 @@
 //! Parses expressions from the comma to the binary operators (X3.159-1989 3.3.5 to 3.3.17).
 
-ghost use Rattle.std.specs.Prelude.{◌≡◌, ◌<◌, length, map, IfOk};
+ghost use Rattle.std.specs.Prelude.{◌≡◌, ◌<◌, ◌≤◌, length, drop, map, IfOk};
 ghost use Rattle.hs_syntax.specs.RowViews.{view_left};
 ghost use Rattle.hs_syntax.specs.Views.{view};
 ghost use Rattle.hs_expr_parser.specs.Given.{Gives};
@@ -193,6 +193,21 @@ pub fn conditional<'a>(
         },
         left,
     ))
+}
+
+/// Reads a conditional expression (X3.159-1989 3.3.15), and says how many tokens it takes.
+#[cycle(read)]
+#[tactic(auto, using(crate::proofs::Taken::conditional_taken))]
+pub(crate) fn conditional_taken(
+    alloc: Global,
+    known: &TypeNames,
+    tokens: &[SourceToken],
+) -> Result<(Expr, usize), ParseEnd>
+    ensures read { Gives (λ x. (view x.0, drop x.1 tokens.now)) result (conditional_at known.now tokens.now) }
+    ensures taken { IfOk result (λ x. (0 < x.1) × (x.1 ≤ length tokens.now)) }
+{
+    let (e, rest) = conditional(alloc, known, tokens)?;
+    Ok((e, tokens.len() - rest.len()))
 }
 
 /// Reads what follows a test: a `?`, an expression, a `:` and a conditional expression (X3.159-1989 3.3.15).

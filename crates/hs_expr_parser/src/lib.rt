@@ -3,6 +3,7 @@
 #![tactic(auto)]
 
 mod ahead;
+mod conditionals;
 mod declarators;
 mod expressions;
 mod held;
@@ -11,6 +12,7 @@ mod longest;
 mod named;
 mod operators;
 mod parse_end;
+mod phrases;
 mod postfixes;
 mod rank;
 mod type_names;
@@ -21,7 +23,6 @@ mod words;
 pub use ahead::{
     begins_specifiers, first, is_keyword, is_mark_ahead, is_punctuator, mark, mark_ahead, place_of,
 };
-pub use declarators::declarator;
 pub use expressions::{assignment, conditional, expression};
 pub use held::with;
 pub use laws::{
@@ -30,5 +31,5 @@ pub use laws::{
 };
 pub use longest::expr;
 pub use parse_end::ParseEnd;
+pub use phrases::{declarator, specifiers};
 pub use type_names::TypeNames;
-pub use types::specifiers;

@@ -1,12 +1,13 @@
 //! Parses casts and unary expressions (X3.159-1989 3.3.3 and 3.3.4).
 
-ghost use Rattle.std.specs.Prelude.{◌≡◌, ◌<◌, length, map, IfOk};
+ghost use Rattle.std.specs.Prelude.{◌≡◌, ◌<◌, ◌≤◌, length, drop, map, IfOk};
 ghost use Rattle.hs_syntax.specs.Trees as tree;
 ghost use Rattle.hs_syntax.specs.Views.{view, view_type};
 ghost use Rattle.hs_expr_parser.specs.Given.{Gives};
-ghost use Rattle.hs_expr_parser.specs.Steps.{cast_at, type_in_parens_at, unary_at, operand_of, sizeof_at};
+ghost use Rattle.hs_expr_parser.specs.Steps.{conditional_at, cast_at, type_in_parens_at, unary_at, operand_of, sizeof_at};
 
 use crate::ahead::{begins_type, first, is_keyword, mark, place_of};
+use crate::expressions::conditional_taken;
 use crate::held::{boxed_two, with};
 use crate::operators::prefix_of;
 use crate::parse_end::ParseEnd;
@@ -60,7 +61,16 @@ fn type_in_parens<'a>(
     ensures shorter { IfOk result (λ x. length x.1.now < length tokens.now) }
 {
     let (at, behind) = mark(tokens, b"(")?;
-    let (it, close) = type_name(alloc, known, behind)?;
+    let conditional = |inner: &[SourceToken]|
+        requires { length inner.now < length tokens.now }
+        ensures read { Gives (λ x. (view x.0, drop x.1 inner.now)) result (conditional_at known.entry.now inner.now) }
+        ensures shorter { IfOk result (λ x. (0 < x.1) × (x.1 ≤ length inner.now)) }
+    {
+        // captured, so that the clause can name it
+        let _within = tokens;
+        conditional_taken(alloc, known, inner)
+    };
+    let (it, close) = type_name(alloc, known, &conditional, behind)?;
     let (it, (_, rest)) = with(it, mark(close, b")"))?;
     Ok(((at, it), rest))
 }
