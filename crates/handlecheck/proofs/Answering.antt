@@ -15,7 +15,7 @@ use Rattle.handlecheck.specs.declared.report.Report.{Report}
 use Rattle.handlecheck.specs.declared.report.Report.TheVariants.{Accepted, Hazards, Refused, Unbuilt, Usage, Missing, Unread, Limited, NoMemory}
 use Rattle.handlecheck.specs.declared.status.Status.{Status}
 use Rattle.handlecheck.specs.declared.status.Status.TheVariants as status
-use Rattle.handlecheck.proofs.Reads.{right_of}
+use Rattle.handlecheck.proofs.RightReads.{right_of}
 
 -- what is right of the named files is right of the words
 report_of : (words names : List (List ℕ)) (reads : List Read) (report : Report)

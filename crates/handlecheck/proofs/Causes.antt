@@ -25,7 +25,7 @@ use Rattle.handlecheck.specs.declared.report.Report.TheVariants.{Accepted, Hazar
 use Rattle.handlecheck.specs.declared.status.Status.{Status}
 use Rattle.handlecheck.specs.declared.status.Status.TheVariants as status
 use Rattle.handlecheck.proofs.Outcomes.{Agrees, agrees, same_count}
-use Rattle.handlecheck.proofs.Reads.{miss_rose, fault_rose, fault_rose_last}
+use Rattle.handlecheck.proofs.RightReads.{miss_rose, fault_rose, fault_rose_last}
 use Rattle.handlecheck.proofs.Units.{parsed-no_syntax, parsed-not_deep, syntax-not_deep}
 
 -- an answer is Unwritten and a fault was counted, or it is the report's status
@@ -360,9 +360,9 @@ causes_of call answer answered =
     causes_by call answer answered.right answered.report answered.is_report answered.is_put (cause answered.report answer call.old call.new answered.is_put)
 
 -- if the words are no command, nothing is read
-pub nothing_read : {F : Type 0} {leads : F → Read → F → Type 0} (first last : F) (call : Call) (answer : Status)
+pub nothing_read : {F : Type 0} (leads : F → Read → F → Type 0) (first last : F) (call : Call) (answer : Status)
     → Leads leads first call.reads last → IsAnswered call answer → IsNoCheck call.words → last ≡ first
-nothing_read {leads = leads} first last call answer led answered none = go answered.asked where
+nothing_read leads first last call answer led answered none = go answered.asked where
   go : AreAsked call.words call.reads → last ≡ first
   go (inl nothing) = subst (λ (reads : List Read). Leads leads first reads last) nothing led
   go (inr asked) = absurd (no_check call.words asked.0 none asked.1)

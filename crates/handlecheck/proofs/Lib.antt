@@ -1,6 +1,6 @@
 pub mod Answering
 pub mod Causes
 pub mod Outcomes
-pub mod Reads
+pub mod RightReads
 pub mod Through
 pub mod Units

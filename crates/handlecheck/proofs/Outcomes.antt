@@ -21,7 +21,7 @@ use Rattle.handlecheck.specs.Report.{Call, IsReport}
 use Rattle.handlecheck.specs.declared.fault.Fault.{Fault}
 use Rattle.handlecheck.specs.declared.report.Report.{Report}
 use Rattle.handlecheck.specs.declared.report.Report.TheVariants.{Accepted, Hazards, Refused, Unbuilt, Usage, Missing, Unread, Limited, NoMemory}
-use Rattle.handlecheck.proofs.Reads.{told_fits, fault_rose}
+use Rattle.handlecheck.proofs.RightReads.{told_fits, fault_rose}
 
 -- what the report says of the outcome
 abbrev pub Agrees : Report → Result Source ReadError → Type 0

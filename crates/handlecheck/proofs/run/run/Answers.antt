@@ -4,7 +4,7 @@ use Rattle.handlecheck.proofs.run.run.Goals as goal
 
 pub returns-clause-no_read : goal.returns-clause-no_read
 returns-clause-no_read g c none =
-    let made = c.answer.ensures.answered in nothing_read c.args.files.now c.answer.new.files _ c.answer.result made.1 made.2 none
+    let made = c.answer.ensures.answered in nothing_read _ c.args.files.now c.answer.new.files _ c.answer.result made.1 made.2 none
 
 pub returns-clause-headline : goal.returns-clause-headline
 returns-clause-headline g c =

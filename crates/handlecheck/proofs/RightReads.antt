@@ -62,8 +62,8 @@ told_fits files before now (read ∷ reads) right steady =
     )
 
 -- a count that rose at a read rose over all
-rose_on : (before mid later now : ℕ) → before ≤ mid → later ≤ now → HasRisen mid later → HasRisen before now
-rose_on before mid later now first second rose = λ below. grind (arith, rose, first, second, below)
+rose_on : (before mid later now : ℕ) → before ≤ mid → mid ≤ later → later ≤ now → HasRisen mid later → HasRisen before now
+rose_on before mid later now first up_on second rose = λ below. grind (arith, rose, first, up_on, second, below)
 
 -- the last read ended so: its answer says what was counted
 module _ (P : Counts → Counts → Type 0) (name : List ℕ) (end : FileEnd)
@@ -74,13 +74,14 @@ module _ (P : Counts → Counts → Type 0) (name : List ℕ) (end : FileEnd)
   last_says told before now (read ∷ []) right is = (is.0, says told read right.2 is.1)
   last_says told before now (read ∷ next ∷ reads) right is = last_says told read.now now (next ∷ reads) right.3 is
 
-  over_all : ((before mid later now : Counts) → NeverFall before mid → NeverFall later now → P mid later → P before now)
+  over_all : ((before mid later now : Counts) → NeverFall before mid → NeverFall mid later → NeverFall later now → P mid later → P before now)
       → (told : Option Listing) (before now : Counts) (reads : List Read) → AreRight told before now reads
       → IsLast reads name end → P before now
   over_all widens told before now [] right is = absurd is
   over_all widens told before now (read ∷ []) right is =
       widens before read.before read.now now
       (subst (λ (it : Counts). NeverFall before it) (sym right.0) (same before))
+      right.1
       (subst (λ (it : Counts). NeverFall read.now it) (sym right.3) (same read.now))
       (says told read right.2 is.1) where
         same : (counts : Counts) → NeverFall counts counts
@@ -88,6 +89,7 @@ module _ (P : Counts → Counts → Type 0) (name : List ℕ) (end : FileEnd)
   over_all widens told before now (read ∷ next ∷ reads) right is =
       widens before read.now now now
       (subst (λ (it : Counts). NeverFall it read.now) right.0 right.1)
+      (up told read.now now (next ∷ reads) right.3)
       (same now)
       (over_all widens told read.now now (next ∷ reads) right.3 is) where
         same : (counts : Counts) → NeverFall counts counts
@@ -102,7 +104,7 @@ pub miss_rose : (told : Option Listing) (before now : Counts) (reads : List Read
     → IsLast reads name ends.Missing → HasRisen before.misses now.misses
 miss_rose told before now reads name =
     over_all (λ before' now'. HasRisen before'.misses now'.misses) name ends.Missing miss_says
-    (λ first mid later last low high rose. rose_on first.misses mid.misses later.misses last.misses low.misses high.misses rose)
+    (λ first mid later last low on high rose. rose_on first.misses mid.misses later.misses last.misses low.misses on.misses high.misses rose)
     told before now reads
 
 -- a read that failed counted a fault, and did so itself
@@ -114,7 +116,7 @@ pub fault_rose : (told : Option Listing) (before now : Counts) (reads : List Rea
     → IsLast reads name ends.Failed → HasRisen before.faults now.faults
 fault_rose told before now reads name =
     over_all (λ before' now'. HasRisen before'.faults now'.faults) name ends.Failed fault_says
-    (λ first mid later last low high rose. rose_on first.faults mid.faults later.faults last.faults low.faults high.faults rose)
+    (λ first mid later last low on high rose. rose_on first.faults mid.faults later.faults last.faults low.faults on.faults high.faults rose)
     told before now reads
 
 pub fault_rose_last : (told : Option Listing) (before now : Counts) (reads : List Read) (name : List ℕ) → AreRight told before now reads
