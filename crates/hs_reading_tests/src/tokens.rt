@@ -334,6 +334,44 @@ fn a_counted_string_has_255_bytes_at_most(rt: HostRuntime) -> Result<(), Fail> {
     Ok(())
 }
 
+/// A string of `\p`, the front, so many letters and the back.
+fn counted(
+    alloc: Global,
+    front: &[u8],
+    letters: usize,
+    back: &[u8],
+) -> Result<Vec<u8>, AllocError> {
+    let mut text = b"\"\\p".to_vec(alloc)?;
+    text.extend_from_slice(front)?;
+    for _ in 0..letters {
+        text.push(b'a')?;
+    }
+    text.extend_from_slice(back)?;
+    text.push(b'"')?;
+    Ok(text)
+}
+
+// Own: if a string that begins with `\p` has more than 255 bytes and a bad escape, the `\p` is named, which is in front.
+#[test]
+fn a_count_is_refused_before_a_bad_escape(rt: HostRuntime) -> Result<(), Fail> {
+    let alloc = rt.alloc();
+    let expected: [(&[u8], usize, &[u8], Option<ScanError>); 8] = [
+        (b"", 255, b"", None),
+        (b"", 256, b"", Some(ScanError::BadByte(place(1, 2)))),
+        (b"\\q", 0, b"", Some(ScanError::BadByte(place(1, 4)))),
+        (b"\\q", 253, b"", Some(ScanError::BadByte(place(1, 4)))),
+        (b"", 253, b"\\q", Some(ScanError::BadByte(place(1, 257)))),
+        (b"\\q", 254, b"", Some(ScanError::BadByte(place(1, 2)))),
+        (b"", 254, b"\\q", Some(ScanError::BadByte(place(1, 2)))),
+        (b"\\400", 300, b"", Some(ScanError::BadByte(place(1, 2)))),
+    ];
+    for (front, letters, back, answer) in expected {
+        let text = counted(alloc, front, letters, back)?;
+        assert_eq!(rt; scanned(alloc, text.as_slice(), ROOM)?.err(), answer);
+    }
+    Ok(())
+}
+
 // Own: a token without room is reported before what is refused after it, and after what is refused before it.
 #[test]
 fn a_text_has_no_more_tokens_than_room(rt: HostRuntime) -> Result<(), Fail> {

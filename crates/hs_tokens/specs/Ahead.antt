@@ -7,16 +7,16 @@
 --     IsNext cursor step              the step is at the first byte of phase 2
 --     IsSplice step behind            the cursor is after the splice that begins there
 --     IsCharacter step behind         the cursor is after the character that begins there
---     HasCharacters content count     so many characters, or the place of the first bad escape
+--     IsFirstBad content bad          the place of the first bad escape of a content, if there is one
 --     form part                       the form that a part of the code stands for
 --     comment_ahead pos cursor, character_ahead pos cursor, literal_ahead pos cursor
 --                                     the form of a comment, a character constant and a literal, at the place of its
 --                                     opening, with the cursor after that
-use Rattle.std.specs.Prelude.{ℕ, ◌+◌, ◌-◌, ◌<◌, ◌≤◌, ◌≡◌, true, false, List, [], ◌∷◌, length, drop, Option, Some, None, Result, Ok, Err}
+use Rattle.std.specs.Prelude.{ℕ, ◌+◌, ◌-◌, ◌<◌, ◌≤◌, ◌≡◌, true, false, List, [], ◌∷◌, length, drop, Option, Some, None}
 use Rattle.hs_base.specs.declared.pos.Pos.{Pos}
 use Rattle.hs_tokens.specs.Lines.{Placed, placed_from, unspliced}
 use Rattle.hs_tokens.specs.Literals.{content_len, character_len, is_bad_character}
-use Rattle.hs_tokens.specs.Forms.{bytes_of, characters, first_bad, comment_len_after, Form, blank, line_end, comment, token, refused, comment_form, character_form, literal_form}
+use Rattle.hs_tokens.specs.Forms.{bytes_of, first_bad, comment_len_after, Form, blank, line_end, comment, token, refused, comment_form, character_form, literal_form}
 use Rattle.hs_tokens.specs.Cursor.{ahead_of}
 use Rattle.hs_tokens.specs.declared.cursor.Cursor.{Cursor}
 use Rattle.hs_tokens.specs.declared.cursor.Step.{Step}
@@ -64,15 +64,14 @@ IsSplice step (Some behind) =
 
 -- after the character that the byte begins, or none if that is a bad escape
 abbrev pub IsCharacter : Step → Option Cursor → Type 0
-IsCharacter step None = is_bad_character (bytes_at step) ≡ true
+IsCharacter step None = (is_bad_character (bytes_at step) ≡ true) × (character_len (bytes_at step) ≡ 1)
 IsCharacter step (Some behind) =
     (is_bad_character (bytes_at step) ≡ false) × (ahead behind ≡ drop (character_len (bytes_at step) - 1) (ahead step.after))
     × (behind.left ≤ step.after.left)
 
--- how many characters a content has, or the place of the first bad escape
-abbrev pub HasCharacters : List Placed → Result ℕ Pos → Type 0
-HasCharacters content (Ok count) = (count ≡ length (characters content)) × ((other : Pos) → first_bad other content ≡ None)
-HasCharacters content (Err bad) = (other : Pos) → first_bad other content ≡ Some bad
+-- the place of the first bad escape of a content, if there is one
+abbrev pub IsFirstBad : List Placed → Option Pos → Type 0
+IsFirstBad content bad = (other : Pos) → first_bad other content ≡ bad
 
 -- what the definition calls a part
 abbrev pub form : Part → Form

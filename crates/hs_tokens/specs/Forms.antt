@@ -106,13 +106,13 @@ place_of_bad other (Some rest) = Some (place_of other rest)
 abbrev pub first_bad : Pos → List Placed → Option Pos
 first_bad pos content = place_of_bad pos (find (λ rest. is_bad_character (bytes_of rest)) (characters content))
 
--- a literal whose characters are good, of so many bytes at most
+-- a literal whose characters are good, if its number of bytes fits
 abbrev pub good_form : Pos → Option Pos → Bool → Form → Form
 good_form pos (Some bad) fits form = refused (BadByte bad)
 good_form pos None true form = form
 good_form pos None false form = refused (BadByte pos)
 
--- C 3.1.3.4: one to four bytes (own), at the opening quote
+-- C 3.1.3.4: one to four bytes (own), at the opening quote. A bad escape is refused before the number of bytes is.
 abbrev pub character_form : Pos → List Placed → Option ℕ → Form
 character_form pos rest None = refused (OpenString pos)
 character_form pos rest (Some n) =
@@ -123,12 +123,15 @@ character_form pos rest (Some n) =
 abbrev pub is_counted : List ℕ → Bool
 is_counted bytes = starts_with nat_eq bytes (92 ∷ 112 ∷ [])
 
--- C 3.1.4. A string that begins with `\\p` has a byte in front that counts the others (own): at most 255.
+-- C 3.1.4. A string that begins with `\\p` has a byte in front that counts the others (own): at most 255. One with more
+-- is refused at its `\\p`, whatever escapes follow it.
 abbrev pub literal_form : Pos → List Placed → Option ℕ → Form
 literal_form pos rest None = refused (OpenString pos)
 literal_form pos rest (Some n) =
     if is_counted (bytes_of (take n rest))
-    then good_form (place_of pos rest) (first_bad pos (drop 2 (take n rest))) (nat_lt (length (characters (drop 2 (take n rest)))) 256) (token Literal (n + 2))
+    then if nat_lt (length (characters (drop 2 (take n rest)))) 256
+    then good_form pos (first_bad pos (drop 2 (take n rest))) true (token Literal (n + 2))
+    else refused (BadByte (place_of pos rest))
     else good_form pos (first_bad pos (take n rest)) true (token Literal (n + 2))
 
 -- a token that is no literal, or a byte that begins none

@@ -1,14 +1,14 @@
 //! What begins at a byte, and how long it is (X3.159-1989 2.1.1.2, phase 3).
 
-ghost use Rattle.std.specs.Prelude.{◌≡◌, ◌≤◌, map, IfSome, false};
+ghost use Rattle.std.specs.Prelude.{◌≡◌, ◌≤◌, map, IfSome, true, false};
 ghost use Rattle.std.specs.List.{prefix_len, starts_with};
 ghost use Rattle.hs_base.specs.Text.{is_word_byte};
-ghost use Rattle.hs_tokens.specs.Forms.{begins_number, number_len, comment_len_after, longest_of, punctuators, punctuator_len, plain_form, form_of};
+ghost use Rattle.hs_tokens.specs.Forms.{begins_number, number_len, comment_len_after, longest_of, punctuators, punctuator_len, first_bad, good_form, plain_form, form_of};
 ghost use Rattle.hs_tokens.specs.Ahead.{ahead, bytes_ahead, bytes_at, form, comment_ahead, character_ahead, literal_ahead};
 
 use crate::characters::is_blank;
 use crate::cursor::{Cursor, Step};
-use crate::literals::{characters, content_len};
+use crate::literals::{character_count, content_len, first_bad};
 use crate::scan_error::ScanError;
 use crate::token::TokenKind;
 use hs_base::{Pos, is_digit, is_letter, is_word_byte};
@@ -152,15 +152,26 @@ fn character(pos: Pos, rest: Cursor) -> Part
     if len == 0 {
         return Part::Refused(ScanError::OpenString(pos));
     }
-    match characters(rest.front(len)) {
-        Err(bad) => Part::Refused(ScanError::BadByte(bad)),
-        Ok(count) if count < 5 => Part::Token(TokenKind::Character, len + 2),
-        Ok(_) => Part::Refused(ScanError::BadByte(pos)),
+    let content = rest.front(len);
+    match first_bad(content) {
+        Some(bad) => Part::Refused(ScanError::BadByte(bad)),
+        None if character_count(content) < 5 => Part::Token(TokenKind::Character, len + 2),
+        None => Part::Refused(ScanError::BadByte(pos)),
+    }
+}
+
+/// The token, if its content has no bad escape.
+fn good(content: Cursor, token: Part) -> Part
+    ensures { (pos : Pos) → form result ≡ good_form pos (first_bad pos (ahead content.entry)) true (form token) }
+{
+    match first_bad(content) {
+        Some(bad) => Part::Refused(ScanError::BadByte(bad)),
+        None => token,
     }
 }
 
 /// The string literal whose opening quote is at that place, with the rest after the quote. One that begins with `\p`
-/// counts at most 255 bytes (X3.159-1989 3.1.4, and own).
+/// counts at most 255 bytes. If it has more, its `\p` is refused before any bad escape (X3.159-1989 3.1.4, and own).
 fn literal(pos: Pos, rest: Cursor) -> Part
     ensures { form result ≡ literal_ahead pos rest.entry }
 {
@@ -168,17 +179,15 @@ fn literal(pos: Pos, rest: Cursor) -> Part
         return Part::Refused(ScanError::OpenString(pos));
     };
     let content = rest.front(len);
-    if content.starts_with(b"\\p") {
-        match characters(content.behind(2)) {
-            Err(bad) => Part::Refused(ScanError::BadByte(bad)),
-            Ok(count) if count < 256 => Part::Token(TokenKind::Literal, len + 2),
-            Ok(_) => Part::Refused(ScanError::BadByte(rest.place(pos))),
-        }
+    let token = Part::Token(TokenKind::Literal, len + 2);
+    if !content.starts_with(b"\\p") {
+        return good(content, token);
+    }
+    let counted = content.behind(2);
+    if character_count(counted) < 256 {
+        good(counted, token)
     } else {
-        match characters(content) {
-            Err(bad) => Part::Refused(ScanError::BadByte(bad)),
-            Ok(_) => Part::Token(TokenKind::Literal, len + 2),
-        }
+        Part::Refused(ScanError::BadByte(rest.place(pos)))
     }
 }
 

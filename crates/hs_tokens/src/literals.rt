@@ -1,8 +1,9 @@
 //! Character constants and string literals (X3.159-1989 3.1.3.4 and 3.1.4).
 
-ghost use Rattle.std.specs.Prelude.{◌≡◌, ◌≤◌, IfSome};
-ghost use Rattle.hs_tokens.specs.Literals.{content_len, escape_len, octal_escape, hex_escape};
-ghost use Rattle.hs_tokens.specs.Ahead.{ahead, bytes_ahead, IsCharacter, HasCharacters};
+ghost use Rattle.std.specs.Prelude.{◌≡◌, ◌≤◌, ◌-◌, IfSome, length, drop};
+ghost use Rattle.hs_tokens.specs.Literals.{character_len, content_len, escape_len, octal_escape, hex_escape};
+ghost use Rattle.hs_tokens.specs.Forms.{characters};
+ghost use Rattle.hs_tokens.specs.Ahead.{ahead, bytes_ahead, bytes_at, IsCharacter, IsFirstBad};
 
 use crate::characters::{hex_digit_value, is_hex, is_octal, is_simple_escape, octal_digit_value};
 use crate::cursor::{Cursor, Step};
@@ -100,18 +101,40 @@ fn behind_character(step: Step) -> Option<Cursor>
     }
 }
 
-/// How many characters a content has, or the place of the first bad escape.
-pub(crate) fn characters(content: Cursor) -> Result<usize, Pos>
-    ensures { HasCharacters (ahead content.entry) result }
+/// After the character that the byte begins, or after the backslash of a bad escape.
+fn behind_any(step: Step) -> Cursor
+    ensures ahead { ahead result ≡ drop (character_len (bytes_at step.entry) - 1) (ahead step.entry.after) }
+    ensures left { result.left ≤ step.entry.after.left }
+{
+    match behind_character(step) {
+        Some(behind) => behind,
+        None => step.after,
+    }
+}
+
+/// The place of the first bad escape of a content, if there is one.
+pub(crate) fn first_bad(content: Cursor) -> Option<Pos>
+    ensures { IsFirstBad (ahead content.entry) result }
+{
+    let mut rest = content;
+    'characters: while let Some(step) = rest.next() {
+        let Some(behind) = behind_character(step) else {
+            return Some(step.pos);
+        };
+        rest = behind;
+    }
+    None
+}
+
+/// How many characters a content has. A bad escape counts as one, its backslash.
+pub(crate) fn character_count(content: Cursor) -> usize
+    ensures { result ≡ length (characters (ahead content.entry)) }
 {
     let mut rest = content;
     let mut count = 0;
     'characters: while let Some(step) = rest.next() {
-        let Some(behind) = behind_character(step) else {
-            return Err(step.pos);
-        };
-        rest = behind;
+        rest = behind_any(step);
         count += 1;
     }
-    Ok(count)
+    count
 }

@@ -1,13 +1,11 @@
 use Rattle.std.proofs.Common.{◌≡◌, ◌≤◌, ◌+◌, length}
-use Rattle.hs_base.specs.declared.pos.Pos.{Pos}
-use Rattle.hs_tokens.specs.Forms.{characters, first_bad}
+use Rattle.hs_tokens.specs.Forms.{characters}
 use Rattle.hs_tokens.specs.Ahead.{ahead}
-use Rattle.hs_tokens.proofs.literals.characters.Given as goal
+use Rattle.hs_tokens.proofs.literals.character_count.Given as goal
 
 abbrev pub invariant-characters : goal.invariant-characters
 invariant-characters l = record {
   count : l.count + length (characters (ahead l.rest)) ≡ length (characters (ahead l.initial.rest));
-  bad : (other : Pos) → first_bad other (ahead l.rest) ≡ first_bad other (ahead l.initial.rest);
   left : l.count + l.rest.left ≤ l.initial.rest.left;
 }
 
