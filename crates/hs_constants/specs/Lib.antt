@@ -5,3 +5,4 @@ pub mod Digits
 pub mod Escapes
 pub mod Numbers
 pub mod Reading
+pub mod Strings

@@ -16,9 +16,9 @@ struct Escape {
 
 /// The character at the front of a content, and what follows it.
 #[derive(Clone, Copy)]
-struct Character<'a> {
-    value: u8,
-    behind: &'a [u8],
+pub(crate) struct Character<'a> {
+    pub(crate) value: u8,
+    pub(crate) behind: &'a [u8],
 }
 
 /// One to three octal digits (X3.159-1989 3.1.3.4).
@@ -77,7 +77,7 @@ fn escape_ahead(bytes: &[u8]) -> Escape
 }
 
 /// The character at the front of a content (X3.159-1989 3.1.3.4).
-fn character_ahead(content: &[u8]) -> Option<Character<'_>>
+pub(crate) fn character_ahead(content: &[u8]) -> Option<Character<'_>>
     ensures { IsCharacter content.now result }
 {
     let (byte, after) = content.split_first()?;

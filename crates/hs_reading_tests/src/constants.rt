@@ -1,7 +1,9 @@
 //! Constants and conditions: their values, and those that are refused.
 
-use crate::texts::tokens_of;
-use hs_constants::{Number, Value, character_value, condition_value, number_value};
+use crate::texts::{counted_literal, tokens_of};
+use hs_constants::{
+    Number, Value, character_value, condition_value, has_string_value, number_value, string_value,
+};
 use hs_tokens::{Origin, SourceToken};
 use std::alloc::Global;
 use std::process::Abort;
@@ -561,5 +563,55 @@ fn nesting_has_no_limit(rt: HostRuntime) -> Result<(), Fail> {
         let value = value_of(rt.alloc(), text.as_slice())?;
         assert_eq!(rt; value.map(|value| value.unsigned), Some(false));
     }
+    Ok(())
+}
+
+/// Each text is a string literal of the bytes next to it.
+fn have_bytes(rt: &impl Abort, alloc: Global, rows: &[(&[u8], &[u8])]) -> Result<(), Fail> {
+    for (text, bytes) in rows {
+        let Some(found) = string_value(alloc, text)? else {
+            return Err(Fail::new("a string literal has a value"));
+        };
+        assert_eq!(rt; found.items(), *bytes, "in {text:?}");
+        assert!(rt; has_string_value(text), "in {text:?}");
+    }
+    Ok(())
+}
+
+// X3.159-1989 3.1.4 and 3.1.3.4: the characters and the escapes of a string. Own: bytes above 127, and the count of a string
+// that begins with `\p`.
+#[test]
+fn strings_have_these_bytes(rt: HostRuntime) -> Result<(), Fail> {
+    have_bytes(
+        &rt,
+        rt.alloc(),
+        &[
+            (b"\"\"", b""),
+            (b"\"a b'\"", b"a b'"),
+            (b"\"\\n\\\"\\\\\\a\\v\"", b"\n\"\\\x07\x0b"),
+            (b"\"\\0\\18\\3771\"", b"\x00\x018\xff1"),
+            (b"\"\\x41\\xFg\\x000a\"", b"A\x0fg\n"),
+            (b"\"\x80\xff\"", b"\x80\xff"),
+            (b"\"\\pabc\"", b"\x03abc"),
+            (b"\"\\p\"", b"\x00"),
+            (b"\"\\p\\x41\\\"\"", b"\x02A\""),
+        ],
+    )
+}
+
+// Own: the count of a string that begins with `\p` is a byte, so that it has no value if the others are more than 255.
+#[test]
+fn a_count_of_256_is_no_byte(rt: HostRuntime) -> Result<(), Fail> {
+    let alloc = rt.alloc();
+    let longest = counted_literal(alloc, b"\\n", 254, b"")?;
+    let Some(bytes) = string_value(alloc, longest.as_slice())? else {
+        return Err(Fail::new("255 bytes can be counted"));
+    };
+    assert_eq!(rt; bytes.items().len(), 256);
+    assert!(rt; bytes.items().starts_with(b"\xff\naa"));
+    assert!(rt; has_string_value(longest.as_slice()));
+    let longer = counted_literal(alloc, b"\\n", 255, b"")?;
+    assert!(rt; string_value(alloc, longer.as_slice())?.is_none());
+    assert!(rt; !has_string_value(longer.as_slice()));
     Ok(())
 }

@@ -1,7 +1,7 @@
 //! The tokens of a text, for the other tests.
 
 use hs_tokens::{ScanError, Token, scan};
-use std::alloc::Global;
+use std::alloc::{AllocError, Global};
 use std::test::Fail;
 
 /// Scans a text as file 7, with room for so many tokens.
@@ -14,6 +14,23 @@ pub fn scanned(
         return Err(Fail::new("the text is no longer than a file may be"));
     }
     Ok(scan(alloc, text, 7, room))
+}
+
+/// A string literal of `\p`, the front, so many letters `a` and the back.
+pub fn counted_literal(
+    alloc: Global,
+    front: &[u8],
+    letters: usize,
+    back: &[u8],
+) -> Result<Vec<u8>, AllocError> {
+    let mut text = b"\"\\p".to_vec(alloc)?;
+    text.extend_from_slice(front)?;
+    for _ in 0..letters {
+        text.push(b'a')?;
+    }
+    text.extend_from_slice(back)?;
+    text.push(b'"')?;
+    Ok(text)
 }
 
 /// The tokens of a text that is not refused.

@@ -1,6 +1,6 @@
 //! Tokens: their kinds and places, and the texts that have none.
 
-use crate::texts::scanned;
+use crate::texts::{counted_literal, scanned};
 use hs_base::{LimitKind, Pos};
 use hs_tokens::{ScanError, Token, TokenKind};
 use std::alloc::{AllocError, Global};
@@ -334,23 +334,6 @@ fn a_counted_string_has_255_bytes_at_most(rt: HostRuntime) -> Result<(), Fail> {
     Ok(())
 }
 
-/// A string of `\p`, the front, so many letters and the back.
-fn counted(
-    alloc: Global,
-    front: &[u8],
-    letters: usize,
-    back: &[u8],
-) -> Result<Vec<u8>, AllocError> {
-    let mut text = b"\"\\p".to_vec(alloc)?;
-    text.extend_from_slice(front)?;
-    for _ in 0..letters {
-        text.push(b'a')?;
-    }
-    text.extend_from_slice(back)?;
-    text.push(b'"')?;
-    Ok(text)
-}
-
 // Own: if a string that begins with `\p` has more than 255 bytes and a bad escape, the `\p` is named, which is in front.
 #[test]
 fn a_count_is_refused_before_a_bad_escape(rt: HostRuntime) -> Result<(), Fail> {
@@ -366,7 +349,7 @@ fn a_count_is_refused_before_a_bad_escape(rt: HostRuntime) -> Result<(), Fail> {
         (b"\\400", 300, b"", Some(ScanError::BadByte(place(1, 2)))),
     ];
     for (front, letters, back, answer) in expected {
-        let text = counted(alloc, front, letters, back)?;
+        let text = counted_literal(alloc, front, letters, back)?;
         assert_eq!(rt; scanned(alloc, text.as_slice(), ROOM)?.err(), answer);
     }
     Ok(())
