@@ -8,6 +8,7 @@
 --     IsSplice step behind            the cursor is after the splice that begins there
 --     IsCharacter step behind         the cursor is after the character that begins there
 --     IsFirstBad content bad          the place of the first bad escape of a content, if there is one
+--     IsGood content whole found      the token, or the refusal of the first bad escape of its content
 --     form part                       the form that a part of the code stands for
 --     comment_ahead pos cursor, character_ahead pos cursor, literal_ahead pos cursor
 --                                     the form of a comment, a character constant and a literal, at the place of its
@@ -16,7 +17,7 @@ use Rattle.std.specs.Prelude.{ℕ, ◌+◌, ◌-◌, ◌<◌, ◌≤◌, ◌≡�
 use Rattle.hs_base.specs.declared.pos.Pos.{Pos}
 use Rattle.hs_tokens.specs.Lines.{Placed, placed_from, unspliced}
 use Rattle.hs_tokens.specs.Literals.{content_len, character_len, is_bad_character}
-use Rattle.hs_tokens.specs.Forms.{bytes_of, first_bad, comment_len_after, Form, blank, line_end, comment, token, refused, comment_form, character_form, literal_form}
+use Rattle.hs_tokens.specs.Forms.{bytes_of, first_bad, comment_len_after, Form, blank, line_end, comment, token, refused, good_form, comment_form, character_form, literal_form}
 use Rattle.hs_tokens.specs.Cursor.{ahead_of}
 use Rattle.hs_tokens.specs.declared.cursor.Cursor.{Cursor}
 use Rattle.hs_tokens.specs.declared.cursor.Step.{Step}
@@ -72,6 +73,10 @@ IsCharacter step (Some behind) =
 -- the place of the first bad escape of a content, if there is one
 abbrev pub IsFirstBad : List Placed → Option Pos → Type 0
 IsFirstBad content bad = (other : Pos) → first_bad other content ≡ bad
+
+-- the token, or the refusal of the first bad escape of its content
+abbrev pub IsGood : List Placed → Form → Form → Type 0
+IsGood content whole found = (pos : Pos) → found ≡ good_form pos (first_bad pos content) true whole
 
 -- what the definition calls a part
 abbrev pub form : Part → Form

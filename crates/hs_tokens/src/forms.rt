@@ -1,10 +1,10 @@
 //! What begins at a byte, and how long it is (X3.159-1989 2.1.1.2, phase 3).
 
-ghost use Rattle.std.specs.Prelude.{◌≡◌, ◌≤◌, map, IfSome, true, false};
+ghost use Rattle.std.specs.Prelude.{◌≡◌, ◌≤◌, map, IfSome, false};
 ghost use Rattle.std.specs.List.{prefix_len, starts_with};
 ghost use Rattle.hs_base.specs.Text.{is_word_byte};
-ghost use Rattle.hs_tokens.specs.Forms.{begins_number, number_len, comment_len_after, longest_of, punctuators, punctuator_len, first_bad, good_form, plain_form, form_of};
-ghost use Rattle.hs_tokens.specs.Ahead.{ahead, bytes_ahead, bytes_at, form, comment_ahead, character_ahead, literal_ahead};
+ghost use Rattle.hs_tokens.specs.Forms.{begins_number, number_len, comment_len_after, longest_of, punctuators, punctuator_len, plain_form, form_of};
+ghost use Rattle.hs_tokens.specs.Ahead.{ahead, bytes_ahead, bytes_at, form, IsGood, comment_ahead, character_ahead, literal_ahead};
 
 use crate::characters::is_blank;
 use crate::cursor::{Cursor, Step};
@@ -160,9 +160,9 @@ fn character(pos: Pos, rest: Cursor) -> Part
     }
 }
 
-/// The token, if its content has no bad escape.
+/// The token, or the refusal of the first bad escape of its content.
 fn good(content: Cursor, token: Part) -> Part
-    ensures { (pos : Pos) → form result ≡ good_form pos (first_bad pos (ahead content.entry)) true (form token) }
+    ensures { IsGood (ahead content.entry) (form token) (form result) }
 {
     match first_bad(content) {
         Some(bad) => Part::Refused(ScanError::BadByte(bad)),
