@@ -5,8 +5,9 @@
 --     mark_at, name_at, ..        the first token is this, and the others
 --     begins_type known tokens    a type name in parentheses stands there
 --     joins token                 how loose an expression is that goes on with the token
-use Rattle.std.specs.Prelude.{ℕ, ◌+◌, nat_lt, Bool, true, false, not, ◌&&◌, ◌||◌, List, [], ◌∷◌, codes, Option, Some, None, option_map, if◌then◌else◌}
+use Rattle.std.specs.Prelude.{ℕ, ◌+◌, nat_lt, Bool, true, false, not, ◌&&◌, ◌||◌, List, [], ◌∷◌, codes, Option, Some, None, option_map, is_some, if◌then◌else◌}
 use Rattle.std.specs.Str.{bytes_eq}
+use Rattle.hs_constants.specs.Strings.{string_value}
 use Rattle.hs_tokens.specs.Marks.{is_same_kind}
 use Rattle.hs_tokens.specs.declared.token.SourceToken.{SourceToken}
 use Rattle.hs_tokens.specs.declared.token.TokenKind.{TokenKind}
@@ -150,11 +151,15 @@ name_of source = if is_same_kind source.token.kind Identifier && is_name source.
 abbrev pub name_at : List SourceToken → Read Word
 name_at = first_at name_of
 
--- the string literals in front
+-- the token is a string literal that has a value
+abbrev pub is_literal : SourceToken → Bool
+is_literal source = is_same_kind source.token.kind Literal && is_some (string_value source.token.text)
+
+-- the string literals in front: a literal without a value ends them
 abbrev pub literals_at : List SourceToken → List Word × List SourceToken
 literals_at [] = ([], [])
 literals_at (source ∷ rest) =
-    if is_same_kind source.token.kind Literal then (word_of source ∷ (literals_at rest).0, (literals_at rest).1) else ([], source ∷ rest)
+    if is_literal source then (word_of source ∷ (literals_at rest).0, (literals_at rest).1) else ([], source ∷ rest)
 
 -- ---- specifiers
 

@@ -3,7 +3,9 @@
 --     rule known goal         the rule of a goal, if these typedef names are known
 --     reading known goal      what is read, and the tokens after it
 use Rattle.std.specs.Prelude.{ℕ, suc, nat_le, Bool, true, false, not, ◌&&◌, ◌||◌, List, [], ◌∷◌, ◌++◌, codes, Option, Some, None, is_some, if◌then◌else◌}
+use Rattle.hs_constants.specs.Characters.{character_value}
 use Rattle.hs_constants.specs.Numbers.{number_value}
+use Rattle.hs_constants.specs.Strings.{string_value}
 use Rattle.hs_tokens.specs.declared.token.SourceToken.{SourceToken}
 use Rattle.hs_tokens.specs.declared.token.TokenKind.{TokenKind}
 use Rattle.hs_tokens.specs.declared.token.TokenKind.TheVariants.{Identifier, Number, Character, Literal, Punctuator}
@@ -63,8 +65,10 @@ abbrev pub primary_by : Known → Shorter → TokenKind → SourceToken → List
 primary_by known table Identifier source rest =
     if is_name source.token.text && not (is_among known source.token.text) then Some (tree.name (word_of source), rest) else None
 primary_by known table Number source rest = if is_some (number_value source.token.text) then Some (tree.number (word_of source), rest) else None
-primary_by known table Character source rest = Some (tree.character (word_of source), rest)
-primary_by known table Literal source rest = Some (tree.strings (word_of source) (literals_at rest).0, (literals_at rest).1)
+primary_by known table Character source rest =
+    if is_some (character_value source.token.text) then Some (tree.character (word_of source), rest) else None
+primary_by known table Literal source rest =
+    if is_some (string_value source.token.text) then Some (tree.strings (word_of source) (literals_at rest).0, (literals_at rest).1) else None
 primary_by known table Punctuator source rest = if is_punctuator (codes "(") source then parens_rule table (place_of source) rest else None
 
 abbrev pub primary_rule : Known → Shorter → List SourceToken → Read Expression

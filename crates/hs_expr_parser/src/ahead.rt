@@ -1,7 +1,7 @@
 //! What the first tokens of a phrase tell.
 
 ghost use Rattle.std.specs.Prelude.{◌≡◌, ◌≤◌, ◌∷◌, false, suc, length, [], IfNone, IfSome, IfOk};
-ghost use Rattle.hs_expr_parser.specs.Ahead.{place_of, word_of, is_punctuator, is_keyword, is_ahead, is_mark_ahead, mark_at, name_at, literals_at, begins_specifier, begins_type};
+ghost use Rattle.hs_expr_parser.specs.Ahead.{place_of, word_of, is_punctuator, is_keyword, is_ahead, is_mark_ahead, mark_at, name_at, is_literal, literals_at, begins_specifier, begins_type};
 ghost use Rattle.hs_expr_parser.specs.Given.{Gives, Seen};
 ghost use Rattle.hs_expr_parser.specs.Reading.{begins_list, void_alone, tag_at, pointer_of, pointers_at};
 
@@ -9,6 +9,7 @@ use crate::operators::dropped_of;
 use crate::words::{begins_specifier, is_name};
 use crate::{ParseEnd, TypeNames};
 use hs_base::{Bytes, NoMemory};
+use hs_constants::has_string_value;
 use hs_syntax::{Place, Pointer, Word};
 use hs_tokens::{SourceToken, TokenKind, is_identifier, is_mark, is_same_kind};
 use std::alloc::Global;
@@ -141,7 +142,16 @@ pub(crate) fn name<'a>(
     }
 }
 
-/// The string literals in front, and the tokens after them (X3.159-1989 2.1.1.2 phase 6).
+/// Whether the token is a string literal that has a value (X3.159-1989 3.1.4).
+fn is_literal(source: &SourceToken) -> bool
+    ensures { result ≡ is_literal source.now }
+{
+    is_same_kind(source.token.kind, TokenKind::Literal)
+        && has_string_value(source.token.text.items())
+}
+
+/// The string literals in front, and the tokens after them (X3.159-1989 2.1.1.2 phase 6). A literal without a value ends
+/// them.
 pub(crate) fn literals<'a>(
     alloc: Global,
     tokens: &'a [SourceToken],
@@ -152,7 +162,7 @@ pub(crate) fn literals<'a>(
     let mut literals = Vec::new(alloc);
     let mut rest = tokens;
     'literals: while let Some((source, others)) = first(rest) {
-        if !is_same_kind(source.token.kind, TokenKind::Literal) {
+        if !is_literal(source) {
             return Ok((literals, rest));
         }
         literals.push(word_of(alloc, source)?)?;

@@ -19,7 +19,7 @@ use crate::parse_end::ParseEnd;
 use crate::type_names::TypeNames;
 use crate::words::is_name;
 use hs_base::NoMemory;
-use hs_constants::number_value;
+use hs_constants::{character_value, has_string_value, number_value};
 use hs_syntax::{Access, Expr, Place, PostfixOperator, Word};
 use hs_tokens::{SourceToken, TokenKind};
 use std::alloc::Global;
@@ -138,7 +138,8 @@ fn next_suffix<'a>(
     Ok((Suffix::Postfix { operator, at }, behind))
 }
 
-/// Reads a primary expression (X3.159-1989 3.3.1): a typedef name is not one, and a number is an integer of 32 bits.
+/// Reads a primary expression (X3.159-1989 3.3.1): a typedef name is not one, a number is an integer of 32 bits, and a
+/// character or a literal has a value.
 ///
 /// `primary = identifier | number | character | literal { literal } | "(" expression ")"`
 #[cycle(read)]
@@ -162,8 +163,10 @@ fn primary<'a>(
         TokenKind::Number if number_value(text).is_some() => {
             Ok((Expr::Number(word_of(alloc, source)?), rest))
         }
-        TokenKind::Character => Ok((Expr::Character(word_of(alloc, source)?), rest)),
-        TokenKind::Literal => {
+        TokenKind::Character if character_value(text).is_some() => {
+            Ok((Expr::Character(word_of(alloc, source)?), rest))
+        }
+        TokenKind::Literal if has_string_value(text) => {
             let (others, left) = literals(alloc, rest)?;
             Ok((Expr::Strings(word_of(alloc, source)?, others), left))
         }

@@ -8,7 +8,9 @@
 --     IsExpression, IsUnit              the relations of trees and tokens
 use Rattle.std.specs.Prelude.{ℕ, suc, Bool, true, false, not, ◌&&◌, ◌||◌, List, [], ◌∷◌, ◌++◌, codes, Option, Some}
 use Rattle.std.specs.Prelude.{None, is_some}
+use Rattle.hs_constants.specs.Characters.{character_value}
 use Rattle.hs_constants.specs.Numbers.{number_value}
+use Rattle.hs_constants.specs.Strings.{string_value}
 use Rattle.hs_tokens.specs.declared.token.SourceToken.{SourceToken}
 use Rattle.hs_tokens.specs.declared.token.TokenKind.TheVariants.{Identifier, Number, Character, Literal}
 use Rattle.hs_syntax.specs.Forms.{Form, ◌⨾◌, when, nothing_at_all, mark, mark_at, keyword, keyword_at, word, IsOf}
@@ -69,11 +71,12 @@ abbrev mutual
   expression_form known (tree.postfix operand operator at) =
       as_postfix operand (expression_form known operand) ⨾ mark_at at (postfix_text operator)
   -- primary = identifier | number | character | literal { literal } | "(" expression ")": no typedef name is one.
-  -- A number is an integer of at most 32 bits (own)
+  -- A number is an integer of at most 32 bits (own), and each character and literal has a value
   expression_form known (tree.name it) = when (not (is_among known it.text)) (identifier it)
   expression_form known (tree.number it) = when (is_some (number_value it.text)) (word Number it)
-  expression_form known (tree.character it) = word Character it
-  expression_form known (tree.strings first others) = word Literal first ⨾ literals others
+  expression_form known (tree.character it) = when (is_some (character_value it.text)) (word Character it)
+  expression_form known (tree.strings first others) =
+      when (is_some (string_value first.text)) (word Literal first) ⨾ literals others
   expression_form known (tree.parens at inner) = mark_at at (codes "(") ⨾ expression_form known inner ⨾ mark (codes ")")
 
   -- { assignment "," }

@@ -2,7 +2,8 @@
 --     identifier, literals, pointers_form, tag_form, comma_form, behind_comma
 --     as_prefixed operator e form      what a prefix operator may be put before
 --     in_parens known inner form       what may follow a `(` of a declarator
-use Rattle.std.specs.Prelude.{ℕ, Bool, true, false, not, ◌&&◌, List, [], ◌∷◌, codes, Option, Some, None}
+use Rattle.std.specs.Prelude.{ℕ, Bool, true, false, not, ◌&&◌, List, [], ◌∷◌, codes, Option, Some, None, is_some}
+use Rattle.hs_constants.specs.Strings.{string_value}
 use Rattle.hs_tokens.specs.declared.token.TokenKind.TheVariants.{Identifier, Literal}
 use Rattle.hs_syntax.specs.Forms.{Form, ◌⨾◌, when, nothing_at_all, mark, mark_at, keyword_at, word}
 use Rattle.hs_syntax.specs.Names.{is_name}
@@ -19,10 +20,10 @@ use Rattle.hs_syntax.specs.declared.word.Word.{Word}
 abbrev pub identifier : Word → Form
 identifier it = when (is_name it.text) (word Identifier it)
 
--- literal { literal }
+-- { literal }: each has a value
 abbrev pub literals : List Word → Form
 literals [] = nothing_at_all
-literals (it ∷ rest) = word Literal it ⨾ literals rest
+literals (it ∷ rest) = when (is_some (string_value it.text)) (word Literal it) ⨾ literals rest
 
 -- what `++` and `--` are put before is a unary expression; what the others are put before may be a cast
 abbrev pub as_prefixed : PrefixOperator → Expression → Form → Form

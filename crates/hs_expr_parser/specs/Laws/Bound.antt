@@ -8,10 +8,8 @@ use Rattle.std.specs.Prelude.{if◌then◌else◌, option_map, codes}
 use Rattle.hs_tokens.specs.declared.token.SourceToken.{SourceToken}
 use Rattle.hs_syntax.specs.declared.word.Place.{Place}
 use Rattle.hs_syntax.specs.declared.word.Word.{Word}
-use Rattle.hs_tokens.specs.Marks.{is_same_kind}
-use Rattle.hs_tokens.specs.declared.token.TokenKind.TheVariants.{Literal}
 use Rattle.hs_syntax.specs.declared.operators.Pointer.{Pointer}
-use Rattle.hs_expr_parser.specs.Ahead.{place_if, word_of, is_keyword, first_at, mark_at, name_at, literals_at}
+use Rattle.hs_expr_parser.specs.Ahead.{place_if, word_of, is_keyword, first_at, mark_at, name_at, is_literal, literals_at}
 use Rattle.hs_expr_parser.specs.Recursion.{Read}
 use Rattle.hs_expr_parser.specs.Reading.{◌>>=◌, going_on, tag_at, with_pointer, pointer_of, pointers_at, void_alone}
 
@@ -129,7 +127,7 @@ literals_by false word source rest others short = omega arith
 pub literals_short : (tokens : List SourceToken) → length (literals_at tokens).1 ≤ length tokens
 literals_short [] = omega arith
 literals_short (source ∷ rest) =
-    literals_by (is_same_kind source.token.kind Literal) (word_of source) source rest (literals_at rest) (literals_short rest)
+    literals_by (is_literal source) (word_of source) source rest (literals_at rest) (literals_short rest)
 
 -- pointers, by cases
 pointers_by : (it : Option Pointer) (source : SourceToken) (rest : List SourceToken) (others : List Pointer × List SourceToken)

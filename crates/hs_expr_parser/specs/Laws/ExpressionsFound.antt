@@ -4,7 +4,9 @@ use Rattle.std.proofs.Common.{◌≡◌, ℕ, suc, ◌+◌, ◌≤◌, ◌<◌, 
 use Rattle.std.specs.Prelude.{codes, nat_le, not, is_some, ◌&&◌, if◌then◌else◌}
 use Rattle.std.proofs.lemmas.Bool.{and_parts, cases_lt}
 use Rattle.std.proofs.lemmas.Bool.Decides.{nat_tests}
+use Rattle.hs_constants.specs.Characters.{character_value}
 use Rattle.hs_constants.specs.Numbers.{number_value}
+use Rattle.hs_constants.specs.Strings.{string_value}
 use Rattle.hs_tokens.specs.declared.token.SourceToken.{SourceToken}
 use Rattle.hs_tokens.specs.declared.token.TokenKind.{TokenKind}
 use Rattle.hs_tokens.specs.declared.token.TokenKind.TheVariants.{Identifier, Number, Character, Literal, Punctuator}
@@ -187,9 +189,11 @@ module _ (known : Known) (table : Shorter) (found : IsFound known table) where
           some_gives (tree.name (word_of source)) rest (when_begins tests.1 (when_begins tests.0 (place_begins source rest kind refl)))) (λ is. none_gives)
       by_kind Number kind = if_gives (is_some (number_value source.token.text)) _ _
           (λ is. some_gives (tree.number (word_of source)) rest (when_begins is (place_begins source rest kind refl))) (λ is. none_gives)
-      by_kind Character kind = some_gives (tree.character (word_of source)) rest (place_begins source rest kind refl)
-      by_kind Literal kind = some_gives (tree.strings (word_of source) (literals_at rest).0) (literals_at rest).1
-          (then_begins (place_begins source rest kind refl) (literals_begin rest))
+      by_kind Character kind = if_gives (is_some (character_value source.token.text)) _ _
+          (λ is. some_gives (tree.character (word_of source)) rest (when_begins is (place_begins source rest kind refl))) (λ is. none_gives)
+      by_kind Literal kind = if_gives (is_some (string_value source.token.text)) _ _
+          (λ is. some_gives (tree.strings (word_of source) (literals_at rest).0) (literals_at rest).1
+          (then_begins (when_begins is (place_begins source rest kind refl)) (literals_begin rest))) (λ is. none_gives)
       by_kind Punctuator kind = if_gives (is_punctuator (codes "(") source) _ _ (λ is. parens_found source rest is) (λ is. none_gives)
 
   -- an index

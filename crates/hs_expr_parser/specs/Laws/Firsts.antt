@@ -3,11 +3,12 @@
 --     literals_begin, tag_begins, pointers_begin      string literals, a tag, pointers
 --     token_of                      the token of an operator or of a word
 use Rattle.std.proofs.Common.{◌≡◌, ℕ, Bool, true, false, List, [], ◌∷◌, Option, Some, None, refl, sym, ap, ◌∙◌, inl, inr}
-use Rattle.std.specs.Prelude.{codes, ◌&&◌, if◌then◌else◌, option_map}
+use Rattle.std.specs.Prelude.{codes, ◌&&◌, if◌then◌else◌, is_some, option_map}
 use Rattle.std.specs.Str.{bytes_eq}
 use Rattle.std.proofs.lemmas.Bool.{and_parts, cases_Bool}
 use Rattle.std.proofs.lemmas.Slice.Eq.{bytes_eq-Decides}
 use Rattle.hs_tokens.specs.KindLaws.{kind_is}
+use Rattle.hs_constants.specs.Strings.{string_value}
 use Rattle.hs_tokens.specs.Marks.{is_same_kind}
 use Rattle.hs_tokens.specs.declared.token.SourceToken.{SourceToken}
 use Rattle.hs_tokens.specs.declared.token.TokenKind.{TokenKind}
@@ -22,7 +23,7 @@ use Rattle.hs_syntax.specs.declared.operators.Dropped.TheVariants as dropped
 use Rattle.hs_syntax.specs.declared.operators.Pointer.{Pointer}
 use Rattle.hs_syntax.specs.declared.word.Place.{Place}
 use Rattle.hs_syntax.specs.declared.word.Word.{Word}
-use Rattle.hs_expr_parser.specs.Ahead.{place_of, word_of, is_token, is_punctuator, spelled_so, token_so, dropped_of, mark_at, place_if, name_at, literals_at}
+use Rattle.hs_expr_parser.specs.Ahead.{place_of, word_of, is_token, is_punctuator, spelled_so, token_so, dropped_of, mark_at, place_if, name_at, is_literal, literals_at}
 use Rattle.hs_expr_parser.specs.Reading.{going_on, tag_at, pointer_by, with_pointer, pointers_at}
 use Rattle.hs_expr_parser.specs.Recursion.{Read}
 use Rattle.hs_expr_parser.specs.Laws.Apart.{spelled_is}
@@ -83,8 +84,10 @@ name_gives (source ∷ rest) = given (is_same_kind source.token.kind Identifier 
 -- string literals
 pub literals_begin : (tokens : List SourceToken) → Begins (literals (literals_at tokens).0) tokens (literals_at tokens).1
 literals_begin [] = nothing_begins []
-literals_begin (source ∷ rest) = elim (cases_Bool (is_same_kind source.token.kind Literal)) [
-  | inl is ↦ rw is (then_begins (place_begins source rest (kind_is source.token.kind Literal is) refl) (literals_begin rest))
+literals_begin (source ∷ rest) = elim (cases_Bool (is_literal source)) [
+  | inl is ↦
+      let tests = and_parts (is_same_kind source.token.kind Literal) (is_some (string_value source.token.text)) is in
+      rw is (then_begins (when_begins tests.1 (place_begins source rest (kind_is source.token.kind Literal tests.0) refl)) (literals_begin rest))
   | inr is ↦ rw is (nothing_begins (source ∷ rest))
 ]
 

@@ -46,8 +46,8 @@ module _ (known : Known) (limit : ℕ) (table : Shorter) (shorts : Short table) 
       → Alike (suc (length rest)) (primary_by known (below limit table) kind source rest) (primary_by known table kind source rest)
   primary_kind Identifier source rest low = alike_if _ (alike_some (omega arith)) alike_none
   primary_kind Number source rest low = alike_if _ (alike_some (omega arith)) alike_none
-  primary_kind Character source rest low = alike_some (omega arith)
-  primary_kind Literal source rest low = alike_some (omega (arith, literals_short rest))
+  primary_kind Character source rest low = alike_if _ (alike_some (omega arith)) alike_none
+  primary_kind Literal source rest low = alike_if _ (alike_some (omega (arith, literals_short rest))) alike_none
   primary_kind Punctuator source rest low = alike_if _ (parens (place_of source) rest low) alike_none
 
   -- a primary expression

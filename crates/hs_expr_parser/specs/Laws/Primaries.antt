@@ -9,12 +9,14 @@ use Rattle.std.proofs.lemmas.List.{append-nil}
 use Rattle.std.proofs.lemmas.Slice.Eq.{bytes_eq-Decides}
 use Rattle.std.proofs.lemmas.Bool.{and_parts, cases_Bool}
 use Rattle.std.proofs.lemmas.Bool.Decides.{nat_tests}
+use Rattle.hs_constants.specs.Characters.{character_value}
 use Rattle.hs_constants.specs.Numbers.{number_value}
+use Rattle.hs_constants.specs.Strings.{string_value}
 use Rattle.hs_tokens.specs.Marks.{is_same_kind}
 use Rattle.hs_tokens.specs.declared.token.SourceToken.{SourceToken}
 use Rattle.hs_tokens.specs.declared.token.TokenKind.{TokenKind}
 use Rattle.hs_tokens.specs.declared.token.TokenKind.TheVariants.{Identifier, Number, Character, Literal, Punctuator}
-use Rattle.hs_syntax.specs.Forms.{Form, ◌⨾◌, token, word, mark, mark_at as mark_form, IsOf}
+use Rattle.hs_syntax.specs.Forms.{Form, ◌⨾◌, when, token, word, mark, mark_at as mark_form, IsOf}
 use Rattle.hs_syntax.specs.Grammar.{expression_form}
 use Rattle.hs_syntax.specs.Names.{is_among, is_name, keywords}
 use Rattle.hs_syntax.specs.Operators.{access_text, postfix_text}
@@ -159,15 +161,30 @@ number_all {known = known} {table = table} whole it front rest fits =
     let one = one_token Number it.text (Some it.place) front valued.1 in
     all_along (ap (λ its. its ++ rest) one.alone) (number_by whole it one.source rest one.is one.at valued.0)
 
+character_by : {known : Known} {table : Shorter} → Whole known table → (it : Word) (source : SourceToken) (rest : List SourceToken)
+    → source ≡ with_text Character it.text source → place_of source ≡ it.place → is_some (character_value it.text) ≡ true
+    → AllRead known table (tree.character it) (source ∷ rest) rest
+character_by {known = known} {table = table} whole it source rest same at valued =
+    let reads : primary_rule known table (source ∷ rest) ≡ Some (tree.character it, rest) =
+    ap (λ (first : SourceToken). primary_rule known table (first ∷ rest)) same
+    ∙ rw valued (ap (λ word. Some (tree.character word, rest)) (word_is Character it source same at)) in
+    one_all whole (tree.character it) source rest (omega arith) refl
+    (ap (begins_specifier known false) same, ap (is_punctuator (codes "(")) same, ap is_unary_start same) reads
+
 pub character_all : {known : Known} {table : Shorter} → Whole known table → (it : Word) → ReadsAll known table (tree.character it)
 character_all {known = known} {table = table} whole it front rest fits =
-    let one = one_token Character it.text (Some it.place) front fits in
-    let reads : primary_rule known table (one.source ∷ rest) ≡ Some (tree.character it, rest) =
-    ap (λ (first : SourceToken). primary_rule known table (first ∷ rest)) one.is
-    ∙ ap (λ word. Some (tree.character word, rest)) (word_is Character it one.source one.is one.at) in
-    all_along (ap (λ its. its ++ rest) one.alone)
-    (one_all whole (tree.character it) one.source rest (omega arith) refl
-    (ap (begins_specifier known false) one.is, ap (is_punctuator (codes "(")) one.is, ap is_unary_start one.is) reads)
+    let valued = when_parts (is_some (character_value it.text)) (word Character it) front fits in
+    let one = one_token Character it.text (Some it.place) front valued.1 in
+    all_along (ap (λ its. its ++ rest) one.alone) (character_by whole it one.source rest one.is one.at valued.0)
+
+-- a literal and those in front
+abbrev with_literal : Word → List SourceToken → List Word × List SourceToken
+with_literal first tokens = (first ∷ (literals_at tokens).0, (literals_at tokens).1)
+
+-- a literal with a value is one of those in front
+literal_reads : (it : Word) (source : SourceToken) (tokens : List SourceToken) → is_some (string_value it.text) ≡ true
+    → literals_at (with_text Literal it.text source ∷ tokens) ≡ with_literal (word_of (with_text Literal it.text source)) tokens
+literal_reads it source tokens valued = rw valued refl
 
 -- the literals in front, and more that follow
 literals_reads : (its : List Word) (front rest : List SourceToken) → IsOf (literals its) front
@@ -175,13 +192,14 @@ literals_reads : (its : List Word) (front rest : List SourceToken) → IsOf (lit
 literals_reads [] [] rest fits = (refl, refl)
 literals_reads [] (source ∷ front) rest fits = absurd fits.1
 literals_reads (it ∷ its) front rest fits =
-    let parts = split (word Literal it) (literals its) front fits in
-    let one = one_token Literal it.text (Some it.place) parts.front parts.first in
+    let parts = split (when (is_some (string_value it.text)) (word Literal it)) (literals its) front fits in
+    let valued = when_parts (is_some (string_value it.text)) (word Literal it) parts.front parts.first in
+    let one = one_token Literal it.text (Some it.place) parts.front valued.1 in
     let others = literals_reads its parts.back rest parts.second in
     let same : front ++ rest ≡ one.source ∷ (parts.back ++ rest) =
     ap (λ it. it ++ rest) (parts.whole ∙ ap (λ it. it ++ parts.back) one.alone) in
-    let first : literals_at (one.source ∷ (parts.back ++ rest)) ≡ literals_at (with_text Literal it.text one.source ∷ (parts.back ++ rest)) =
-    ap (λ (first : SourceToken). literals_at (first ∷ (parts.back ++ rest))) one.is in (
+    let first : literals_at (one.source ∷ (parts.back ++ rest)) ≡ with_literal (word_of (with_text Literal it.text one.source)) (parts.back ++ rest) =
+    ap (λ (first : SourceToken). literals_at (first ∷ (parts.back ++ rest))) one.is ∙ literal_reads it one.source (parts.back ++ rest) valued.0 in (
       ap (λ its. (literals_at its).0) same ∙ ap (λ pair. pair.0) first
           ∙ (λ i. word_is Literal it one.source one.is one.at i ∷ others.0 i),
       ap (λ its. (literals_at its).1) same ∙ ap (λ pair. pair.1) first ∙ others.1,
@@ -200,16 +218,16 @@ literals_stop (source ∷ rest) is =
 
 -- literals after a first one
 strings_by : {known : Known} {table : Shorter} → Whole known table → (first : Word) (others : List Word) (source : SourceToken) (front rest : List SourceToken)
-    → source ≡ with_text Literal first.text source → place_of source ≡ first.place → IsOf (literals others) front
-    → AllRead known table (tree.strings first others) (source ∷ (front ++ rest)) rest
-strings_by {known = known} {table = table} whole first others source front rest same at fits =
+    → source ≡ with_text Literal first.text source → place_of source ≡ first.place → is_some (string_value first.text) ≡ true
+    → IsOf (literals others) front → AllRead known table (tree.strings first others) (source ∷ (front ++ rest)) rest
+strings_by {known = known} {table = table} whole first others source front rest same at valued fits =
     let found = literals_reads others front rest fits in
     let less = literals_short rest in
     let all : List Word = others ++ (literals_at rest).0 in
     let left : List SourceToken = (literals_at rest).1 in
     let reads : primary_rule known table (source ∷ (front ++ rest)) ≡ Some (tree.strings first all, left) =
     ap (λ (it : SourceToken). primary_rule known table (it ∷ (front ++ rest))) same
-    ∙ (λ i. Some (tree.strings (word_is Literal first source same at i) (found.0 i), found.1 i)) in
+    ∙ rw valued (λ i. Some (tree.strings (word_is Literal first source same at i) (found.0 i), found.1 i)) in
     let behind : postfix_rule known table (source ∷ (front ++ rest)) ≡ suffixes_rule table (tree.strings first all) left =
     ap (λ it. it >>= (λ x. suffixes_rule table x.0 x.1)) reads in
     postfix_all whole (tree.strings first others) (source ∷ (front ++ rest)) rest (omega arith) refl
@@ -224,11 +242,12 @@ strings_by {known = known} {table = table} whole first others source front rest 
 
 pub strings_all : {known : Known} {table : Shorter} → Whole known table → (first : Word) (others : List Word) → ReadsAll known table (tree.strings first others)
 strings_all {known = known} {table = table} whole first others front rest fits =
-    let parts = split (word Literal first) (literals others) front fits in
-    let one = one_token Literal first.text (Some first.place) parts.front parts.first in
+    let parts = split (when (is_some (string_value first.text)) (word Literal first)) (literals others) front fits in
+    let valued = when_parts (is_some (string_value first.text)) (word Literal first) parts.front parts.first in
+    let one = one_token Literal first.text (Some first.place) parts.front valued.1 in
     let same : front ++ rest ≡ one.source ∷ (parts.back ++ rest) =
     ap (λ it. it ++ rest) (parts.whole ∙ ap (λ it. it ++ parts.back) one.alone) in
-    all_along same (strings_by whole first others one.source parts.back rest one.is one.at parts.second)
+    all_along same (strings_by whole first others one.source parts.back rest one.is one.at valued.0 parts.second)
 
 -- an expression in parentheses
 parens_by : {known : Known} {table : Shorter} → Whole known table → (inner : Expression) (opening close : SourceToken) (tokens rest : List SourceToken)
