@@ -38,6 +38,19 @@ impl TypeNames {
         }
     }
 
+    /// These names, in this order. Fails if memory runs out.
+    ///
+    /// Example: of the names `size_t` and `Handle`, both are known.
+    pub fn from_vec(alloc: Global, names: Vec<Bytes>) -> Result<TypeNames, NoMemory>
+        ensures { IfOk result (λ it. it ≡ names.items) }
+    {
+        let mut index = IndexSet::new(alloc);
+        'names: for name in &names {
+            index.insert(name.items().to_vec(alloc)?)?;
+        }
+        Ok(TypeNames { names, index })
+    }
+
     /// The names, and this one after them. One that is known already stands there once more.
     pub fn with(self, alloc: Global, name: &[u8]) -> Result<TypeNames, NoMemory>
         ensures { IfOk result (λ names. names ≡ self ++ name.now ∷ []) }
