@@ -3,14 +3,17 @@
 --     ElseIsNearest              an `else` belongs to the nearest open `if` (3.6.4.1)
 --     TypesBeginParameters       a typedef name begins a parameter list as the rule says (3.5.4.3, 3.5.5)
 --     SpecifiersGoOn             a list of specifiers takes what it can (3.5)
-use Rattle.std.specs.Prelude.{◌≡◌, ◌<◌, ◌≤◌, ℕ, true, false, List, codes}
-use Rattle.hs_syntax.specs.Forms.{◌⨾◌, mark}
+--     FirstTokensAreFirst        the place of a phrase's first token is that of its first token
+use Rattle.std.specs.Prelude.{◌≡◌, ◌<◌, ◌≤◌, ℕ, Bool, true, false, List, codes}
+use Rattle.hs_tokens.specs.declared.token.SourceToken.{SourceToken}
+use Rattle.hs_syntax.specs.Forms.{◌⨾◌, mark, IsOf}
 use Rattle.hs_syntax.specs.Grammar.{expression_form, direct_form, declarator_form, declaration_form, items_form}
-use Rattle.hs_syntax.specs.Grammar.{statement_form}
+use Rattle.hs_syntax.specs.Grammar.{statement_form, specification_form, IsExpression}
 use Rattle.hs_syntax.specs.Operators.{level_of}
 use Rattle.hs_syntax.specs.Phrases.{begins_none, begins_parameters, is_typed}
+use Rattle.hs_syntax.specs.Positions.{first_of, first_of_specifiers, first_of_statement, BeginsAt, BeginsIfAny}
 use Rattle.hs_syntax.specs.Trees as tree
-use Rattle.hs_syntax.specs.Trees.{Expression, Declared, Declaration, Statement}
+use Rattle.hs_syntax.specs.Trees.{Expression, Declared, Declaration, Specification, Statement}
 use Rattle.hs_syntax.specs.declared.operators.BinaryOperator.{BinaryOperator}
 use Rattle.hs_syntax.specs.declared.word.Place.{Place}
 
@@ -40,3 +43,12 @@ abbrev pub SpecifiersGoOn : Type 0
 SpecifiersGoOn = (known : List (List ℕ)) (it : Declaration)
     → (declaration_form known it).fits ≡ true
     → begins_none known (is_typed it.specifiers) (items_form known it.items ⨾ mark (codes ";")).pieces ≡ true
+
+-- If tokens are an expression, a statement or specifiers, they begin with a token at the place of its first token. If
+-- there are no specifiers, there are no tokens.
+abbrev pub FirstTokensAreFirst : Type 0
+FirstTokensAreFirst = (known : List (List ℕ)) (sources : List SourceToken)
+    → ((e : Expression) → IsExpression known sources e → BeginsAt (first_of e) sources)
+    × ((it : Statement) → IsOf (statement_form known it) sources → BeginsAt (first_of_statement it) sources)
+    × ((typed : Bool) (its : Specification) → IsOf (specification_form known typed its) sources
+    → BeginsIfAny (first_of_specifiers its) sources)

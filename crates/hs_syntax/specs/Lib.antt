@@ -7,6 +7,7 @@ pub mod Nesting
 pub mod Operators
 pub mod Parts
 pub mod Phrases
+pub mod Positions
 pub mod RowLaws
 pub mod RowViews
 pub mod StatementLaws

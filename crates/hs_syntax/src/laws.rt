@@ -1,6 +1,6 @@
 //! Laws of the grammar, proved and without code.
 
-ghost use Rattle.hs_syntax.specs.Laws.{ElseIsNearest, GroupsLeft, SpecifiersGoOn, TypesBeginParameters};
+ghost use Rattle.hs_syntax.specs.Laws.{ElseIsNearest, FirstTokensAreFirst, GroupsLeft, SpecifiersGoOn, TypesBeginParameters};
 
 /// A law on the grammar: binary operators that bind tighter are applied first, and those of a level group to the left
 /// (X3.159-1989 3.3).
@@ -22,4 +22,9 @@ pub fn typedef_names_begin_parameter_lists()
 /// A law on the grammar: the specifiers of a declaration take all that can be one (3.5).
 pub fn specifiers_take_what_they_can()
     ensures { SpecifiersGoOn }
+{}
+
+/// A law on the grammar: an expression, a statement and specifiers begin with the token whose place is that of their first.
+pub fn first_tokens_are_first()
+    ensures { FirstTokensAreFirst }
 {}

@@ -9,6 +9,7 @@ mod level;
 mod mark;
 mod nesting;
 mod operators;
+mod positions;
 mod stmt;
 mod unit;
 mod word;
@@ -16,7 +17,7 @@ mod word;
 pub use decl::{Decl, Initialiser, Item};
 pub use expr::{Constant, Declarator, Direct, Expr, Left, Member, Parameter, Specifier, TypeName};
 pub use laws::{
-    binary_operators_group_to_the_left, else_belongs_to_the_nearest_if,
+    binary_operators_group_to_the_left, else_belongs_to_the_nearest_if, first_tokens_are_first,
     specifiers_take_what_they_can, typedef_names_begin_parameter_lists,
 };
 pub use nesting::shallow;
@@ -24,6 +25,7 @@ pub use operators::{
     Access, AssignOperator, Basic, BinaryOperator, Dropped, Pointer, PostfixOperator,
     PrefixOperator, Storage,
 };
+pub use positions::first_of_specifiers;
 pub use stmt::{Block, Label, Labelled, Stmt};
 pub use unit::{External, Unit};
 pub use word::{Place, Word};
