@@ -2,11 +2,11 @@
 ghost use Rattle.std.specs.Prelude.{IfOk, IfSome};
 ghost use Rattle.hs_syntax.specs.Nesting.{IsShallow};
 
-use crate::texts::tokens_of;
-use hs_base::NoMemory;
+use crate::texts::{around, tokens_of};
+use hs_base::{Bytes, NoMemory, Pos};
 use hs_expr_parser::{ParseEnd, TypeNames, expr};
 use hs_syntax::{Expr, Left, shallow};
-use hs_tokens::SourceToken;
+use hs_tokens::{Origin, SourceToken, Token, TokenKind};
 use std::alloc::{AllocError, Global};
 use std::test::Fail;
 
@@ -243,6 +243,110 @@ fn expressions_are_read(rt: HostRuntime) -> Result<(), Fail> {
     assert_eq!(rt; misread(alloc, &GROUPING)?, None);
     assert_eq!(rt; misread(alloc, &PARENTHESES)?, None);
     assert_eq!(rt; misread(alloc, &ENDS)?, None);
+    Ok(())
+}
+
+/// The columns of the position and of the first token of the expression that a text is.
+fn columns(alloc: Global, text: &[u8]) -> Result<(u32, u32), Fail> {
+    let Some(tokens) = shallow_tokens(alloc, text)? else {
+        return Err(Fail::new("the text has tokens and is shallow"));
+    };
+    match expr(alloc, &tokens, 0, &type_t(alloc)?) {
+        Ok((e, _)) => Ok((e.position().pos.col, e.first().pos.col)),
+        Err(_) => Err(Fail::new("the text is an expression")),
+    }
+}
+
+/// The first text of the rows whose columns are others, if any.
+fn misplaced<'a>(alloc: Global, rows: &[(&'a str, u32, u32)]) -> Result<Option<&'a str>, Fail> {
+    for (text, position, first) in rows {
+        if columns(alloc, text.as_bytes())? != (*position, *first) {
+            return Ok(Some(*text));
+        }
+    }
+    Ok(None)
+}
+
+/// Expressions with the columns of their positions and of their first tokens.
+const POSITIONS: [(&str, u32, u32); 9] = [
+    ("a + b * c", 3, 1),
+    ("f(x)", 1, 1),
+    ("(f)(x)", 2, 1),
+    ("(a)", 2, 1),
+    ("a, b, c", 5, 1),
+    ("p->x", 2, 1),
+    ("(T)a", 1, 1),
+    ("sizeof a", 1, 1),
+    ("a ? b : c", 3, 1),
+];
+
+/// The same of some that are put together.
+const POSITIONS_INSIDE: [(&str, u32, u32); 9] = [
+    ("a[0].b++", 7, 1),
+    ("a.b[0]", 4, 1),
+    ("(p->f)(x)", 3, 1),
+    ("f(x)(y)", 1, 1),
+    ("((a, b), c)", 8, 1),
+    ("a * b += -c", 3, 1),
+    ("a += b + c", 3, 1),
+    (" \"a\" \"b\"", 2, 2),
+    ("- 'c' - 1", 7, 1),
+];
+
+// Own: where an expression is. C has no positions.
+#[test]
+fn expressions_have_these_positions(rt: HostRuntime) -> Result<(), Fail> {
+    let alloc = rt.alloc();
+    assert_eq!(rt; misplaced(alloc, &POSITIONS)?, None);
+    assert_eq!(rt; misplaced(alloc, &POSITIONS_INSIDE)?, None);
+    Ok(())
+}
+
+/// The number of tokens after the expression that is read of tokens of these kinds and texts; all if none is read.
+fn left_of(alloc: Global, rows: &[(TokenKind, &[u8])]) -> Result<usize, Fail> {
+    let mut tokens = Vec::new(alloc);
+    for (kind, text) in rows {
+        let token = Token {
+            kind: *kind,
+            text: Bytes::from_vec(text.to_vec(alloc)?),
+            pos: Pos {
+                file: 0,
+                line: 1,
+                col: 1,
+            },
+            first: false,
+            spaced: true,
+        };
+        tokens.push(SourceToken {
+            token,
+            origin: Origin::Plain,
+        })?;
+    }
+    if !shallow(&tokens) {
+        return Err(Fail::new("the tokens are shallow"));
+    }
+    match expr(alloc, &tokens, 0, &type_t(alloc)?) {
+        Ok((_, end)) => Ok(tokens.len() - end),
+        Err(_) => Ok(tokens.len()),
+    }
+}
+
+// X3.159-1989 3.3.1: constants and literals are expressions. Own: those without a value are not, as the scanner refuses them.
+#[test]
+fn literals_without_a_value_are_not_read(rt: HostRuntime) -> Result<(), Fail> {
+    let alloc = rt.alloc();
+    let longer = around(alloc, b"\"\\p", b"a", 256, b"\"")?;
+    let longest = around(alloc, b"\"\\p", b"a", 255, b"\"")?;
+    let a: (TokenKind, &[u8]) = (TokenKind::Literal, b"\"a\"");
+    assert_eq!(rt; left_of(alloc, &[(TokenKind::Character, b"'a'")])?, 0);
+    assert_eq!(rt; left_of(alloc, &[(TokenKind::Character, b"''")])?, 1);
+    assert_eq!(rt; left_of(alloc, &[(TokenKind::Character, b"'abcde'")])?, 1);
+    assert_eq!(rt; left_of(alloc, &[(TokenKind::Literal, &longest), a])?, 0);
+    assert_eq!(rt; left_of(alloc, &[(TokenKind::Literal, &longer), a])?, 2);
+    assert_eq!(rt;
+        left_of(alloc, &[a, a, (TokenKind::Literal, &longer), a])?,
+        2
+    );
     Ok(())
 }
 

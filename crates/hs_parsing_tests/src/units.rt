@@ -3,7 +3,7 @@ use crate::texts::{around, tokens_of};
 use hs_base::LimitKind;
 use hs_decl_parser::{ParseError, unit};
 use hs_spell::spell;
-use hs_syntax::{External, Stmt, Unit};
+use hs_syntax::{External, Stmt, Unit, first_of_specifiers};
 use std::alloc::{AllocError, Global};
 use std::test::Fail;
 
@@ -283,6 +283,54 @@ fn an_else_belongs_to_the_nearest_if(rt: HostRuntime) -> Result<(), Fail> {
         return Err(Fail::new("the text is a unit"));
     };
     assert!(rt; dangles(&it));
+    Ok(())
+}
+
+/// The columns of the first tokens of the statements in a unit's last function.
+fn statement_columns(alloc: Global, it: &Unit) -> Result<Vec<u32>, AllocError> {
+    let mut columns = Vec::new(alloc);
+    if let Some(External::Function { body, .. }) = it.externals.last() {
+        for labelled in &body.statements {
+            columns.push(labelled.statement.first().pos.col)?;
+        }
+    }
+    Ok(columns)
+}
+
+// Own: where a statement is. C has no positions.
+#[test]
+fn statements_begin_at_their_first_tokens(rt: HostRuntime) -> Result<(), Fail> {
+    let alloc = rt.alloc();
+    let text = function(alloc, "a = 1; if (b) c; (d)++; { } ; return 1;")?;
+    let Ok(it) = read(alloc, &text)? else {
+        return Err(Fail::new("the text is a unit"));
+    };
+    let columns = statement_columns(alloc, &it)?;
+    assert!(rt; columns.as_slice() == [15, 22, 32, 39, 43, 45].as_slice());
+    Ok(())
+}
+
+/// The column of the first specifier of a unit's first declaration or function; 0 if it has none.
+fn specifier_column(alloc: Global, text: &[u8]) -> Result<u32, Fail> {
+    let Ok(it) = read(alloc, text)? else {
+        return Err(Fail::new("the text is a unit"));
+    };
+    let place = match it.externals.first() {
+        Some(External::Function { specifiers, .. }) => first_of_specifiers(specifiers),
+        Some(External::Declaration(it)) => first_of_specifiers(&it.specifiers),
+        None => None,
+    };
+    Ok(place.map_or(0, |place| place.pos.col))
+}
+
+// Own: where specifiers are. X3.159-1989 3.7.1: a function may have none.
+#[test]
+fn specifiers_begin_at_their_first_tokens(rt: HostRuntime) -> Result<(), Fail> {
+    let alloc = rt.alloc();
+    assert_eq!(rt; specifier_column(alloc, b"  unsigned static x;")?, 3);
+    assert_eq!(rt; specifier_column(alloc, b" struct { int a; } x;")?, 2);
+    assert_eq!(rt; specifier_column(alloc, b"int f(void) { }")?, 1);
+    assert_eq!(rt; specifier_column(alloc, b"f(void) { }")?, 0);
     Ok(())
 }
 
