@@ -4,7 +4,7 @@ use Rattle.std.specs.Option.{MatchOption, is_some}
 use Rattle.std.specs.Cmp.Lexicographic.{pointwise, same_text, other_text}
 use Rattle.std.specs.Bool.{IsTrue}
 use Rattle.std.proofs.lemmas.List.{same_from_push}
-use Rattle.hs_cert.specs.Reading.{Gives, after}
+use Rattle.hs_cert.specs.Reading.{Seen, after}
 
 both : {A : Type 0} (one other : Bool) (x : Option A) → (if one then cond other x None else None) ≡ cond (one && other) x None
 both true other x = refl
@@ -22,7 +22,7 @@ after_is (byte ∷ word) (other ∷ text) =
 pub gives_after : (word text : List ℕ) (result : Option (Bor (List ℕ)))
     → MatchOption result (pointwise nat_eq (take (length word) text) word ≡ false)
     (λ rest. (pointwise nat_eq (take (length word) text) word ≡ true) × (rest.now ≡ drop (length word) text) × (length rest.now + length word ≡ length text))
-    → Gives (λ rest. rest.now) result (after word text)
+    → Seen (λ rest. rest.now) result (after word text)
 gives_after word text None is = rw (after_is word text, is) refl
 gives_after word text (Some rest) is = rw (after_is word text, is.0, is.1) refl
 
@@ -35,6 +35,6 @@ front_is text front printed last false is ends told =
     (λ yes. absurd (cc), λ whole. absurd (other_text text front told (same_from_push text front 10 last (whole ∙ is)).0))
 
 -- what is read is given
-pub gives_some : (result : Option (Bor (List ℕ))) (rest : List ℕ) → Gives (λ rest. rest.now) result (Some rest) → is_some result ≡ true
+pub gives_some : (result : Option (Bor (List ℕ))) (rest : List ℕ) → Seen (λ rest. rest.now) result (Some rest) → is_some result ≡ true
 gives_some None rest gives = absurd (cc)
 gives_some (Some given) rest gives = refl

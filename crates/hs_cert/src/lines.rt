@@ -1,7 +1,7 @@
 //! Reads words, numbers and the line of an edge from the front of a certificate's text.
 
 ghost use Rattle.std.specs.Prelude.{◌≡◌, ◌<◌, ◌≤◌, ◌+◌, ◌-◌, ◌*◌, min};
-ghost use Rattle.hs_cert.specs.Reading.{Gives, after, line_at, number_at, signed_at};
+ghost use Rattle.hs_cert.specs.Reading.{Seen, after, line_at, number_at, signed_at};
 
 use hs_base::is_digit;
 
@@ -18,7 +18,7 @@ pub(crate) struct Line<'a> {
 
 /// What follows the word, if the text begins with it.
 pub(crate) fn after<'a>(word: &[u8], text: &'a [u8]) -> Option<&'a [u8]>
-    ensures { Gives (λ rest. rest.now) result (after word.now text.now) }
+    ensures { Seen (λ rest. rest.now) result (after word.now text.now) }
 {
     text.strip_prefix(word)
 }
@@ -67,7 +67,7 @@ fn signed(text: &[u8]) -> (i64, &[u8])
 /// The line of an edge, if one stands in front.
 #[tactic(auto, unfolding(crate::specs::Reading::line_at))]
 pub(crate) fn read_line(text: &[u8]) -> Option<Line<'_>>
-    ensures { Gives (λ line. (line.edge, line.amount, line.rest.now)) result (line_at text.now) }
+    ensures { Seen (λ line. (line.edge, line.amount, line.rest.now)) result (line_at text.now) }
 {
     let (edge, behind) = number(u64::MAX, after(b"flow ", text)?);
     let (amount, behind) = signed(after(b" ", behind)?);

@@ -7,7 +7,7 @@ use Rattle.std.proofs.lemmas.List.{nil_from_length}
 use Rattle.std.proofs.lemmas.Option.{none-some}
 use Rattle.hs_tokens.specs.declared.token.SourceToken.{SourceToken}
 use Rattle.hs_checker.specs.Straight.Grammar.{Piece, word, opening, closing, Spells}
-use Rattle.hs_checker.specs.Straight.Reading.{Gives, mark_at, marks_at}
+use Rattle.hs_checker.specs.Straight.Reading.{Seen, mark_at, marks_at}
 use Rattle.hs_checker.specs.Straight.Ends.{IsOpened, NotOpened, IsClosing}
 use Rattle.hs_checker.proofs.Marks.{bind_some, some_is, word_takes, word_again}
 use Rattle.hs_checker.proofs.Rows.{taken_length}
@@ -80,19 +80,19 @@ no_closing tokens e = (
 -- ---- what the reader of these texts gives at the beginning
 
 -- what was read is followed by the rest, and likewise below
-pub opening_found : (tokens : List SourceToken) (read : Option (Bor (List SourceToken))) → Gives (λ x. x.now) read (marks_at opening tokens)
+pub opening_found : (tokens : List SourceToken) (read : Option (Bor (List SourceToken))) → Seen (λ x. x.now) read (marks_at opening tokens)
     → IfSome read (λ rest. IsOpened tokens rest.now)
 opening_found tokens None h = tt
 opening_found tokens (Some rest) h = opened tokens rest.now h
 
 -- what is left is no longer
-pub opening_few : (tokens : List SourceToken) (read : Option (Bor (List SourceToken))) → Gives (λ x. x.now) read (marks_at opening tokens)
+pub opening_few : (tokens : List SourceToken) (read : Option (Bor (List SourceToken))) → Seen (λ x. x.now) read (marks_at opening tokens)
     → IfSome read (λ rest. length rest.now ≤ length tokens)
 opening_few tokens None h = tt
 opening_few tokens (Some rest) h = opened_length tokens rest.now h
 
 -- nothing read, so the program does not begin so
-pub opening_none : (tokens : List SourceToken) (read : Option (Bor (List SourceToken))) → Gives (λ x. x.now) read (marks_at opening tokens)
+pub opening_none : (tokens : List SourceToken) (read : Option (Bor (List SourceToken))) → Seen (λ x. x.now) read (marks_at opening tokens)
     → IfNone read (NotOpened tokens)
 opening_none tokens None h = not_opened tokens h
 opening_none tokens (Some rest) h = tt

@@ -11,11 +11,11 @@ use Rattle.hs_base.specs.declared.pos.Pos.{Pos}
 use Rattle.hs_tokens.specs.declared.token.SourceToken.{SourceToken}
 use Rattle.hs_tokens.specs.declared.token.Token.{Token}
 use Rattle.hs_checker.specs.Straight.Grammar.{Piece, word, placed, Spells}
-use Rattle.hs_checker.specs.Straight.Reading.{Gives, ◌>>=◌, first_at, mark_at, is_at}
+use Rattle.hs_checker.specs.Straight.Reading.{Seen, ◌>>=◌, first_at, mark_at, is_at}
 
 -- what `split_first` says is what `first_at` gives
 pub first_gives : (tokens : List SourceToken) (r : Option (Bor SourceToken × Bor (List SourceToken)))
-    → MatchOption r (length tokens ≡ 0) (λ p. IsFirstAndRest tokens p.0.now p.1.now) → Gives (λ x. (x.0.now.token, x.1.now)) r (first_at tokens)
+    → MatchOption r (length tokens ≡ 0) (λ p. IsFirstAndRest tokens p.0.now p.1.now) → Seen (λ x. (x.0.now.token, x.1.now)) r (first_at tokens)
 unfolding first_at
 first_gives [] None h = refl
 first_gives [] (Some p) h = absurd (omega (arith, h.1))

@@ -9,7 +9,7 @@ use Rattle.hs_tokens.specs.declared.token.SourceToken.{SourceToken}
 use Rattle.hs_constants.specs.Conditions.{Means}
 use Rattle.hs_constants.specs.Reading.{Reading, before, step, steps, ended_at, ended, tokens_of, condition_value}
 use Rattle.hs_constants.specs.declared.value.Value.{Value}
-use Rattle.hs_constants.specs.declared.condition.Place.{Place}
+use Rattle.hs_constants.specs.declared.condition.Stage.{Stage}
 use Rattle.hs_constants.specs.declared.waiting.Waiting.{Waiting}
 use Rattle.hs_constants.proofs.Complete.{value_is, steps-None}
 use Rattle.hs_constants.proofs.Sound.{means_of}
@@ -31,7 +31,7 @@ none_of tokens None is = λ other means. let same : None ≡ Some other = is ∙
 none_of tokens (Some value) is = tt
 
 -- the reading has come to a place, with so many tokens after it
-module _ (tokens : List SourceToken) (index : ℕ) (place : Place) (waiting : List Waiting)
+module _ (tokens : List SourceToken) (index : ℕ) (place : Stage) (waiting : List Waiting)
     (so_far : steps (Some (record { waiting = waiting; place = place })) (tokens_of (drop index tokens)) ≡ steps (Some (before [])) (tokens_of tokens)) where
   -- the next token is wrong: there is no value
   pub wrong_token : (source : SourceToken) → index < length tokens → source ≡ get_or tokens index source → step place waiting source.token ≡ None

@@ -1,4 +1,4 @@
--- Each expression is read: from any stack that takes its level, its tokens lead to what its value leads to.
+-- Each expression is read: from any stack that takes its precedence, its tokens lead to what its value leads to.
 --     complete       the tokens of an expression are read as its value
 --     value_is       so the tokens of a condition have its value
 use Rattle.std.proofs.Common.{◌≡◌, ℕ, ◌≤◌, true, false, List, [], ◌∷◌, ◌++◌, Option, Some, None, refl, ap, ◌∙◌, arith}
@@ -13,7 +13,7 @@ use Rattle.hs_tokens.specs.declared.token.TokenKind.TheVariants.{Identifier, Num
 use Rattle.hs_tokens.specs.KindLaws.{kind_is}
 use Rattle.hs_tokens.specs.Marks.{is_same_kind, is_mark}
 use Rattle.hs_constants.specs.Arithmetic.{binary_value, chosen}
-use Rattle.hs_constants.specs.Conditions.{constant_by, constant_of, unary_of, binary_of, level_of, Means}
+use Rattle.hs_constants.specs.Conditions.{constant_by, constant_of, unary_of, binary_of, precedence_of, Means}
 use Rattle.hs_constants.specs.Conditions.Means.{constant, group, prefixed, infixed, conditional, tighter}
 use Rattle.hs_constants.specs.Reading.{Settled, settled, Reading, before, behind, operand_by, operand_step, operator_by, operator_step, infix_step, question_step, colon_step, close_step, stepped, steps, value_of, ended, condition_value}
 use Rattle.hs_constants.specs.declared.value.Value.{Value}
@@ -21,7 +21,7 @@ use Rattle.hs_constants.specs.declared.operator.Unary.{Unary}
 use Rattle.hs_constants.specs.declared.operator.Binary.{Binary}
 use Rattle.hs_constants.specs.declared.waiting.Waiting.{Waiting}
 use Rattle.hs_constants.specs.declared.waiting.Waiting.TheVariants.{Group, Prefix, Infix, Test, Branch}
-use Rattle.hs_constants.proofs.Levels.{demand, level_within}
+use Rattle.hs_constants.proofs.Precedences.{demand, precedence_within}
 
 -- a token that is a mark is this token
 marked : (mark : List ℕ) (token : Token) → is_mark mark token ≡ true → token ≡ record token { kind = Punctuator; text = mark }
@@ -54,39 +54,39 @@ pub steps-append : (reading : Option Reading) (tokens others : List Token) → s
 steps-append reading [] others = refl
 steps-append reading (token ∷ tokens) others = steps-append (stepped reading token) tokens others
 
--- what takes only tighter operands than the level stays
-stays : (level : ℕ) (waiting : List Waiting) (value : Value) → demand waiting ≤ level → 1 ≤ level → level ≤ 10
-    → settled level waiting value ≡ record { waiting = waiting; value = value }
-stays level [] value takes some most = refl
-stays level (Group ∷ waiting) value takes some most = refl
-stays level (Prefix operator ∷ waiting) value takes some most = absurd (omega arith)
-stays level (Infix left operator ∷ waiting) value takes some most =
-    let looser : nat_le level (level_of operator) ≡ false = grind (arith, nat_tests) in
+-- what takes only tighter operands than the precedence stays
+stays : (precedence : ℕ) (waiting : List Waiting) (value : Value) → demand waiting ≤ precedence → 1 ≤ precedence → precedence ≤ 10
+    → settled precedence waiting value ≡ record { waiting = waiting; value = value }
+stays precedence [] value takes some most = refl
+stays precedence (Group ∷ waiting) value takes some most = refl
+stays precedence (Prefix operator ∷ waiting) value takes some most = absurd (omega arith)
+stays precedence (Infix left operator ∷ waiting) value takes some most =
+    let looser : nat_le precedence (precedence_of operator) ≡ false = grind (arith, nat_tests) in
     rw looser refl
-stays level (Test test ∷ waiting) value takes some most = refl
-stays level (Branch test left ∷ waiting) value takes some most =
-    let positive : (level == 0) ≡ false = grind (arith, nat_tests) in
+stays precedence (Test test ∷ waiting) value takes some most = refl
+stays precedence (Branch test left ∷ waiting) value takes some most =
+    let positive : (precedence == 0) ≡ false = grind (arith, nat_tests) in
     rw positive refl
 
--- the tokens are read, from that stack, as an operand of that level and value
-pub record IsRead (waiting : List Waiting) (level : ℕ) (tokens : List Token) (value : Value) : Type 0 where
+-- the tokens are read, from that stack, as an operand of that precedence and value
+pub record IsRead (waiting : List Waiting) (precedence : ℕ) (tokens : List Token) (value : Value) : Type 0 where
   pub left : List Waiting
   pub last : Value
   pub reads : steps (Some (before waiting)) tokens ≡ Some (behind left last)
-  pub same : (loosest : ℕ) → loosest ≤ level → settled loosest left last ≡ settled loosest waiting value
+  pub same : (loosest : ℕ) → loosest ≤ precedence → settled loosest left last ≡ settled loosest waiting value
 
--- an operator between two takes an operand at each level down to its own
-takes_infix : (level : ℕ) (left : Value) (operator : Binary) (waiting : List Waiting) (value : Value) → level ≤ level_of operator
-    → settled level (Infix left operator ∷ waiting) value ≡ settled level waiting (binary_value operator left value)
-takes_infix level left operator waiting value tight =
-    let tighter' : nat_le level (level_of operator) ≡ true = grind (arith, nat_tests) in
+-- an operator between two takes an operand at each precedence down to its own
+takes_infix : (precedence : ℕ) (left : Value) (operator : Binary) (waiting : List Waiting) (value : Value) → precedence ≤ precedence_of operator
+    → settled precedence (Infix left operator ∷ waiting) value ≡ settled precedence waiting (binary_value operator left value)
+takes_infix precedence left operator waiting value tight =
+    let tighter' : nat_le precedence (precedence_of operator) ≡ true = grind (arith, nat_tests) in
     rw tighter' refl
 
--- a `:` takes one at the loosest level
-takes_branch : (level : ℕ) (test left : Value) (waiting : List Waiting) (value : Value) → level ≤ 0
-    → settled level (Branch test left ∷ waiting) value ≡ settled level waiting (chosen test left value)
-takes_branch level test left waiting value loose =
-    let none : (level == 0) ≡ true = grind (arith, nat_tests) in
+-- a `:` takes one at the loosest precedence
+takes_branch : (precedence : ℕ) (test left : Value) (waiting : List Waiting) (value : Value) → precedence ≤ 0
+    → settled precedence (Branch test left ∷ waiting) value ≡ settled precedence waiting (chosen test left value)
+takes_branch precedence test left waiting value loose =
+    let none : (precedence == 0) ≡ true = grind (arith, nat_tests) in
     rw none refl
 
 -- a constant is read
@@ -108,10 +108,10 @@ open_reads waiting token is = ap (operand_step waiting) (marked (codes "(") toke
 
 -- an operator between two
 infix_reads : (waiting : List Waiting) (value : Value) (token : Token) (operator : Binary) → binary_of token ≡ Some operator
-    → operator_step waiting value token ≡ infix_step operator (settled (level_of operator) waiting value)
+    → operator_step waiting value token ≡ infix_step operator (settled (precedence_of operator) waiting value)
 infix_reads waiting value token operator is =
     let marks : Option Binary → Option Reading =
-    λ found. operator_by (λ level. settled level waiting value) found (is_mark (codes "?") token) (is_mark (codes ":") token) (is_mark (codes ")") token) in
+    λ found. operator_by (λ precedence. settled precedence waiting value) found (is_mark (codes "?") token) (is_mark (codes ":") token) (is_mark (codes ")") token) in
     ap marks is
 
 -- a `?`
@@ -130,8 +130,8 @@ close_reads : (waiting : List Waiting) (value : Value) (token : Token) → is_ma
 close_reads waiting value token is = ap (operator_step waiting value) (marked (codes ")") token is)
 
 -- each expression is read
-pub complete : {level : ℕ} {tokens : List Token} {value : Value} → Means level tokens value → (waiting : List Waiting) → demand waiting ≤ level
-    → IsRead waiting level tokens value
+pub complete : {precedence : ℕ} {tokens : List Token} {value : Value} → Means precedence tokens value → (waiting : List Waiting) → demand waiting ≤ precedence
+    → IsRead waiting precedence tokens value
 complete (constant token value is) waiting takes = record {
   left = waiting;
   last = value;
@@ -161,10 +161,10 @@ complete (prefixed token operator tokens value is operand) waiting takes =
 complete (infixed token operator left right value other is first second) waiting takes =
     let inner = complete first waiting takes in
     let outer = complete second (Infix value operator ∷ waiting) (omega arith) in
-    let levels = level_within operator in
+    let precedences = precedence_within operator in
     let begun : stepped (Some (behind inner.left inner.last)) token ≡ Some (before (Infix value operator ∷ waiting)) =
     infix_reads inner.left inner.last token operator is
-    ∙ ap (infix_step operator) (inner.same (level_of operator) (omega arith) ∙ stays (level_of operator) waiting value takes levels.0 levels.1) in
+    ∙ ap (infix_step operator) (inner.same (precedence_of operator) (omega arith) ∙ stays (precedence_of operator) waiting value takes precedences.0 precedences.1) in
     record {
       left = outer.left;
       last = outer.last;
@@ -196,7 +196,7 @@ complete (conditional question colon test left right value first second is_quest
           ∙ right'.reads;
       same = λ loosest within. right'.same loosest within ∙ takes_branch loosest value first waiting second within;
     }
-complete (tighter level tokens value means) waiting takes =
+complete (tighter precedence tokens value means) waiting takes =
     let inner = complete means waiting (omega arith) in
     record {
       left = inner.left;

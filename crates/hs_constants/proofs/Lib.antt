@@ -1,6 +1,6 @@
 pub mod Agree
 pub mod Complete
-pub mod Levels
+pub mod Precedences
 pub mod Runs
 pub mod Sound
 pub mod Values

@@ -9,7 +9,7 @@ use Rattle.std.proofs.lemmas.List.{append-nil}
 use Rattle.hs_tokens.specs.declared.token.Token.{Token}
 use Rattle.hs_tokens.specs.Marks.{is_mark}
 use Rattle.hs_constants.specs.Arithmetic.{unary_value, binary_value, chosen}
-use Rattle.hs_constants.specs.Conditions.{constant_of, unary_of, binary_of, level_of, Means}
+use Rattle.hs_constants.specs.Conditions.{constant_of, unary_of, binary_of, precedence_of, Means}
 use Rattle.hs_constants.specs.Conditions.Means.{constant, group, prefixed, infixed, conditional}
 use Rattle.hs_constants.specs.Reading.{Settled, settled, Reading, before, operand_by, operator_by, infix_step, question_step, colon_step, close_step, step, steps, value_of, ended, ended_at, condition_value}
 use Rattle.hs_constants.specs.declared.value.Value.{Value}
@@ -17,9 +17,9 @@ use Rattle.hs_constants.specs.declared.operator.Unary.{Unary}
 use Rattle.hs_constants.specs.declared.operator.Binary.{Binary}
 use Rattle.hs_constants.specs.declared.waiting.Waiting.{Waiting}
 use Rattle.hs_constants.specs.declared.waiting.Waiting.TheVariants.{Group, Prefix, Infix, Test, Branch}
-use Rattle.hs_constants.specs.declared.condition.Place.{Place}
-use Rattle.hs_constants.specs.declared.condition.Place.TheVariants.{Before, Behind}
-use Rattle.hs_constants.proofs.Levels.{demand, level_within, demand_within, no_operator, looser}
+use Rattle.hs_constants.specs.declared.condition.Stage.{Stage}
+use Rattle.hs_constants.specs.declared.condition.Stage.TheVariants.{Before, Behind}
+use Rattle.hs_constants.proofs.Precedences.{demand, precedence_within, demand_within, no_operator, looser}
 
 -- the tokens stand before an operand, and this waits after them
 data Spells : List Waiting → List Token → Type 0 where
@@ -33,7 +33,7 @@ data Spells : List Waiting → List Token → Type 0 where
       → Spells (Prefix operator ∷ waiting) (tokens ++ token ∷ [])
   -- a left operand and its operator
   between : (waiting : List Waiting) (tokens left : List Token) (token : Token) (operator : Binary) (value : Value) → Spells waiting tokens
-      → demand waiting ≤ level_of operator → Means (level_of operator) left value → binary_of token ≡ Some operator
+      → demand waiting ≤ precedence_of operator → Means (precedence_of operator) left value → binary_of token ≡ Some operator
       → Spells (Infix value operator ∷ waiting) (tokens ++ (left ++ token ∷ []))
   -- a test and its `?`
   asked : (waiting : List Waiting) (tokens test : List Token) (question : Token) (value : Value) → Spells waiting tokens → demand waiting ≤ 0
@@ -43,57 +43,57 @@ data Spells : List Waiting → List Token → Type 0 where
       → Means 1 test value → is_mark (codes "?") question ≡ true → Means 0 left first → is_mark (codes ":") colon ≡ true
       → Spells (Branch value first ∷ waiting) (tokens ++ (test ++ question ∷ (left ++ colon ∷ [])))
 
--- before what still waits stand tokens, and the others are an expression of the level
-record IsSettled (level : ℕ) (tokens : List Token) (it : Settled) : Type 0 where
+-- before what still waits stand tokens, and the others are an expression of the precedence
+record IsSettled (precedence : ℕ) (tokens : List Token) (it : Settled) : Type 0 where
   front : List Token
   operand : List Token
   spells : Spells it.waiting front
-  means : Means level operand it.value
-  takes : demand it.waiting ≤ level
+  means : Means precedence operand it.value
+  takes : demand it.waiting ≤ precedence
   whole : front ++ operand ≡ tokens
 
 -- the same of the same tokens
-settled_along : {level : ℕ} {tokens others : List Token} {it : Settled} → tokens ≡ others → IsSettled level tokens it → IsSettled level others it
-settled_along {level = level} {it = it} same is = subst (λ (tokens : List Token). IsSettled level tokens it) same is
+settled_along : {precedence : ℕ} {tokens others : List Token} {it : Settled} → tokens ≡ others → IsSettled precedence tokens it → IsSettled precedence others it
+settled_along {precedence = precedence} {it = it} same is = subst (λ (tokens : List Token). IsSettled precedence tokens it) same is
 
 -- nothing more takes the operand
-kept : (level : ℕ) {waiting : List Waiting} {front : List Token} → Spells waiting front → (operand : List Token) (value : Value) (tight : ℕ)
-    → Means tight operand value → level ≤ tight → demand waiting ≤ level → IsSettled level (front ++ operand) (record { waiting = waiting; value = value })
-kept level {front = front} spells operand value tight means within takes =
-    record { front = front; operand = operand; spells = spells; means = looser level tight within means; takes = takes; whole = refl }
+kept : (precedence : ℕ) {waiting : List Waiting} {front : List Token} → Spells waiting front → (operand : List Token) (value : Value) (tight : ℕ)
+    → Means tight operand value → precedence ≤ tight → demand waiting ≤ precedence → IsSettled precedence (front ++ operand) (record { waiting = waiting; value = value })
+kept precedence {front = front} spells operand value tight means within takes =
+    record { front = front; operand = operand; spells = spells; means = looser precedence tight within means; takes = takes; whole = refl }
 
 -- what settles is an expression, with what settles in it
-settles : (level : ℕ) {waiting : List Waiting} {front : List Token} → Spells waiting front → (operand : List Token) (value : Value) (tight : ℕ)
-    → Means tight operand value → demand waiting ≤ tight → level ≤ tight → level ≤ 11 → IsSettled level (front ++ operand) (settled level waiting value)
-settles level empty operand value tight means takes within most = kept level empty operand value tight means within (omega arith)
-settles level (opened waiting front token spells is) operand value tight means takes within most =
-    kept level (opened waiting front token spells is) operand value tight means within (omega arith)
-settles level (in_front waiting front token operator spells is) operand value tight means takes within most =
+settles : (precedence : ℕ) {waiting : List Waiting} {front : List Token} → Spells waiting front → (operand : List Token) (value : Value) (tight : ℕ)
+    → Means tight operand value → demand waiting ≤ tight → precedence ≤ tight → precedence ≤ 11 → IsSettled precedence (front ++ operand) (settled precedence waiting value)
+settles precedence empty operand value tight means takes within most = kept precedence empty operand value tight means within (omega arith)
+settles precedence (opened waiting front token spells is) operand value tight means takes within most =
+    kept precedence (opened waiting front token spells is) operand value tight means within (omega arith)
+settles precedence (in_front waiting front token operator spells is) operand value tight means takes within most =
     settled_along (sym (append_assoc front (token ∷ []) operand))
-    (settles level spells (token ∷ operand) (unary_value operator value) 11 (prefixed token operator operand value is (looser 11 tight takes means))
+    (settles precedence spells (token ∷ operand) (unary_value operator value) 11 (prefixed token operator operand value is (looser 11 tight takes means))
     (demand_within waiting) most most)
-settles level (between waiting front left token operator first spells fits lefts is) operand value tight means takes within most =
-    elim (cases_Bool (nat_le level (level_of operator))) [
+settles precedence (between waiting front left token operator first spells fits lefts is) operand value tight means takes within most =
+    elim (cases_Bool (nat_le precedence (precedence_of operator))) [
       | inl taken ↦ rw taken (
-          let within' : level ≤ level_of operator = grind (arith, nat_tests) in
+          let within' : precedence ≤ precedence_of operator = grind (arith, nat_tests) in
           settled_along (simp append_assoc)
-          (settles level spells (left ++ token ∷ operand) (binary_value operator first value) (level_of operator)
-          (infixed token operator left operand first value is lefts (looser (suc (level_of operator)) tight takes means)) fits within' most))
+          (settles precedence spells (left ++ token ∷ operand) (binary_value operator first value) (precedence_of operator)
+          (infixed token operator left operand first value is lefts (looser (suc (precedence_of operator)) tight takes means)) fits within' most))
       | inr stays ↦ rw stays (
-          let takes' : suc (level_of operator) ≤ level = grind (arith, nat_tests) in
-          kept level (between waiting front left token operator first spells fits lefts is) operand value tight means within takes')
+          let takes' : suc (precedence_of operator) ≤ precedence = grind (arith, nat_tests) in
+          kept precedence (between waiting front left token operator first spells fits lefts is) operand value tight means within takes')
     ]
-settles level (asked waiting front test question first spells fits tests is) operand value tight means takes within most =
-    kept level (asked waiting front test question first spells fits tests is) operand value tight means within (omega arith)
-settles level (parted waiting front test left question colon first second spells fits tests is lefts is_colon) operand value tight means takes within most =
-    elim (cases_Bool (level == 0)) [
+settles precedence (asked waiting front test question first spells fits tests is) operand value tight means takes within most =
+    kept precedence (asked waiting front test question first spells fits tests is) operand value tight means within (omega arith)
+settles precedence (parted waiting front test left question colon first second spells fits tests is lefts is_colon) operand value tight means takes within most =
+    elim (cases_Bool (precedence == 0)) [
       | inl taken ↦ rw taken (
-          let within' : level ≤ 0 = grind (arith, nat_tests) in
+          let within' : precedence ≤ 0 = grind (arith, nat_tests) in
           settled_along (simp append_assoc)
-          (settles level spells (test ++ question ∷ (left ++ colon ∷ operand)) (chosen first second value) 0
+          (settles precedence spells (test ++ question ∷ (left ++ colon ∷ operand)) (chosen first second value) 0
           (conditional question colon test left operand first second value is is_colon tests lefts (looser 0 tight takes means)) fits within' most))
       | inr stays ↦ rw stays
-          (kept level (parted waiting front test left question colon first second spells fits tests is lefts is_colon) operand value tight means within
+          (kept precedence (parted waiting front test left question colon first second spells fits tests is lefts is_colon) operand value tight means within
           (omega arith))
     ]
 
@@ -106,7 +106,7 @@ record IsOperand (waiting : List Waiting) (value : Value) (tokens : List Token) 
   whole : front ++ operand ≡ tokens
 
 -- the tokens lead to this place
-abbrev IsAt : Place → List Waiting → List Token → Type 0
+abbrev IsAt : Stage → List Waiting → List Token → Type 0
 IsAt Before waiting tokens = Spells waiting tokens
 IsAt (Behind value) waiting tokens = IsOperand waiting value tokens
 
@@ -159,41 +159,41 @@ close_on (parted waiting front test left question token first second spells fits
 
 -- a token after an operand
 module _ (waiting : List Waiting) (value : Value) (tokens : List Token) (token : Token) (operand : IsOperand waiting value tokens) where
-  -- what settles at the level
-  at_level : (level : ℕ) → level ≤ 11 → IsSettled level tokens (settled level waiting value)
-  at_level level most =
-      settled_along operand.whole (settles level operand.spells operand.operand value 11 operand.means (demand_within waiting) most most)
+  -- what settles at the precedence
+  at_precedence : (precedence : ℕ) → precedence ≤ 11 → IsSettled precedence tokens (settled precedence waiting value)
+  at_precedence precedence most =
+      settled_along operand.whole (settles precedence operand.spells operand.operand value 11 operand.means (demand_within waiting) most most)
 
   -- the token after it
-  token_behind : {level : ℕ} {it : Settled} (is : IsSettled level tokens it) → is.front ++ (is.operand ++ token ∷ []) ≡ tokens ++ token ∷ []
+  token_behind : {precedence : ℕ} {it : Settled} (is : IsSettled precedence tokens it) → is.front ++ (is.operand ++ token ∷ []) ≡ tokens ++ token ∷ []
   token_behind is = sym (append_assoc is.front is.operand (token ∷ [])) ∙ ap (λ (all : List Token). all ++ token ∷ []) is.whole
 
   -- by what the token is
   operator_on : (operator : Option Binary) (is_question is_colon is_close : Bool) → binary_of token ≡ operator → is_mark (codes "?") token ≡ is_question
       → is_mark (codes ":") token ≡ is_colon → is_mark (codes ")") token ≡ is_close
-      → IsReading (operator_by (λ level. settled level waiting value) operator is_question is_colon is_close) (tokens ++ token ∷ [])
+      → IsReading (operator_by (λ precedence. settled precedence waiting value) operator is_question is_colon is_close) (tokens ++ token ∷ [])
   operator_on (Some operator) is_question is_colon is_close is asks parts ends =
-      let left = at_level (level_of operator) (omega (arith, (level_within operator).1)) in
-      let it : Settled = settled (level_of operator) waiting value in
+      let left = at_precedence (precedence_of operator) (omega (arith, (precedence_within operator).1)) in
+      let it : Settled = settled (precedence_of operator) waiting value in
       reading_along (infix_step operator it) (token_behind left)
       (between it.waiting left.front left.operand token operator it.value left.spells left.takes left.means is)
   operator_on None true is_colon is_close is asks parts ends =
-      let test = at_level 1 (omega arith) in
+      let test = at_precedence 1 (omega arith) in
       let it : Settled = settled 1 waiting value in
       reading_along (question_step it) (token_behind test)
       (asked it.waiting test.front test.operand token it.value test.spells (no_operator it.waiting test.takes) test.means asks)
   operator_on None false true is_close is asks parts ends =
-      let left = at_level 0 (omega arith) in
+      let left = at_precedence 0 (omega arith) in
       let it : Settled = settled 0 waiting value in
       reading_along (colon_step it.waiting it.value) (token_behind left) (colon_on left.spells left.operand it.value token left.means parts)
   operator_on None false false true is asks parts ends =
-      let inside = at_level 0 (omega arith) in
+      let inside = at_precedence 0 (omega arith) in
       let it : Settled = settled 0 waiting value in
       reading_along (close_step it.waiting it.value) (token_behind inside) (close_on inside.spells inside.operand it.value token inside.means ends)
   operator_on None false false false is asks parts ends = tt
 
 -- one token on
-step_on : (place : Place) (waiting : List Waiting) (tokens : List Token) (token : Token) → IsAt place waiting tokens
+step_on : (place : Stage) (waiting : List Waiting) (tokens : List Token) (token : Token) → IsAt place waiting tokens
     → IsReading (step place waiting token) (tokens ++ token ∷ [])
 step_on Before waiting tokens token spells =
     operand_on waiting tokens token (constant_of token) (unary_of token) (is_mark (codes "(") token) spells refl refl refl
@@ -227,7 +227,7 @@ ended_on None tokens value is same = absurd cc
 ended_on (Some reading) tokens value is same = at_end reading.place reading.waiting is same
   where
     -- by the place
-    at_end : (place : Place) (waiting : List Waiting) → IsAt place waiting tokens → ended_at place waiting ≡ Some value → Means 0 tokens value
+    at_end : (place : Stage) (waiting : List Waiting) → IsAt place waiting tokens → ended_at place waiting ≡ Some value → Means 0 tokens value
     at_end Before waiting spells same = absurd cc
     at_end (Behind last) waiting operand same =
         let all = settles 0 operand.spells operand.operand last 11 operand.means (demand_within waiting) (omega arith) (omega arith) in

@@ -10,7 +10,7 @@ use Rattle.hs_constants.specs.declared.value.Value.{Value}
 use Rattle.hs_constants.specs.declared.operator.Unary.{Unary}
 use Rattle.hs_constants.specs.declared.operator.Unary.TheVariants.{Plus, Minus, Complement, Not}
 use Rattle.hs_constants.specs.declared.operator.Binary.{Binary}
-use Rattle.hs_constants.specs.declared.operator.Binary.TheVariants.{Multiply, Divide, Remainder, Add, Subtract, ShiftLeft, ShiftRight, Less, Greater, LessOrEqual, GreaterOrEqual, Equal, NotEqual, And, Xor, Or, LogicalAnd, LogicalOr}
+use Rattle.hs_constants.specs.declared.operator.Binary.TheVariants.{Multiply, Divide, Remainder, Add, Subtract, ShiftLeft, ShiftRight, Less, Greater, LessEqual, GreaterEqual, Equal, NotEqual, BitAnd, BitXor, BitOr, And, Or}
 
 -- the low 32 bits
 abbrev pub low : ℕ → ℕ
@@ -105,15 +105,15 @@ binary_value ShiftLeft left right = record left { bits = shifted_left left.bits 
 binary_value ShiftRight left right = record left { bits = shifted_right left.unsigned left.bits right.bits; fails = either_fails left right }
 binary_value Less left right = compared left right (λ unsigned. is_less unsigned left.bits right.bits)
 binary_value Greater left right = compared left right (λ unsigned. is_less unsigned right.bits left.bits)
-binary_value LessOrEqual left right = compared left right (λ unsigned. not (is_less unsigned right.bits left.bits))
-binary_value GreaterOrEqual left right = compared left right (λ unsigned. not (is_less unsigned left.bits right.bits))
+binary_value LessEqual left right = compared left right (λ unsigned. not (is_less unsigned right.bits left.bits))
+binary_value GreaterEqual left right = compared left right (λ unsigned. not (is_less unsigned left.bits right.bits))
 binary_value Equal left right = compared left right (λ unsigned. left.bits == right.bits)
 binary_value NotEqual left right = compared left right (λ unsigned. not (left.bits == right.bits))
-binary_value And left right = common left right (λ unsigned. bit_and left.bits right.bits)
-binary_value Xor left right = common left right (λ unsigned. bit_xor left.bits right.bits)
-binary_value Or left right = common left right (λ unsigned. bit_or left.bits right.bits)
-binary_value LogicalAnd left right = truth (left.fails || (is_true left && right.fails)) (is_true left && is_true right)
-binary_value LogicalOr left right = truth (left.fails || (not (is_true left) && right.fails)) (is_true left || is_true right)
+binary_value BitAnd left right = common left right (λ unsigned. bit_and left.bits right.bits)
+binary_value BitXor left right = common left right (λ unsigned. bit_xor left.bits right.bits)
+binary_value BitOr left right = common left right (λ unsigned. bit_or left.bits right.bits)
+binary_value And left right = truth (left.fails || (is_true left && right.fails)) (is_true left && is_true right)
+binary_value Or left right = truth (left.fails || (not (is_true left) && right.fails)) (is_true left || is_true right)
 
 -- 3.3.15: only one of the two is evaluated, and both give the type
 abbrev pub chosen : Value → Value → Value → Value

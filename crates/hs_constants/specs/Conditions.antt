@@ -2,8 +2,8 @@
 -- are 0, under the operators of 3.3.3 and 3.3.5 to 3.3.15, without casts, assignments and commas.
 --     constant_of token            the value of a constant or an identifier
 --     unary_of, binary_of token    the operator that a token is
---     level_of operator            how tightly it binds: 10 the tightest, 1 the loosest
---     Means level tokens value     the tokens are an expression of that level, and this is its value
+--     precedence_of operator            how tightly it binds: 10 the tightest, 1 the loosest
+--     Means precedence tokens value     the tokens are an expression of that precedence, and this is its value
 use Rattle.std.specs.Prelude.{◌≡◌, ℕ, suc, nat_le, Bool, true, false, ◌||◌, List, [], ◌∷◌, ◌++◌, Option, Some, None, if◌then◌else◌, codes}
 use Rattle.hs_tokens.specs.declared.token.Token.{Token}
 use Rattle.hs_tokens.specs.declared.token.TokenKind.{TokenKind}
@@ -17,7 +17,7 @@ use Rattle.hs_constants.specs.declared.value.Value.{Value}
 use Rattle.hs_constants.specs.declared.operator.Unary.{Unary}
 use Rattle.hs_constants.specs.declared.operator.Unary.TheVariants.{Plus, Minus, Complement, Not}
 use Rattle.hs_constants.specs.declared.operator.Binary.{Binary}
-use Rattle.hs_constants.specs.declared.operator.Binary.TheVariants.{Multiply, Divide, Remainder, Add, Subtract, ShiftLeft, ShiftRight, Less, Greater, LessOrEqual, GreaterOrEqual, Equal, NotEqual, And, Xor, Or, LogicalAnd, LogicalOr}
+use Rattle.hs_constants.specs.declared.operator.Binary.TheVariants.{Multiply, Divide, Remainder, Add, Subtract, ShiftLeft, ShiftRight, Less, Greater, LessEqual, GreaterEqual, Equal, NotEqual, BitAnd, BitXor, BitOr, And, Or}
 
 -- a value that divides nothing by 0
 abbrev pub plain : ℕ → Bool → Value
@@ -66,39 +66,39 @@ binary_of token =
     else if is_mark (codes ">>") token then Some ShiftRight
     else if is_mark (codes "<") token then Some Less
     else if is_mark (codes ">") token then Some Greater
-    else if is_mark (codes "<=") token then Some LessOrEqual
-    else if is_mark (codes ">=") token then Some GreaterOrEqual
+    else if is_mark (codes "<=") token then Some LessEqual
+    else if is_mark (codes ">=") token then Some GreaterEqual
     else if is_mark (codes "==") token then Some Equal
     else if is_mark (codes "!=") token then Some NotEqual
-    else if is_mark (codes "&") token then Some And
-    else if is_mark (codes "^") token then Some Xor
-    else if is_mark (codes "|") token then Some Or
-    else if is_mark (codes "&&") token then Some LogicalAnd
-    else if is_mark (codes "||") token then Some LogicalOr
+    else if is_mark (codes "&") token then Some BitAnd
+    else if is_mark (codes "^") token then Some BitXor
+    else if is_mark (codes "|") token then Some BitOr
+    else if is_mark (codes "&&") token then Some And
+    else if is_mark (codes "||") token then Some Or
     else None
 
 -- how tightly an operator binds
-abbrev pub level_of : Binary → ℕ
-level_of Multiply = 10
-level_of Divide = 10
-level_of Remainder = 10
-level_of Add = 9
-level_of Subtract = 9
-level_of ShiftLeft = 8
-level_of ShiftRight = 8
-level_of Less = 7
-level_of Greater = 7
-level_of LessOrEqual = 7
-level_of GreaterOrEqual = 7
-level_of Equal = 6
-level_of NotEqual = 6
-level_of And = 5
-level_of Xor = 4
-level_of Or = 3
-level_of LogicalAnd = 2
-level_of LogicalOr = 1
+abbrev pub precedence_of : Binary → ℕ
+precedence_of Multiply = 10
+precedence_of Divide = 10
+precedence_of Remainder = 10
+precedence_of Add = 9
+precedence_of Subtract = 9
+precedence_of ShiftLeft = 8
+precedence_of ShiftRight = 8
+precedence_of Less = 7
+precedence_of Greater = 7
+precedence_of LessEqual = 7
+precedence_of GreaterEqual = 7
+precedence_of Equal = 6
+precedence_of NotEqual = 6
+precedence_of BitAnd = 5
+precedence_of BitXor = 4
+precedence_of BitOr = 3
+precedence_of And = 2
+precedence_of Or = 1
 
--- The tokens are an expression, and this is its value. Level 0 is that of `?:`, the levels 1 to 10 those of the operators
+-- The tokens are an expression, and this is its value. Precedence 0 is that of `?:`, the precedences 1 to 10 those of the operators
 -- between two, which group to the left, and 11 that of the operators in front.
 pub data Means : ℕ → List Token → Value → Type 0 where
   -- 3.3.1, and 3.8.1: an identifier is 0
@@ -111,12 +111,12 @@ pub data Means : ℕ → List Token → Value → Type 0 where
       → Means 11 tokens value → Means 11 (token ∷ tokens) (unary_value operator value)
   -- 3.3.5 to 3.3.14: what stands on the right binds more tightly
   infixed : (token : Token) (operator : Binary) (left right : List Token) (value other : Value) → binary_of token ≡ Some operator
-      → Means (level_of operator) left value → Means (suc (level_of operator)) right other
-      → Means (level_of operator) (left ++ token ∷ right) (binary_value operator value other)
+      → Means (precedence_of operator) left value → Means (suc (precedence_of operator)) right other
+      → Means (precedence_of operator) (left ++ token ∷ right) (binary_value operator value other)
   -- 3.3.15: groups to the right
   conditional : (question colon : Token) (test left right : List Token) (value first second : Value)
       → is_mark (codes "?") question ≡ true → is_mark (codes ":") colon ≡ true
       → Means 1 test value → Means 0 left first → Means 0 right second
       → Means 0 (test ++ question ∷ (left ++ colon ∷ right)) (chosen value first second)
-  -- what binds more tightly is of each looser level
-  tighter : (level : ℕ) (tokens : List Token) (value : Value) → Means (suc level) tokens value → Means level tokens value
+  -- what binds more tightly is of each looser precedence
+  tighter : (precedence : ℕ) (tokens : List Token) (value : Value) → Means (suc precedence) tokens value → Means precedence tokens value

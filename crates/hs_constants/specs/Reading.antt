@@ -1,7 +1,7 @@
 -- How a condition is read, token by token: a stack holds what waits for the value of an operand. `Means` of Conditions.antt
 -- says what a condition is and what its value is; the contract of `condition_value` has that the reading agrees with it.
---     applied last level value       what a value makes of the last thing that waits
---     settled level waiting value    what still waits, if only what binds looser than the level may
+--     applied last precedence value       what a value makes of the last thing that waits
+--     settled precedence waiting value    what still waits, if only what binds looser than the precedence may
 --     step reading token             one token on
 --     condition_value tokens         the value of the condition, if the tokens are one
 use Rattle.std.specs.Prelude.{ℕ, ◌==◌, nat_le, Bool, List, [], ◌∷◌, Option, Some, None, map, if◌then◌else◌, codes}
@@ -9,26 +9,26 @@ use Rattle.hs_tokens.specs.declared.token.Token.{Token}
 use Rattle.hs_tokens.specs.declared.token.SourceToken.{SourceToken}
 use Rattle.hs_tokens.specs.Marks.{is_mark}
 use Rattle.hs_constants.specs.Arithmetic.{unary_value, binary_value, chosen}
-use Rattle.hs_constants.specs.Conditions.{constant_of, unary_of, binary_of, level_of}
+use Rattle.hs_constants.specs.Conditions.{constant_of, unary_of, binary_of, precedence_of}
 use Rattle.hs_constants.specs.declared.value.Value.{Value}
 use Rattle.hs_constants.specs.declared.operator.Unary.{Unary}
 use Rattle.hs_constants.specs.declared.operator.Binary.{Binary}
 use Rattle.hs_constants.specs.declared.waiting.Waiting.{Waiting}
 use Rattle.hs_constants.specs.declared.waiting.Waiting.TheVariants.{Group, Prefix, Infix, Test, Branch}
-use Rattle.hs_constants.specs.declared.condition.Place.{Place}
-use Rattle.hs_constants.specs.declared.condition.Place.TheVariants.{Before, Behind}
+use Rattle.hs_constants.specs.declared.condition.Stage.{Stage}
+use Rattle.hs_constants.specs.declared.condition.Stage.TheVariants.{Before, Behind}
 
 -- the tokens without where they come from
 abbrev pub tokens_of : List SourceToken → List Token
 tokens_of tokens = map (λ source. source.token) tokens
 
--- what the value makes of the last thing that waits, if that binds as tightly as the level
+-- what the value makes of the last thing that waits, if that binds as tightly as the precedence
 abbrev pub applied : Waiting → ℕ → Value → Option Value
-applied Group level value = None
-applied (Prefix operator) level value = Some (unary_value operator value)
-applied (Infix left operator) level value = if nat_le level (level_of operator) then Some (binary_value operator left value) else None
-applied (Test test) level value = None
-applied (Branch test left) level value = if level == 0 then Some (chosen test left value) else None
+applied Group precedence value = None
+applied (Prefix operator) precedence value = Some (unary_value operator value)
+applied (Infix left operator) precedence value = if nat_le precedence (precedence_of operator) then Some (binary_value operator left value) else None
+applied (Test test) precedence value = None
+applied (Branch test left) precedence value = if precedence == 0 then Some (chosen test left value) else None
 
 -- what still waits, the last first, and the value for which it waits
 pub record Settled : Type 0 where
@@ -40,19 +40,19 @@ abbrev pub settled_by : (Value → Settled) → Settled → Option Value → Set
 settled_by later stays None = stays
 settled_by later stays (Some next) = later next
 
--- what waits takes the value, from the last on, as far as it binds as tightly as the level
+-- what waits takes the value, from the last on, as far as it binds as tightly as the precedence
 abbrev pub settled : ℕ → List Waiting → Value → Settled
-settled level [] value = record { waiting = []; value = value }
-settled level (last ∷ waiting) value =
-    settled_by (settled level waiting) (record { waiting = last ∷ waiting; value = value }) (applied last level value)
+settled precedence [] value = record { waiting = []; value = value }
+settled precedence (last ∷ waiting) value =
+    settled_by (settled precedence waiting) (record { waiting = last ∷ waiting; value = value }) (applied last precedence value)
 
 -- what waits, the last first, and where the reading stands
 pub record Reading : Type 0 where
   pub waiting : List Waiting
-  pub place : Place
+  pub place : Stage
 
 -- the place, if any, with what waits
-abbrev pub seen : List Waiting → Option Place → Option Reading
+abbrev pub seen : List Waiting → Option Stage → Option Reading
 seen waiting None = None
 seen waiting (Some place) = Some (record { waiting = waiting; place = place })
 
@@ -94,7 +94,7 @@ close_step _ value = None
 
 -- after an operand stands an operator, or what ends a part
 abbrev pub operator_by : (ℕ → Settled) → Option Binary → Bool → Bool → Bool → Option Reading
-operator_by settled (Some operator) is_question is_colon is_close = infix_step operator (settled (level_of operator))
+operator_by settled (Some operator) is_question is_colon is_close = infix_step operator (settled (precedence_of operator))
 operator_by settled None is_question is_colon is_close =
     if is_question then question_step (settled 1)
     else if is_colon then colon_step (settled 0).waiting (settled 0).value
@@ -104,10 +104,10 @@ operator_by settled None is_question is_colon is_close =
 -- the same of the token
 abbrev pub operator_step : List Waiting → Value → Token → Option Reading
 operator_step waiting value token =
-    operator_by (λ level. settled level waiting value) (binary_of token) (is_mark (codes "?") token) (is_mark (codes ":") token) (is_mark (codes ")") token)
+    operator_by (λ precedence. settled precedence waiting value) (binary_of token) (is_mark (codes "?") token) (is_mark (codes ":") token) (is_mark (codes ")") token)
 
 -- one token on
-abbrev pub step : Place → List Waiting → Token → Option Reading
+abbrev pub step : Stage → List Waiting → Token → Option Reading
 step Before waiting token = operand_step waiting token
 step (Behind value) waiting token = operator_step waiting value token
 
@@ -127,7 +127,7 @@ value_of [] value = Some value
 value_of (last ∷ waiting) value = None
 
 -- the end follows an operand
-abbrev pub ended_at : Place → List Waiting → Option Value
+abbrev pub ended_at : Stage → List Waiting → Option Value
 ended_at Before waiting = None
 ended_at (Behind value) waiting = value_of (settled 0 waiting value).waiting (settled 0 waiting value).value
 

@@ -182,18 +182,18 @@ pub(crate) fn binary_value(operator: Binary, left: Value, right: Value) -> Value
         },
         Binary::Less => truth(either, is_less(unsigned, left.bits, right.bits)),
         Binary::Greater => truth(either, is_less(unsigned, right.bits, left.bits)),
-        Binary::LessOrEqual => truth(either, !is_less(unsigned, right.bits, left.bits)),
-        Binary::GreaterOrEqual => truth(either, !is_less(unsigned, left.bits, right.bits)),
+        Binary::LessEqual => truth(either, !is_less(unsigned, right.bits, left.bits)),
+        Binary::GreaterEqual => truth(either, !is_less(unsigned, left.bits, right.bits)),
         Binary::Equal => truth(either, left.bits == right.bits),
         Binary::NotEqual => truth(either, left.bits != right.bits),
-        Binary::And => common(left, right, left.bits & right.bits),
-        Binary::Xor => common(left, right, left.bits ^ right.bits),
-        Binary::Or => common(left, right, left.bits | right.bits),
-        Binary::LogicalAnd => truth(
+        Binary::BitAnd => common(left, right, left.bits & right.bits),
+        Binary::BitXor => common(left, right, left.bits ^ right.bits),
+        Binary::BitOr => common(left, right, left.bits | right.bits),
+        Binary::And => truth(
             left.fails || (is_true(left) && right.fails),
             is_true(left) && is_true(right),
         ),
-        Binary::LogicalOr => truth(
+        Binary::Or => truth(
             left.fails || (!is_true(left) && right.fails),
             is_true(left) || is_true(right),
         ),

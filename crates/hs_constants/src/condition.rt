@@ -5,7 +5,7 @@ ghost use Rattle.hs_constants.specs.Conditions.{Means};
 ghost use Rattle.hs_constants.specs.Reading.{tokens_of, seen, operand_step, operator_step, step, condition_value};
 
 use crate::constant::constant_of;
-use crate::operator::{binary_of, level_of, unary_of};
+use crate::operator::{binary_of, precedence_of, unary_of};
 use crate::value::Value;
 use crate::waiting::{Waiting, settled};
 use hs_tokens::{SourceToken, Token, is_mark};
@@ -13,27 +13,27 @@ use std::alloc::{AllocError, Global};
 
 /// Where the reading of a condition stands.
 #[derive(Clone, Copy)]
-enum Place {
+enum Stage {
     /// In front of an operand.
     Before,
     /// After an operand of this value.
     Behind(Value),
 }
 
-/// The level of `?:`, which binds loosest (X3.159-1989 3.3.15).
+/// The precedence of `?:`, which binds loosest (X3.159-1989 3.3.15).
 const CONDITIONAL: u32 = 0;
 
-/// The level of `||`, and of the test in front of a `?` (X3.159-1989 3.3.14 and 3.3.15).
+/// The precedence of `||`, and of the test in front of a `?` (X3.159-1989 3.3.14 and 3.3.15).
 const LOGICAL_OR: u32 = 1;
 
 /// Takes a token in front of an operand: a constant, an operator or an open parenthesis (X3.159-1989 3.3.1 and
 /// 3.3.3). Nothing if it is another.
-fn operand_step(waiting: &mut Vec<Waiting>, token: &Token) -> Result<Option<Place>, AllocError>
+fn operand_step(waiting: &mut Vec<Waiting>, token: &Token) -> Result<Option<Stage>, AllocError>
     ensures { IfOk result (λ next. seen (reverse waiting.new.items) next
         ≡ operand_step (reverse waiting.old.items) token.now) }
 {
     if let Some(value) = constant_of(token) {
-        return Ok(Some(Place::Behind(value)));
+        return Ok(Some(Stage::Behind(value)));
     }
     if let Some(operator) = unary_of(token) {
         waiting.push(Waiting::Prefix(operator))?;
@@ -42,7 +42,7 @@ fn operand_step(waiting: &mut Vec<Waiting>, token: &Token) -> Result<Option<Plac
     } else {
         return Ok(None);
     }
-    Ok(Some(Place::Before))
+    Ok(Some(Stage::Before))
 }
 
 /// Takes a token after an operand: an operator, or what ends a part (X3.159-1989 3.3.1 and 3.3.5 to 3.3.15). Nothing
@@ -51,19 +51,19 @@ fn operator_step(
     waiting: &mut Vec<Waiting>,
     value: Value,
     token: &Token,
-) -> Result<Option<Place>, AllocError>
+) -> Result<Option<Stage>, AllocError>
     ensures { IfOk result (λ next. seen (reverse waiting.new.items) next
         ≡ operator_step (reverse waiting.old.items) value token.now) }
 {
     if let Some(operator) = binary_of(token) {
-        let left = settled(waiting, level_of(operator), value);
+        let left = settled(waiting, precedence_of(operator), value);
         waiting.push(Waiting::Infix(left, operator))?;
-        return Ok(Some(Place::Before));
+        return Ok(Some(Stage::Before));
     }
     if is_mark(b"?", token) {
         let test = settled(waiting, LOGICAL_OR, value);
         waiting.push(Waiting::Test(test))?;
-        return Ok(Some(Place::Before));
+        return Ok(Some(Stage::Before));
     }
     if is_mark(b":", token) {
         let left = settled(waiting, CONDITIONAL, value);
@@ -71,14 +71,14 @@ fn operator_step(
             return Ok(None);
         };
         waiting.push(Waiting::Branch(test, left))?;
-        return Ok(Some(Place::Before));
+        return Ok(Some(Stage::Before));
     }
     if is_mark(b")", token) {
         let inside = settled(waiting, CONDITIONAL, value);
         let Some(Waiting::Group) = waiting.pop() else {
             return Ok(None);
         };
-        return Ok(Some(Place::Behind(inside)));
+        return Ok(Some(Stage::Behind(inside)));
     }
     Ok(None)
 }
@@ -86,15 +86,15 @@ fn operator_step(
 /// Takes the next token, from that place on.
 fn step(
     waiting: &mut Vec<Waiting>,
-    place: Place,
+    place: Stage,
     token: &Token,
-) -> Result<Option<Place>, AllocError>
+) -> Result<Option<Stage>, AllocError>
     ensures { IfOk result (λ next. seen (reverse waiting.new.items) next
         ≡ step place (reverse waiting.old.items) token.now) }
 {
     match place {
-        Place::Before => operand_step(waiting, token),
-        Place::Behind(value) => operator_step(waiting, value, token),
+        Stage::Before => operand_step(waiting, token),
+        Stage::Behind(value) => operator_step(waiting, value, token),
     }
 }
 
@@ -111,14 +111,14 @@ pub fn condition_value(alloc: Global, tokens: &[SourceToken]) -> Result<Option<V
         (other : Value) → Means 0 (tokens_of tokens.now) other → ⊥)) }
 {
     let mut waiting = Vec::new(alloc);
-    let mut place = Place::Before;
+    let mut place = Stage::Before;
     'tokens: for source in tokens {
         let Some(next) = step(&mut waiting, place, &source.token)? else {
             return Ok(None);
         };
         place = next;
     }
-    let Place::Behind(last) = place else {
+    let Stage::Behind(last) = place else {
         return Ok(None);
     };
     let value = settled(&mut waiting, CONDITIONAL, last);

@@ -1,7 +1,7 @@
-//! The operators of conditions but `?:`, and the levels of those between two operands.
+//! The operators of conditions but `?:`, and the precedences of those between two operands.
 
 ghost use Rattle.std.specs.Prelude.{◌≡◌};
-ghost use Rattle.hs_constants.specs.Conditions.{unary_of, binary_of, level_of};
+ghost use Rattle.hs_constants.specs.Conditions.{unary_of, binary_of, precedence_of};
 
 use hs_tokens::{Token, is_mark};
 
@@ -26,15 +26,15 @@ pub(crate) enum Binary {
     ShiftRight,
     Less,
     Greater,
-    LessOrEqual,
-    GreaterOrEqual,
+    LessEqual,
+    GreaterEqual,
     Equal,
     NotEqual,
+    BitAnd,
+    BitXor,
+    BitOr,
     And,
-    Xor,
     Or,
-    LogicalAnd,
-    LogicalOr,
 }
 
 /// The operator in front of an operand that the token is (X3.159-1989 3.3.3).
@@ -77,42 +77,42 @@ pub(crate) fn binary_of(token: &Token) -> Option<Binary>
     } else if is_mark(b">", token) {
         Some(Binary::Greater)
     } else if is_mark(b"<=", token) {
-        Some(Binary::LessOrEqual)
+        Some(Binary::LessEqual)
     } else if is_mark(b">=", token) {
-        Some(Binary::GreaterOrEqual)
+        Some(Binary::GreaterEqual)
     } else if is_mark(b"==", token) {
         Some(Binary::Equal)
     } else if is_mark(b"!=", token) {
         Some(Binary::NotEqual)
     } else if is_mark(b"&", token) {
-        Some(Binary::And)
+        Some(Binary::BitAnd)
     } else if is_mark(b"^", token) {
-        Some(Binary::Xor)
+        Some(Binary::BitXor)
     } else if is_mark(b"|", token) {
-        Some(Binary::Or)
+        Some(Binary::BitOr)
     } else if is_mark(b"&&", token) {
-        Some(Binary::LogicalAnd)
+        Some(Binary::And)
     } else if is_mark(b"||", token) {
-        Some(Binary::LogicalOr)
+        Some(Binary::Or)
     } else {
         None
     }
 }
 
 /// How tightly the operator binds: 10 the tightest, 1 the loosest (X3.159-1989 3.3.5 to 3.3.14).
-pub(crate) fn level_of(operator: Binary) -> u32
-    ensures { result ≡ level_of operator }
+pub(crate) fn precedence_of(operator: Binary) -> u32
+    ensures { result ≡ precedence_of operator }
 {
     match operator {
         Binary::Multiply | Binary::Divide | Binary::Remainder => 10,
         Binary::Add | Binary::Subtract => 9,
         Binary::ShiftLeft | Binary::ShiftRight => 8,
-        Binary::Less | Binary::Greater | Binary::LessOrEqual | Binary::GreaterOrEqual => 7,
+        Binary::Less | Binary::Greater | Binary::LessEqual | Binary::GreaterEqual => 7,
         Binary::Equal | Binary::NotEqual => 6,
-        Binary::And => 5,
-        Binary::Xor => 4,
-        Binary::Or => 3,
-        Binary::LogicalAnd => 2,
-        Binary::LogicalOr => 1,
+        Binary::BitAnd => 5,
+        Binary::BitXor => 4,
+        Binary::BitOr => 3,
+        Binary::And => 2,
+        Binary::Or => 1,
     }
 }

@@ -10,7 +10,7 @@ use Rattle.std.specs.declared.alloc.Global.{Global}
 use Rattle.hs_cut.specs.Arcs.{IsGraph, arcs_from, goal}
 use Rattle.hs_cut.specs.CutFlows.{net_out-cut}
 use Rattle.hs_cut.specs.Flows.{net_out, out_over}
-use Rattle.hs_cut.specs.Levels.{AreLevels, level_at, opens, shut}
+use Rattle.hs_cut.specs.Distances.{AreDistances, distance_at, opens, shut}
 use Rattle.std.specs.List.{slice_index_or}
 use Rattle.std.proofs.Common.{Option}
 use mathlib.Core.Bool.{xor}
@@ -18,7 +18,7 @@ use Rattle.hs_cut.specs.NetOut.{CrossSlots, crossings-cons, crossings-length, ou
 use Rattle.hs_cut.specs.Networks.{IsCut, IsNumbered, Side, among, crosses, crossings}
 use Rattle.hs_cut.specs.Pushes.{IsPartial, IsPushed, IsSized, LeadsDown, amount_at, count, edge_at}
 use Rattle.hs_cut.specs.declared.graph.Arc.{Arc}
-use Rattle.hs_cut.specs.declared.levels.Gate.{Gate}
+use Rattle.hs_cut.specs.declared.distances.Gate.{Gate}
 use Rattle.hs_cut.specs.declared.network.CutEdge.{CutEdge}
 use Rattle.hs_cut.specs.declared.network.Network.{Network}
 use Rattle.hs_cut.proofs.Among.{among-All}
@@ -176,19 +176,19 @@ IsPartial-push network units before after from to side partial pushed cut begins
     more_ : (after before to from : ℤ) (units : ℕ) → after +ℤ to ≡ before +ℤ from → to ≡ pos 0 → from ≡ pos 1 → before ≡ pos units → after ≡ pos (suc units)
     more_ after before to from units net none one was = omega (arith, ints)
 
--- an arc leads down from each vertex above level 0
-pub leads_down : (edges : List CutEdge) (gates : List Gate) (rows : List (Vec Arc Global)) (starts : List ℕ) (levels : List (Option ℕ))
-    → IsGraph edges rows → AreLevels gates rows starts levels
-    → (vertex level : ℕ) → level_at levels vertex ≡ Some (level + 1) → (arc : Arc) × Contains (arcs_from rows vertex) arc × LeadsDown gates levels level arc
-leads_down edges gates rows starts levels graph all vertex level is =
-    let same : level + 1 ≡ suc level = omega arith in
-    let below = all.below vertex level (is ∙ ap (λ n. Some n) same) in
+-- an arc leads down from each vertex above distance 0
+pub leads_down : (edges : List CutEdge) (gates : List Gate) (rows : List (Vec Arc Global)) (starts : List ℕ) (distances : List (Option ℕ))
+    → IsGraph edges rows → AreDistances gates rows starts distances
+    → (vertex distance : ℕ) → distance_at distances vertex ≡ Some (distance + 1) → (arc : Arc) × Contains (arcs_from rows vertex) arc × LeadsDown gates distances distance arc
+leads_down edges gates rows starts distances graph all vertex distance is =
+    let same : distance + 1 ≡ suc distance = omega arith in
+    let below = all.below vertex distance (is ∙ ap (λ n. Some n) same) in
     let step = step-sound edges gates rows below.0 vertex graph below.2 in
     let has = arc-complete edges rows vertex step.index step.edge (not step.along) graph step.found (start-back step.edge step.along ∙ step.ends) in (
       (record { to = goal step.edge (not step.along); edge = step.index; along = not step.along }),
       has,
       (
-        ap (level_at levels) (goal-back step.edge step.along ∙ step.begins) ∙ below.1,
+        ap (distance_at distances) (goal-back step.edge step.along ∙ step.begins) ∙ below.1,
         twice step.along (opens (slice_index_or gates step.index shut)) step.opened,
       ),
     )

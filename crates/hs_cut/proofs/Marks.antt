@@ -5,44 +5,44 @@ use Rattle.std.proofs.Common.{append-nil}
 use Rattle.std.proofs.lemmas.List.Concat.{flat_map-cons}
 use Rattle.std.proofs.lemmas.List.{take_more}
 use Rattle.std.proofs.lemmas.Grind.{flat_map-append}
-use Rattle.hs_cut.specs.Levels.{IsMarked, level_at, level_after, targets, is_open}
+use Rattle.hs_cut.specs.Distances.{IsMarked, distance_at, distance_after, targets, is_open}
 use Rattle.hs_cut.specs.Networks.{among}
 use Rattle.hs_cut.specs.declared.graph.Arc.{Arc}
-use Rattle.hs_cut.specs.declared.levels.Gate.{Gate}
+use Rattle.hs_cut.specs.declared.distances.Gate.{Gate}
 
--- a level that is given twice is the first one
-level_twice : (level : ℕ) (one other : Bool) (before : Option ℕ)
-    → level_after level other (level_after level one before) ≡ level_after level (one || other) before
-level_twice level one other (Some own) = refl
-level_twice level true other None = refl
-level_twice level false other None = refl
+-- a distance that is given twice is the first one
+distance_twice : (distance : ℕ) (one other : Bool) (before : Option ℕ)
+    → distance_after distance other (distance_after distance one before) ≡ distance_after distance (one || other) before
+distance_twice distance one other (Some own) = refl
+distance_twice distance true other None = refl
+distance_twice distance false other None = refl
 
 -- what is put is put once
-put_twice : (level : ℕ) (next one other : Bool) (before : Option ℕ)
-    → ((next || (is_none before && one)) || (is_none (level_after level one before) && other)) ≡ (next || (is_none before && (one || other)))
-put_twice level true one other before = refl
-put_twice level false one other (Some own) = refl
-put_twice level false true other None = refl
-put_twice level false false other None = refl
+put_twice : (distance : ℕ) (next one other : Bool) (before : Option ℕ)
+    → ((next || (is_none before && one)) || (is_none (distance_after distance one before) && other)) ≡ (next || (is_none before && (one || other)))
+put_twice distance true one other before = refl
+put_twice distance false one other (Some own) = refl
+put_twice distance false true other None = refl
+put_twice distance false false other None = refl
 
 -- marking some and then others is marking all of them
-IsMarked-append : (level : ℕ) (some others : List ℕ) (first : List (Option ℕ)) (next : List ℕ) (mid : List (Option ℕ)) (next' : List ℕ)
+IsMarked-append : (distance : ℕ) (some others : List ℕ) (first : List (Option ℕ)) (next : List ℕ) (mid : List (Option ℕ)) (next' : List ℕ)
     (last : List (Option ℕ)) (next'' : List ℕ)
-    → IsMarked level some first next mid next' → IsMarked level others mid next' last next''
-    → IsMarked level (some ++ others) first next last next''
-IsMarked-append level some others first next mid next' last next'' one other = record {
+    → IsMarked distance some first next mid next' → IsMarked distance others mid next' last next''
+    → IsMarked distance (some ++ others) first next last next''
+IsMarked-append distance some others first next mid next' last next'' one other = record {
   long = other.long ∙ one.long;
   each = λ vertex.
       other.each vertex
-      ∙ ap (level_after level (among others vertex)) (one.each vertex)
-      ∙ level_twice level (among some vertex) (among others vertex) (level_at first vertex)
-      ∙ ap (λ b. level_after level b (level_at first vertex)) (sym (list_any-append _ some others));
+      ∙ ap (distance_after distance (among others vertex)) (one.each vertex)
+      ∙ distance_twice distance (among some vertex) (among others vertex) (distance_at first vertex)
+      ∙ ap (λ b. distance_after distance b (distance_at first vertex)) (sym (list_any-append _ some others));
   put = λ vertex.
       other.put vertex
-      ∙ ap (λ b. b || (is_none (level_at mid vertex) && among others vertex)) (one.put vertex)
-      ∙ ap (λ own. (among next vertex || (is_none (level_at first vertex) && among some vertex)) || (is_none own && among others vertex)) (one.each vertex)
-      ∙ put_twice level (among next vertex) (among some vertex) (among others vertex) (level_at first vertex)
-      ∙ ap (λ b. among next vertex || (is_none (level_at first vertex) && b)) (sym (list_any-append _ some others));
+      ∙ ap (λ b. b || (is_none (distance_at mid vertex) && among others vertex)) (one.put vertex)
+      ∙ ap (λ own. (among next vertex || (is_none (distance_at first vertex) && among some vertex)) || (is_none own && among others vertex)) (one.each vertex)
+      ∙ put_twice distance (among next vertex) (among some vertex) (among others vertex) (distance_at first vertex)
+      ∙ ap (λ b. among next vertex || (is_none (distance_at first vertex) && b)) (sym (list_any-append _ some others));
   balance = other.balance ∙ one.balance;
 }
 
@@ -66,15 +66,15 @@ pub targets-shut : (gates : List Gate) (arc : Arc) → is_open gates arc ≡ fal
 targets-shut gates arc is = ap (λ b. map (λ arc. arc.to) (cond b (arc ∷ []) [])) is
 
 -- what one vertex more leads to is marked too
-pub IsMarked-next : (f : ℕ → List ℕ) (level : ℕ) (vertices : List ℕ) (index : ℕ) (found : List ℕ) (first : List (Option ℕ))
+pub IsMarked-next : (f : ℕ → List ℕ) (distance : ℕ) (vertices : List ℕ) (index : ℕ) (found : List ℕ) (first : List (Option ℕ))
     (next : List ℕ) (mid : List (Option ℕ)) (next' : List ℕ) (last : List (Option ℕ)) (next'' : List ℕ)
     → index < length vertices → f (get_or vertices index 0) ≡ found
-    → IsMarked level (flat_map f (take index vertices)) first next mid next' → IsMarked level found mid next' last next''
-    → IsMarked level (flat_map f (take (index + 1) vertices)) first next last next''
-IsMarked-next f level vertices index found first next mid next' last next'' below is one other =
+    → IsMarked distance (flat_map f (take index vertices)) first next mid next' → IsMarked distance found mid next' last next''
+    → IsMarked distance (flat_map f (take (index + 1) vertices)) first next last next''
+IsMarked-next f distance vertices index found first next mid next' last next'' below is one other =
     let grown : flat_map f (take (index + 1) vertices) ≡ flat_map f (take index vertices) ++ found =
     ap (flat_map f) (take_more vertices index 0 below)
     ∙ flat_map-append f (take index vertices) (get_or vertices index 0 ∷ [])
     ∙ ap (λ (found : List ℕ). flat_map f (take index vertices) ++ found)
     (flat_map-cons f (get_or vertices index 0) [] ∙ append-nil (f (get_or vertices index 0)) ∙ is) in
-    rw grown (IsMarked-append level (flat_map f (take index vertices)) found first next mid next' last next'' one other)
+    rw grown (IsMarked-append distance (flat_map f (take index vertices)) found first next mid next' last next'' one other)

@@ -1,4 +1,4 @@
--- The way down from the least vertex of the least level is the least obstacle.
+-- The way down from the least vertex of the least distance is the least obstacle.
 use Rattle.std.proofs.Common.{◌≡◌, ℕ, zero, suc, ◌+◌, ◌≤◌, Bool, true, false, not, ◌&&◌, ◌||◌, List, [], ◌∷◌, Option, None, Some, length, map, get_or, refl, ap, sym, ◌∙◌, subst, inl, inr, Any, arith, IsFalse, nat_eq, is_none}
 use Rattle.std.specs.Bool.{IsTrue}
 use Rattle.std.specs.List.{slice_get, slice_index_or}
@@ -14,13 +14,13 @@ use Rattle.std.proofs.lemmas.Option.{get_or_from_slice_get, slice_get-get_or, sl
 use Rattle.std.specs.declared.vec.Vec.{Vec}
 use Rattle.std.specs.declared.alloc.Global.{Global}
 use Rattle.hs_cut.specs.Arcs.{IsGraph, goal, start}
-use Rattle.hs_cut.specs.Descents.{Descends, IsAt, IsLeastAt, IsLeastLevel, uncut_gate}
-use Rattle.hs_cut.specs.LevelLaws.{further}
-use Rattle.hs_cut.specs.Levels.{AreLevels, IsWithinLevel, level_at, next_to, opens, shut}
+use Rattle.hs_cut.specs.Descents.{Descends, IsAt, IsLeastAt, IsLeastDistance, uncut_gate}
+use Rattle.hs_cut.specs.DistanceLaws.{further}
+use Rattle.hs_cut.specs.Distances.{AreDistances, IsWithinDistance, distance_at, next_to, opens, shut}
 use Rattle.hs_cut.specs.Networks.{IsCut}
 use Rattle.hs_cut.specs.Walks.{IsLeastObstacle, IsObstacle, IsWayOut, is_joined, joins}
 use Rattle.hs_cut.specs.declared.graph.Arc.{Arc}
-use Rattle.hs_cut.specs.declared.levels.Gate.{Gate}
+use Rattle.hs_cut.specs.declared.distances.Gate.{Gate}
 use Rattle.hs_cut.specs.declared.network.CutEdge.{CutEdge}
 use Rattle.hs_cut.specs.declared.network.Network.{Network}
 use Rattle.hs_cut.proofs.Among.{All-among}
@@ -129,88 +129,88 @@ edge-step edges index edge found slotless =
       opened = ap (λ (gate : Gate). opens gate true) (uncut_at edges index edge found) ∙ ap not slotless;
     }
 
--- two ends that both have a level, or neither
-alike : (one other : Option ℕ) → ((level : ℕ) → one ≡ Some level → IsWithinLevel (suc level) other)
-    → ((level : ℕ) → other ≡ Some level → IsWithinLevel (suc level) one)
+-- two ends that both have a distance, or neither
+alike : (one other : Option ℕ) → ((distance : ℕ) → one ≡ Some distance → IsWithinDistance (suc distance) other)
+    → ((distance : ℕ) → other ≡ Some distance → IsWithinDistance (suc distance) one)
     → xor (is_none one) (is_none other) ≡ false
 unfolding xor
 alike None None there back = refl
-alike None (Some level) there back = absurd (back level refl)
-alike (Some level) None there back = absurd (there level refl)
-alike (Some level) (Some own) there back = refl
+alike None (Some distance) there back = absurd (back distance refl)
+alike (Some distance) None there back = absurd (there distance refl)
+alike (Some distance) (Some own) there back = refl
 
--- if nothing that must be inside has a level, the vertices without one are a cut
-pub IsCut-unreached : (network : Network) (rows : List (Vec Arc Global)) (levels : List (Option ℕ)) → IsGraph network.edges rows
-    → AreLevels (map uncut_gate network.edges) rows network.outside levels
-    → IsLeastLevel levels network.inside None → IsCut network (λ vertex. is_none (level_at levels vertex))
-IsCut-unreached network rows levels graph all none = record {
+-- if nothing that must be inside has a distance, the vertices without one are a cut
+pub IsCut-unreached : (network : Network) (rows : List (Vec Arc Global)) (distances : List (Option ℕ)) → IsGraph network.edges rows
+    → AreDistances (map uncut_gate network.edges) rows network.outside distances
+    → IsLeastDistance distances network.inside None → IsCut network (λ vertex. is_none (distance_at distances vertex))
+IsCut-unreached network rows distances graph all none = record {
   inside =
-      All-among (λ vertex. IsTrue (is_none (level_at levels vertex))) network.inside
-      (λ vertex is. blank (level_at levels vertex) (λ level at. none vertex level (is, at)));
-  outside = All-among (λ vertex. IsFalse (is_none (level_at levels vertex))) network.outside (λ vertex is. ap is_none (all.first vertex is));
+      All-among (λ vertex. IsTrue (is_none (distance_at distances vertex))) network.inside
+      (λ vertex is. blank (distance_at distances vertex) (λ distance at. none vertex distance (is, at)));
+  outside = All-among (λ vertex. IsFalse (is_none (distance_at distances vertex))) network.outside (λ vertex is. ap is_none (all.first vertex is));
   slotless = λ index default below slotless.
       let edge = get_or network.edges index default in
       let step = edge-step network.edges index edge (slice_get-get_or network.edges index default below) slotless in
-      alike (level_at levels edge.from) (level_at levels edge.to)
-      (λ level at. all.above edge.from edge.to level at (step-complete network.edges (map uncut_gate network.edges) rows edge.from edge.to graph step))
-      (λ level at. all.above edge.to edge.from level at
+      alike (distance_at distances edge.from) (distance_at distances edge.to)
+      (λ distance at. all.above edge.from edge.to distance at (step-complete network.edges (map uncut_gate network.edges) rows edge.from edge.to graph step))
+      (λ distance at. all.above edge.to edge.from distance at
       (step-complete network.edges (map uncut_gate network.edges) rows edge.to edge.from graph
       (step-back network.edges edge.from edge.to step)));
 }
   where
-    blank : (own : Option ℕ) → ((level : ℕ) → own ≡ Some level → ⊥) → is_none own ≡ true
-    blank None no_level = refl
-    blank (Some level) no_level = absurd (no_level level refl)
+    blank : (own : Option ℕ) → ((distance : ℕ) → own ≡ Some distance → ⊥) → is_none own ≡ true
+    blank None no_distance = refl
+    blank (Some distance) no_distance = absurd (no_distance distance refl)
 
--- a step leads down from each vertex above level 0
-pub below-level : (edges : List CutEdge) (rows : List (Vec Arc Global)) (starts : List ℕ) (levels : List (Option ℕ))
-    → IsGraph edges rows → AreLevels (map uncut_gate edges) rows starts levels
-    → (vertex level : ℕ) → level_at levels vertex ≡ Some (level + 1) → (next : ℕ) × IsAt levels level (next_to (map uncut_gate edges) rows vertex) next
-below-level edges rows starts levels graph all vertex level is =
-    let same : level + 1 ≡ suc level = omega arith in
-    let below = all.below vertex level (is ∙ ap (λ n. Some n) same) in
+-- a step leads down from each vertex above distance 0
+pub below-distance : (edges : List CutEdge) (rows : List (Vec Arc Global)) (starts : List ℕ) (distances : List (Option ℕ))
+    → IsGraph edges rows → AreDistances (map uncut_gate edges) rows starts distances
+    → (vertex distance : ℕ) → distance_at distances vertex ≡ Some (distance + 1) → (next : ℕ) × IsAt distances distance (next_to (map uncut_gate edges) rows vertex) next
+below-distance edges rows starts distances graph all vertex distance is =
+    let same : distance + 1 ≡ suc distance = omega arith in
+    let below = all.below vertex distance (is ∙ ap (λ n. Some n) same) in
     let step = step-sound edges (map uncut_gate edges) rows below.0 vertex graph below.2 in
     (below.0, (step-complete edges (map uncut_gate edges) rows vertex below.0 graph (step-back edges below.0 vertex step), below.1))
 
 -- the way down leads out
-descends-way : (network : Network) (rows : List (Vec Arc Global)) (levels : List (Option ℕ)) (level : ℕ) (path : List ℕ)
-    → IsGraph network.edges rows → AreLevels (map uncut_gate network.edges) rows network.outside levels
-    → Descends (map uncut_gate network.edges) rows levels level path → IsWayOut network path
-descends-way network rows levels level [] graph all down = down
-descends-way network rows levels level (last ∷ []) graph all down = all.origin last down.1
-descends-way network rows levels level (vertex ∷ next ∷ path) graph all down = (
+descends-way : (network : Network) (rows : List (Vec Arc Global)) (distances : List (Option ℕ)) (distance : ℕ) (path : List ℕ)
+    → IsGraph network.edges rows → AreDistances (map uncut_gate network.edges) rows network.outside distances
+    → Descends (map uncut_gate network.edges) rows distances distance path → IsWayOut network path
+descends-way network rows distances distance [] graph all down = down
+descends-way network rows distances distance (last ∷ []) graph all down = all.origin last down.1
+descends-way network rows distances distance (vertex ∷ next ∷ path) graph all down = (
   step-joined network.edges vertex next (step-sound network.edges (map uncut_gate network.edges) rows vertex next graph down.2.0.0),
-  descends-way network rows levels down.0 (next ∷ path) graph all down.3,
+  descends-way network rows distances down.0 (next ∷ path) graph all down.3,
 )
 
--- it has a vertex for each level
-descends-length : (gates : List Gate) (rows : List (Vec Arc Global)) (levels : List (Option ℕ)) (level : ℕ) (path : List ℕ)
-    → Descends gates rows levels level path → length path ≡ suc level
-descends-length gates rows levels level [] down = absurd down
-descends-length gates rows levels level (last ∷ []) down = let zero_is : level ≡ 0 = down.0 in omega arith
-descends-length gates rows levels level (vertex ∷ next ∷ path) down =
-    let rest : length (next ∷ path) ≡ suc down.0 = descends-length gates rows levels down.0 (next ∷ path) down.3 in
-    let same : level ≡ suc down.0 = down.1 in
+-- it has a vertex for each distance
+descends-length : (gates : List Gate) (rows : List (Vec Arc Global)) (distances : List (Option ℕ)) (distance : ℕ) (path : List ℕ)
+    → Descends gates rows distances distance path → length path ≡ suc distance
+descends-length gates rows distances distance [] down = absurd down
+descends-length gates rows distances distance (last ∷ []) down = let zero_is : distance ≡ 0 = down.0 in omega arith
+descends-length gates rows distances distance (vertex ∷ next ∷ path) down =
+    let rest : length (next ∷ path) ≡ suc down.0 = descends-length gates rows distances down.0 (next ∷ path) down.3 in
+    let same : distance ≡ suc down.0 = down.1 in
     omega arith
 
--- a level that is within
-more-within : (own : Option ℕ) (level it : ℕ) → own ≡ Some it → it ≤ level → IsWithinLevel level own
-more-within own level it is below = rw is below
+-- a distance that is within
+more-within : (own : Option ℕ) (distance it : ℕ) → own ≡ Some it → it ≤ distance → IsWithinDistance distance own
+more-within own distance it is below = rw is below
 
--- a way out is no shorter than the level
-way-within : (network : Network) (rows : List (Vec Arc Global)) (levels : List (Option ℕ)) (vertex : ℕ) (rest : List ℕ)
-    → IsGraph network.edges rows → AreLevels (map uncut_gate network.edges) rows network.outside levels
-    → IsWayOut network (vertex ∷ rest) → IsWithinLevel (length rest) (level_at levels vertex)
-way-within network rows levels vertex [] graph all way = more-within (level_at levels vertex) 0 0 (all.first vertex way) (omega arith)
-way-within network rows levels vertex (next ∷ rest) graph all way =
-    let later = further (level_at levels next) (length rest) (way-within network rows levels next rest graph all way.1) in
+-- a way out is no shorter than the distance
+way-within : (network : Network) (rows : List (Vec Arc Global)) (distances : List (Option ℕ)) (vertex : ℕ) (rest : List ℕ)
+    → IsGraph network.edges rows → AreDistances (map uncut_gate network.edges) rows network.outside distances
+    → IsWayOut network (vertex ∷ rest) → IsWithinDistance (length rest) (distance_at distances vertex)
+way-within network rows distances vertex [] graph all way = more-within (distance_at distances vertex) 0 0 (all.first vertex way) (omega arith)
+way-within network rows distances vertex (next ∷ rest) graph all way =
+    let later = further (distance_at distances next) (length rest) (way-within network rows distances next rest graph all way.1) in
     let step = step-back network.edges vertex next (joined-step network.edges vertex next way.0) in
     let up =
-    further (level_at levels vertex) (suc later.0)
+    further (distance_at distances vertex) (suc later.0)
     (all.above next vertex later.0 later.1 (step-complete network.edges (map uncut_gate network.edges) rows next vertex graph step)) in
     let low : later.0 ≤ length rest = later.2 in
     let high : up.0 ≤ suc later.0 = up.2 in
-    more-within (level_at levels vertex) (suc (length rest)) up.0 up.1 (omega arith)
+    more-within (distance_at distances vertex) (suc (length rest)) up.0 up.1 (omega arith)
 
 -- the first of two words that differ is less
 is_le-cons : (one other : ℕ) (path rest : List ℕ) → one ≤ other → (one ≡ other → is_le (slice_cmp nat_cmp path rest) ≡ true)
@@ -224,49 +224,49 @@ is_le-cons one other path rest below same = elim (cases_order one other) [
 ]
 
 -- the way down is the least
-descends-least : (network : Network) (rows : List (Vec Arc Global)) (levels : List (Option ℕ)) (level vertex : ℕ) (path other : List ℕ)
-    → IsGraph network.edges rows → AreLevels (map uncut_gate network.edges) rows network.outside levels
-    → level_at levels vertex ≡ Some level → Descends (map uncut_gate network.edges) rows levels level (vertex ∷ path)
-    → IsWayOut network (vertex ∷ other) → length other ≡ level
+descends-least : (network : Network) (rows : List (Vec Arc Global)) (distances : List (Option ℕ)) (distance vertex : ℕ) (path other : List ℕ)
+    → IsGraph network.edges rows → AreDistances (map uncut_gate network.edges) rows network.outside distances
+    → distance_at distances vertex ≡ Some distance → Descends (map uncut_gate network.edges) rows distances distance (vertex ∷ path)
+    → IsWayOut network (vertex ∷ other) → length other ≡ distance
     → is_le (slice_cmp nat_cmp path other) ≡ true
-descends-least network rows levels level vertex [] [] graph all at down way long = refl
-descends-least network rows levels level vertex [] (next ∷ other) graph all at down way long = absurd (let zero_is : level ≡ 0 = down.0 in omega arith)
-descends-least network rows levels level vertex (next ∷ path) [] graph all at down way long = absurd (let same : level ≡ suc down.0 = down.1 in omega arith)
-descends-least network rows levels level vertex (next ∷ path) (found ∷ other) graph all at down way long =
-    let same : level ≡ suc down.0 = down.1 in
-    let later = further (level_at levels found) (length other) (way-within network rows levels found other graph all way.1) in
+descends-least network rows distances distance vertex [] [] graph all at down way long = refl
+descends-least network rows distances distance vertex [] (next ∷ other) graph all at down way long = absurd (let zero_is : distance ≡ 0 = down.0 in omega arith)
+descends-least network rows distances distance vertex (next ∷ path) [] graph all at down way long = absurd (let same : distance ≡ suc down.0 = down.1 in omega arith)
+descends-least network rows distances distance vertex (next ∷ path) (found ∷ other) graph all at down way long =
+    let same : distance ≡ suc down.0 = down.1 in
+    let later = further (distance_at distances found) (length other) (way-within network rows distances found other graph all way.1) in
     let step = joined-step network.edges vertex found way.0 in
     let up =
     all.above found vertex later.0 later.1
     (step-complete network.edges (map uncut_gate network.edges) rows found vertex graph (step-back network.edges vertex found step)) in
-    let high : level ≤ suc later.0 = rw at at up in
+    let high : distance ≤ suc later.0 = rw at at up in
     let low : later.0 ≤ length other = later.2 in
     let equal : later.0 ≡ down.0 = omega arith in
-    let found_at : level_at levels found ≡ Some down.0 = later.1 ∙ ap (λ n. Some n) equal in
+    let found_at : distance_at distances found ≡ Some down.0 = later.1 ∙ ap (λ n. Some n) equal in
     let least = down.2.1 found (step-complete network.edges (map uncut_gate network.edges) rows vertex found graph step, found_at) in
     is_le-cons next found path other least (λ is.
     let way_ = subst (λ n. IsWayOut network (n ∷ other)) (sym is) way.1 in
-    descends-least network rows levels down.0 next path other graph all down.2.0.1 down.3 way_ (omega arith))
+    descends-least network rows distances down.0 next path other graph all down.2.0.1 down.3 way_ (omega arith))
 
--- from the least vertex of the least level it is the least obstacle
-pub IsLeastObstacle-descent : (network : Network) (rows : List (Vec Arc Global)) (levels : List (Option ℕ)) (level first : ℕ)
-    (rest : List ℕ) → IsGraph network.edges rows → AreLevels (map uncut_gate network.edges) rows network.outside levels
-    → IsLeastLevel levels network.inside (Some level) → IsLeastAt levels level network.inside (Some first)
-    → Descends (map uncut_gate network.edges) rows levels level (first ∷ rest)
+-- from the least vertex of the least distance it is the least obstacle
+pub IsLeastObstacle-descent : (network : Network) (rows : List (Vec Arc Global)) (distances : List (Option ℕ)) (distance first : ℕ)
+    (rest : List ℕ) → IsGraph network.edges rows → AreDistances (map uncut_gate network.edges) rows network.outside distances
+    → IsLeastDistance distances network.inside (Some distance) → IsLeastAt distances distance network.inside (Some first)
+    → Descends (map uncut_gate network.edges) rows distances distance (first ∷ rest)
     → IsLeastObstacle network (first ∷ rest)
-IsLeastObstacle-descent network rows levels level first rest graph all low least down = record {
-  obstacle = record { begins = least.0.0; way = descends-way network rows levels level (first ∷ rest) graph all down };
+IsLeastObstacle-descent network rows distances distance first rest graph all low least down = record {
+  obstacle = record { begins = least.0.0; way = descends-way network rows distances distance (first ∷ rest) graph all down };
   shortest = λ other obstacle. shortest other obstacle;
   least = λ other obstacle long. smallest other obstacle long;
 }
   where
-    long : length (first ∷ rest) ≡ suc level
-    long = descends-length (map uncut_gate network.edges) rows levels level (first ∷ rest) down
+    long : length (first ∷ rest) ≡ suc distance
+    long = descends-length (map uncut_gate network.edges) rows distances distance (first ∷ rest) down
 
     shortest : (other : List ℕ) → IsObstacle network other → length (first ∷ rest) ≤ length other
     shortest [] obstacle = absurd obstacle.way
     shortest (vertex ∷ other) obstacle =
-        let own = further (level_at levels vertex) (length other) (way-within network rows levels vertex other graph all obstacle.way) in
+        let own = further (distance_at distances vertex) (length other) (way-within network rows distances vertex other graph all obstacle.way) in
         let lower = low.1 vertex own.0 (obstacle.begins, own.1) in
         let high : own.0 ≤ length other = own.2 in
         let longer = long in
@@ -275,12 +275,12 @@ IsLeastObstacle-descent network rows levels level first rest graph all low least
     smallest : (other : List ℕ) → IsObstacle network other → length other ≡ length (first ∷ rest) → is_le (slice_cmp nat_cmp (first ∷ rest) other) ≡ true
     smallest [] obstacle same = absurd obstacle.way
     smallest (vertex ∷ other) obstacle same =
-        let own = further (level_at levels vertex) (length other) (way-within network rows levels vertex other graph all obstacle.way) in
+        let own = further (distance_at distances vertex) (length other) (way-within network rows distances vertex other graph all obstacle.way) in
         let lower = low.1 vertex own.0 (obstacle.begins, own.1) in
         let high : own.0 ≤ length other = own.2 in
         let longer = long in
-        let equal : own.0 ≡ level = omega arith in
-        let at : level_at levels vertex ≡ Some level = own.1 ∙ ap (λ n. Some n) equal in
+        let equal : own.0 ≡ distance = omega arith in
+        let at : distance_at distances vertex ≡ Some distance = own.1 ∙ ap (λ n. Some n) equal in
         is_le-cons first vertex rest other (least.1 vertex (obstacle.begins, at)) (λ is.
         let way = subst (λ n. IsWayOut network (n ∷ other)) (sym is) obstacle.way in
-        descends-least network rows levels level first rest other graph all least.0.1 down way (omega arith))
+        descends-least network rows distances distance first rest other graph all least.0.1 down way (omega arith))

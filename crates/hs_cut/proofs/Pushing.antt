@@ -12,37 +12,37 @@ use Rattle.std.proofs.lemmas.List.{get_or-set_other, get_or-set_same}
 use Rattle.std.proofs.lemmas.Option.{slice_get_within, get_or_from_slice_get}
 use Rattle.hs_cut.specs.Arcs.{IsArc, start, goal}
 use Rattle.hs_cut.specs.Flows.{net_out, out_over}
-use Rattle.hs_cut.specs.Levels.{level_at, opens, shut}
+use Rattle.hs_cut.specs.Distances.{distance_at, opens, shut}
 use Rattle.hs_cut.specs.NetOut.{net_out-slice_set}
 use Rattle.hs_cut.specs.Networks.{Side}
 use Rattle.hs_cut.specs.Pushes.{IsSized, LeadsDown, amount_at, count, edge_at, no_edge, residual, residuals, with_unit}
 use Rattle.hs_cut.specs.declared.graph.Arc.{Arc}
-use Rattle.hs_cut.specs.declared.levels.Gate.{Gate}
+use Rattle.hs_cut.specs.declared.distances.Gate.{Gate}
 use Rattle.hs_cut.specs.declared.network.CutEdge.{CutEdge}
 use Rattle.std.proofs.Common.{Contains, get_or}
 use Rattle.std.specs.declared.vec.Vec.{Vec}
 use Rattle.std.specs.declared.alloc.Global.{Global}
 use Rattle.hs_cut.specs.Arcs.{IsGraph, arcs_from}
 use Rattle.hs_cut.proofs.Rows.{arcs_from-row}
-use Rattle.hs_cut.proofs.Search.{level-within}
+use Rattle.hs_cut.proofs.Search.{distance-within}
 use Rattle.hs_cut.proofs.Steps.{arc-sound, start-back, goal-back}
 
--- an end of the edge has a level above
+-- an end of the edge has a distance above
 abbrev pub IsAbove : List (Option ℕ) → ℕ → CutEdge → Type 0
-IsAbove levels level edge = (own : ℕ) × (level < own) × ((level_at levels edge.from ≡ Some own) ⊎ (level_at levels edge.to ≡ Some own))
+IsAbove distances distance edge = (own : ℕ) × (distance < own) × ((distance_at distances edge.from ≡ Some own) ⊎ (distance_at distances edge.to ≡ Some own))
 
 -- the amount grew by one at most, and is one at most over a slot
 pub record IsGrown (edge : CutEdge) (before after : ℤ) : Type 0 where
   pub size : nat_abs after ≤ nat_abs before + 1
   pub slot : IsTrue edge.slot → nat_abs after ≤ 1
 
--- One unit more flows from the vertex to the end, over edges above its level.
-pub record IsUnderway (edges : List CutEdge) (levels : List (Option ℕ)) (end vertex level : ℕ) (before after : List ℤ) : Type 0 where
-  pub at : level_at levels vertex ≡ Some level
+-- One unit more flows from the vertex to the end, over edges above its distance.
+pub record IsUnderway (edges : List CutEdge) (distances : List (Option ℕ)) (end vertex distance : ℕ) (before after : List ℤ) : Type 0 where
+  pub at : distance_at distances vertex ≡ Some distance
   pub long : length after ≡ length before
   pub each : (index : ℕ) → index < length edges
       → (amount_at after index ≡ amount_at before index)
-      ⊎ (IsAbove levels level (edge_at edges index) × IsGrown (edge_at edges index) (amount_at before index) (amount_at after index))
+      ⊎ (IsAbove distances distance (edge_at edges index) × IsGrown (edge_at edges index) (amount_at before index) (amount_at after index))
   pub net : (side : Side) → net_out side edges after +ℤ count (side end) ≡ net_out side edges before +ℤ count (side vertex)
 
 -- the ways over an edge by which more may flow
@@ -60,38 +60,38 @@ residuals-length [] flow long = refl
 residuals-length (edge ∷ edges) [] long = absurd (omega arith)
 residuals-length (edge ∷ edges) (amount ∷ flow) long = let rest = residuals-length edges flow (omega arith) in omega arith
 
--- the ends of the edge of a step down have the two levels
-ends-within : (levels : List (Option ℕ)) (edge : CutEdge) (along : Bool) (vertex to level own : ℕ) → start edge along ≡ vertex → goal edge along ≡ to
-    → level_at levels vertex ≡ Some (suc level) → level_at levels to ≡ Some level
-    → (level_at levels edge.from ≡ Some own) ⊎ (level_at levels edge.to ≡ Some own) → own ≤ suc level
-ends-within levels edge true vertex to level own begins ends high low is = elim is [
-  | inl from ↦ let same : own ≡ suc level = some-same (sym from ∙ ap (level_at levels) begins ∙ high) in omega arith
-  | inr to_ ↦ let same : own ≡ level = some-same (sym to_ ∙ ap (level_at levels) ends ∙ low) in omega arith
+-- the ends of the edge of a step down have the two distances
+ends-within : (distances : List (Option ℕ)) (edge : CutEdge) (along : Bool) (vertex to distance own : ℕ) → start edge along ≡ vertex → goal edge along ≡ to
+    → distance_at distances vertex ≡ Some (suc distance) → distance_at distances to ≡ Some distance
+    → (distance_at distances edge.from ≡ Some own) ⊎ (distance_at distances edge.to ≡ Some own) → own ≤ suc distance
+ends-within distances edge true vertex to distance own begins ends high low is = elim is [
+  | inl from ↦ let same : own ≡ suc distance = some-same (sym from ∙ ap (distance_at distances) begins ∙ high) in omega arith
+  | inr to_ ↦ let same : own ≡ distance = some-same (sym to_ ∙ ap (distance_at distances) ends ∙ low) in omega arith
 ]
   where
     some-same : {a b : ℕ} → Some a ≡ Some b → a ≡ b
     some-same is = cc
-ends-within levels edge false vertex to level own begins ends high low is = elim is [
-  | inl from ↦ let same : own ≡ level = some-same (sym from ∙ ap (level_at levels) ends ∙ low) in omega arith
-  | inr to_ ↦ let same : own ≡ suc level = some-same (sym to_ ∙ ap (level_at levels) begins ∙ high) in omega arith
+ends-within distances edge false vertex to distance own begins ends high low is = elim is [
+  | inl from ↦ let same : own ≡ distance = some-same (sym from ∙ ap (distance_at distances) ends ∙ low) in omega arith
+  | inr to_ ↦ let same : own ≡ suc distance = some-same (sym to_ ∙ ap (distance_at distances) begins ∙ high) in omega arith
 ]
   where
     some-same : {a b : ℕ} → Some a ≡ Some b → a ≡ b
     some-same is = cc
 
 -- the edge of a step down was not gone over yet
-pub untouched : (edges : List CutEdge) (levels : List (Option ℕ)) (end vertex level : ℕ) (before after : List ℤ) (arc : Arc)
-    → IsUnderway edges levels end vertex (suc level) before after → IsArc edges vertex arc → level_at levels arc.to ≡ Some level
+pub untouched : (edges : List CutEdge) (distances : List (Option ℕ)) (end vertex distance : ℕ) (before after : List ℤ) (arc : Arc)
+    → IsUnderway edges distances end vertex (suc distance) before after → IsArc edges vertex arc → distance_at distances arc.to ≡ Some distance
     → amount_at after arc.edge ≡ amount_at before arc.edge
-untouched edges levels end vertex level before after arc under way low =
+untouched edges distances end vertex distance before after arc under way low =
     let edge = way.0 in
     let is : edge_at edges arc.edge ≡ edge = get_or_from_slice_get edges arc.edge edge no_edge way.1 in
     elim (under.each arc.edge (slice_get_within edges arc.edge edge way.1)) [
       | inl same ↦ same
       | inr above ↦ absurd (
-          let high : IsAbove levels (suc level) edge = rw is at above.0 in
-          let within = ends-within levels edge arc.along vertex arc.to level high.0 way.2 way.3 under.at low high.2 in
-          let more_ : suc level < high.0 = high.1 in
+          let high : IsAbove distances (suc distance) edge = rw is at above.0 in
+          let within = ends-within distances edge arc.along vertex arc.to distance high.0 way.2 way.3 under.at low high.2 in
+          let more_ : suc distance < high.0 = high.1 in
           omega arith)
     ]
 
@@ -133,11 +133,11 @@ unit-out side edge amount true = out_along (side edge.from) (side edge.to) amoun
 unit-out side edge amount false = out_against (side edge.from) (side edge.to) amount
 
 -- one step down: the unit comes from the arc's end
-pub IsUnderway-step : (edges : List CutEdge) (gates : List Gate) (levels : List (Option ℕ)) (end vertex level : ℕ) (before after : List ℤ) (arc : Arc)
+pub IsUnderway-step : (edges : List CutEdge) (gates : List Gate) (distances : List (Option ℕ)) (end vertex distance : ℕ) (before after : List ℤ) (arc : Arc)
     → gates ≡ residuals edges before → length before ≡ length edges → IsSized edges before
-    → IsUnderway edges levels end vertex (suc level) before after → IsArc edges vertex arc → LeadsDown gates levels level arc
-    → IsUnderway edges levels end arc.to level before (slice_set after arc.edge (with_unit (amount_at after arc.edge) (not arc.along)))
-IsUnderway-step edges gates levels end vertex level before after arc gates_are long sized under way leads = record {
+    → IsUnderway edges distances end vertex (suc distance) before after → IsArc edges vertex arc → LeadsDown gates distances distance arc
+    → IsUnderway edges distances end arc.to distance before (slice_set after arc.edge (with_unit (amount_at after arc.edge) (not arc.along)))
+IsUnderway-step edges gates distances end vertex distance before after arc gates_are long sized under way leads = record {
   at = leads.0;
   long = length-set {A = ℤ} after arc.edge (with_unit (amount_at after arc.edge) (not arc.along)) ∙ under.long;
   each = λ index below. elim (eqb_tells index arc.edge) [
@@ -148,7 +148,7 @@ IsUnderway-step edges gates levels end vertex level before after arc gates_are l
         get_or-set_other after arc.edge index (with_unit (amount_at after arc.edge) (not arc.along)) (pos 0) apart.1 in
         elim (under.each index below) [
           | inl old ↦ inl (same ∙ old)
-          | inr up ↦ inr ((up.0.0, (let high : suc level < up.0.0 = up.0.1 in omega arith), up.0.2), rw same up.1)
+          | inr up ↦ inr ((up.0.0, (let high : suc distance < up.0.0 = up.0.1 in omega arith), up.0.2), rw same up.1)
         ]
   ];
   net = λ side.
@@ -177,7 +177,7 @@ IsUnderway-step edges gates levels end vertex level before after arc gates_are l
     inside = let a = under.long in let b = within in omega arith
 
     old : amount_at after arc.edge ≡ amount_at before arc.edge
-    old = untouched edges levels end vertex level before after arc under way leads.0
+    old = untouched edges distances end vertex distance before after arc under way leads.0
 
     new : amount_at (slice_set after arc.edge (with_unit (amount_at after arc.edge) (not arc.along))) arc.edge
         ≡ with_unit (amount_at before arc.edge) (not arc.along)
@@ -193,13 +193,13 @@ IsUnderway-step edges gates levels end vertex level before after arc gates_are l
         ∙ ap (λ (gates : List Gate). slice_index_or gates arc.edge shut) (sym gates_are))
         ∙ leads.1
 
-    above : IsAbove levels level (edge_at edges arc.edge)
-    above = rw is (suc level, omega arith, ends way.0 arc.along way.2)
+    above : IsAbove distances distance (edge_at edges arc.edge)
+    above = rw is (suc distance, omega arith, ends way.0 arc.along way.2)
       where
         ends : (edge : CutEdge) (along : Bool) → start edge along ≡ vertex
-            → (level_at levels edge.from ≡ Some (suc level)) ⊎ (level_at levels edge.to ≡ Some (suc level))
-        ends edge true begins = inl (ap (level_at levels) begins ∙ under.at)
-        ends edge false begins = inr (ap (level_at levels) begins ∙ under.at)
+            → (distance_at distances edge.from ≡ Some (suc distance)) ⊎ (distance_at distances edge.to ≡ Some (suc distance))
+        ends edge true begins = inl (ap (distance_at distances) begins ∙ under.at)
+        ends edge false begins = inr (ap (distance_at distances) begins ∙ under.at)
 
     grown : IsGrown (edge_at edges arc.edge) (amount_at before arc.edge)
         (amount_at (slice_set after arc.edge (with_unit (amount_at after arc.edge) (not arc.along))) arc.edge)
@@ -220,11 +220,11 @@ pub to_z-small : (amount : ℤ) → nat_abs amount ≤ 2147483648 → to_z w64 (
 to_z-small amount small = let fits : SFits w64 amount = grind (arith, ints) in to_z-of_z w64 amount fits
 
 -- before the unit comes to an edge, what flows over it is small
-pub untouched-small : (edges : List CutEdge) (levels : List (Option ℕ)) (end vertex level : ℕ) (before after : List ℤ) (arc : Arc) → IsSized edges before
-    → IsUnderway edges levels end vertex (suc level) before after → IsArc edges vertex arc → level_at levels arc.to ≡ Some level
+pub untouched-small : (edges : List CutEdge) (distances : List (Option ℕ)) (end vertex distance : ℕ) (before after : List ℤ) (arc : Arc) → IsSized edges before
+    → IsUnderway edges distances end vertex (suc distance) before after → IsArc edges vertex arc → distance_at distances arc.to ≡ Some distance
     → nat_abs (amount_at after arc.edge) ≤ 2147483647
-untouched-small edges levels end vertex level before after arc sized under way low =
-    rw (untouched edges levels end vertex level before after arc under way low)
+untouched-small edges distances end vertex distance before after arc sized under way low =
+    rw (untouched edges distances end vertex distance before after arc under way low)
     (bounded (edge_at edges arc.edge).slot (nat_abs (amount_at before arc.edge)) (sized arc.edge (slice_get_within edges arc.edge way.0 way.1)))
   where
     bounded : (slot : Bool) (size : ℕ) → size ≤ cond slot 1 2147483647 → size ≤ 2147483647
@@ -232,13 +232,13 @@ untouched-small edges levels end vertex level before after arc sized under way l
     bounded false size is = is
 
 -- an arc that is read from the vertex's row goes over an edge, out of the vertex
-pub IsArc-read : (edges : List CutEdge) (rows : List (Vec Arc Global)) (levels : List (Option ℕ)) (vertex level : ℕ)
+pub IsArc-read : (edges : List CutEdge) (rows : List (Vec Arc Global)) (distances : List (Option ℕ)) (vertex distance : ℕ)
     (row : Vec Arc Global) (arcs : List Arc) (arc : Arc)
-    → IsGraph edges rows → length levels ≡ length rows → level_at levels vertex ≡ Some level → row ≡ get_or rows vertex row
+    → IsGraph edges rows → length distances ≡ length rows → distance_at distances vertex ≡ Some distance → row ≡ get_or rows vertex row
     → arcs ≡ row.items → Contains arcs arc
     → IsArc edges vertex arc
-IsArc-read edges rows levels vertex level row arcs arc graph long at is same has =
-    let within = level-within levels vertex level at in
+IsArc-read edges rows distances vertex distance row arcs arc graph long at is same has =
+    let within = distance-within distances vertex distance at in
     let known : vertex < length rows = omega arith in
     let there : Contains (arcs_from rows vertex) arc = rw (arcs_from-row rows vertex row known is ∙ sym same) has in
     arc-sound edges rows vertex arc graph there

@@ -6,7 +6,7 @@ use Rattle.std.proofs.Math.ListN.{length-set}
 use Rattle.std.proofs.lemmas.Bool.Decides.{eqb_tells}
 use Rattle.std.proofs.lemmas.List.{get_or-set_same, take_more, length-take}
 use Rattle.std.proofs.lemmas.Option.{slice_get-get_or}
-use Rattle.hs_cut.specs.Levels.{AreInside, IsInside}
+use Rattle.hs_cut.specs.Distances.{AreInside, IsInside}
 use Rattle.std.specs.declared.vec.Vec.{Vec}
 use Rattle.std.specs.declared.alloc.Global.{Global}
 use Rattle.hs_cut.specs.Arcs.{arcs_from, arcs_at, own_arcs, row_items}

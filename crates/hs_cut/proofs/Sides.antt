@@ -14,7 +14,7 @@ use Rattle.hs_cut.specs.Arcs.{IsGraph, goal, start}
 use Rattle.hs_cut.specs.CutFlows.{cut_carries_in, cut_carries_out, net_out-cut}
 use Rattle.hs_cut.specs.Duality.{least}
 use Rattle.hs_cut.specs.Flows.{AreOfSize, Fits, most, net_out, out_over}
-use Rattle.hs_cut.specs.Levels.{IsWithinLevel, level_at, opens}
+use Rattle.hs_cut.specs.Distances.{IsWithinDistance, distance_at, opens}
 use Rattle.hs_cut.specs.NetOut.{crossings-cons}
 use Rattle.hs_cut.specs.WalkLaws.{alike as one_side}
 use Rattle.hs_cut.specs.Networks.{IsChosen, IsCut, IsLeast, IsNumbered, Side, among, crosses, crossings}
@@ -41,24 +41,24 @@ residual-step edges flow index edge along long found opened = record {
   opened = ap (λ gate. opens gate along) (residual_at edges flow index edge found long) ∙ opened;
 }
 
--- a level is there
-some-level : (own : Option ℕ) → is_some own ≡ true → (level : ℕ) × (own ≡ Some level)
-some-level None is = absurd cc
-some-level (Some level) is = (level, refl)
+-- a distance is there
+some-distance : (own : Option ℕ) → is_some own ≡ true → (distance : ℕ) × (own ≡ Some distance)
+some-distance None is = absurd cc
+some-distance (Some distance) is = (distance, refl)
 
-within-some : (level : ℕ) (own : Option ℕ) → IsWithinLevel level own → is_some own ≡ true
-within-some level None is = absurd is
-within-some level (Some own) is = refl
+within-some : (distance : ℕ) (own : Option ℕ) → IsWithinDistance distance own → is_some own ≡ true
+within-some distance None is = absurd is
+within-some distance (Some own) is = refl
 
 -- a step leads from what was reached to what was reached
-pub reached-step : (network : Network) (rows : List (Vec Arc Global)) (flow : List ℤ) (levels : List (Option ℕ)) (side : Side)
-    → IsGraph network.edges rows → IsFull network rows flow levels
-    → ((vertex : ℕ) → side vertex ≡ is_some (level_at levels vertex)) → (from to : ℕ)
+pub reached-step : (network : Network) (rows : List (Vec Arc Global)) (flow : List ℤ) (distances : List (Option ℕ)) (side : Side)
+    → IsGraph network.edges rows → IsFull network rows flow distances
+    → ((vertex : ℕ) → side vertex ≡ is_some (distance_at distances vertex)) → (from to : ℕ)
     → IsStep network.edges (residuals network.edges flow) from to → side from ≡ true → side to ≡ true
-reached-step network rows flow levels side graph full is from to step there =
-    let own = some-level (level_at levels from) (sym (is from) ∙ there) in
+reached-step network rows flow distances side graph full is from to step there =
+    let own = some-distance (distance_at distances from) (sym (is from) ∙ there) in
     is to
-    ∙ within-some (suc own.0) (level_at levels to)
+    ∙ within-some (suc own.0) (distance_at distances to)
     (full.searched.above from to own.0 own.1 (step-complete network.edges (residuals network.edges flow) rows from to graph step))
 
 -- over an edge that is no slot more may flow, either way
@@ -75,10 +75,10 @@ alike false true there back = absurd (let both : false ≡ true = back refl in c
 alike false false there back = refl
 
 -- what was reached is a cut
-pub IsCut-reached : (network : Network) (rows : List (Vec Arc Global)) (flow : List ℤ) (levels : List (Option ℕ)) (side : Side)
-    → IsGraph network.edges rows → IsFull network rows flow levels
-    → ((vertex : ℕ) → side vertex ≡ is_some (level_at levels vertex)) → IsCut network side
-IsCut-reached network rows flow levels side graph full is = record {
+pub IsCut-reached : (network : Network) (rows : List (Vec Arc Global)) (flow : List ℤ) (distances : List (Option ℕ)) (side : Side)
+    → IsGraph network.edges rows → IsFull network rows flow distances
+    → ((vertex : ℕ) → side vertex ≡ is_some (distance_at distances vertex)) → IsCut network side
+IsCut-reached network rows flow distances side graph full is = record {
   inside = All-among (λ vertex. IsTrue (side vertex)) network.inside (λ vertex there. is vertex ∙ ap is_some (full.searched.first vertex there));
   outside = λ index default below. is (get_or network.outside index default) ∙ ap is_some (full.outside index default below);
   slotless = λ index default below slotless.
@@ -87,8 +87,8 @@ IsCut-reached network rows flow levels side graph full is = record {
       let along = residual-step network.edges flow index edge true full.partial.1.long found (slotless-opens edge (amount_at flow index) true slotless) in
       let against = residual-step network.edges flow index edge false full.partial.1.long found (slotless-opens edge (amount_at flow index) false slotless) in
       alike (side edge.from) (side edge.to)
-      (reached-step network rows flow levels side graph full is edge.from edge.to along)
-      (reached-step network rows flow levels side graph full is edge.to edge.from against);
+      (reached-step network rows flow distances side graph full is edge.from edge.to along)
+      (reached-step network rows flow distances side graph full is edge.to edge.from against);
 }
 
 -- a slot by which no more may flow carries one unit
@@ -160,10 +160,10 @@ AreOfSize-sized network flow long sized index default below =
     ) (sized index within)
 
 -- the flow fits what was reached
-pub Fits-reached : (network : Network) (rows : List (Vec Arc Global)) (flow : List ℤ) (levels : List (Option ℕ)) (side : Side)
+pub Fits-reached : (network : Network) (rows : List (Vec Arc Global)) (flow : List ℤ) (distances : List (Option ℕ)) (side : Side)
     → IsNumbered network → length network.edges < 2147483648 → IsGraph network.edges rows
-    → IsFull network rows flow levels → ((vertex : ℕ) → side vertex ≡ is_some (level_at levels vertex)) → Fits network side flow
-Fits-reached network rows flow levels side numbered countable graph full is = record {
+    → IsFull network rows flow distances → ((vertex : ℕ) → side vertex ≡ is_some (distance_at distances vertex)) → Fits network side flow
+Fits-reached network rows flow distances side numbered countable graph full is = record {
   each = partial.long;
   inside = cut.inside;
   outside = cut.outside;
@@ -177,7 +177,7 @@ Fits-reached network rows flow levels side numbered countable graph full is = re
     partial = full.partial.1
 
     cut : IsCut network side
-    cut = IsCut-reached network rows flow levels side graph full is
+    cut = IsCut-reached network rows flow distances side graph full is
 
     sized : IsSized network.edges flow
     sized = IsSized-partial network full.partial.0 flow partial (let few = units-length network full.partial.0 flow side numbered partial cut in omega arith)
@@ -188,9 +188,9 @@ Fits-reached network rows flow levels side numbered countable graph full is = re
         let edge = edge_at network.edges index in
         let found = slice_get-get_or network.edges index no_edge below in
         edge-full (side edge.from) (side edge.to) edge (amount_at flow index) (sized index below)
-        (λ opened. reached-step network rows flow levels side graph full is edge.from edge.to
+        (λ opened. reached-step network rows flow distances side graph full is edge.from edge.to
         (residual-step network.edges flow index edge true partial.long found opened))
-        (λ opened. reached-step network rows flow levels side graph full is edge.to edge.from
+        (λ opened. reached-step network rows flow distances side graph full is edge.to edge.from
         (residual-step network.edges flow index edge false partial.long found opened))
 
 -- no more may flow over an edge that leaves a least cut
@@ -251,28 +251,28 @@ step-stays network flow side other from to numbered fits least_ step there = spl
         alike_ step.along step.begins step.ends (one_side (other step.edge.from) (other step.edge.to) (apart slotless))
 
 -- what was reached is in each least cut
-pub reached-within : (network : Network) (rows : List (Vec Arc Global)) (flow : List ℤ) (levels : List (Option ℕ)) (side other : Side)
+pub reached-within : (network : Network) (rows : List (Vec Arc Global)) (flow : List ℤ) (distances : List (Option ℕ)) (side other : Side)
     → IsNumbered network → IsGraph network.edges rows
-    → IsFull network rows flow levels → Fits network side flow → IsLeast network other → (level vertex : ℕ)
-    → level_at levels vertex ≡ Some level → other vertex ≡ true
-reached-within network rows flow levels side other numbered graph full fits least_ zero vertex at =
+    → IsFull network rows flow distances → Fits network side flow → IsLeast network other → (distance vertex : ℕ)
+    → distance_at distances vertex ≡ Some distance → other vertex ≡ true
+reached-within network rows flow distances side other numbered graph full fits least_ zero vertex at =
     among-All (λ vertex. IsTrue (other vertex)) network.inside vertex least_.cut.inside (full.searched.origin vertex at)
-reached-within network rows flow levels side other numbered graph full fits least_ (suc level) vertex at =
-    let below = full.searched.below vertex level at in
-    let before = reached-within network rows flow levels side other numbered graph full fits least_ level below.0 below.1 in
+reached-within network rows flow distances side other numbered graph full fits least_ (suc distance) vertex at =
+    let below = full.searched.below vertex distance at in
+    let before = reached-within network rows flow distances side other numbered graph full fits least_ distance below.0 below.1 in
     step-stays network flow side other below.0 vertex numbered fits least_
     (step-sound network.edges (residuals network.edges flow) rows below.0 vertex graph below.2) before
 
 -- so it is the cut that is chosen
-pub IsChosen-reached : (network : Network) (rows : List (Vec Arc Global)) (flow : List ℤ) (levels : List (Option ℕ)) (side : Side)
+pub IsChosen-reached : (network : Network) (rows : List (Vec Arc Global)) (flow : List ℤ) (distances : List (Option ℕ)) (side : Side)
     → IsNumbered network → length network.edges < 2147483648 → IsGraph network.edges rows
-    → IsFull network rows flow levels → ((vertex : ℕ) → side vertex ≡ is_some (level_at levels vertex)) → IsChosen network side
-IsChosen-reached network rows flow levels side numbered countable graph full is = record {
+    → IsFull network rows flow distances → ((vertex : ℕ) → side vertex ≡ is_some (distance_at distances vertex)) → IsChosen network side
+IsChosen-reached network rows flow distances side numbered countable graph full is = record {
   least = least network side flow numbered fits;
   within = λ other least_ vertex there.
-      let own = some-level (level_at levels vertex) (sym (is vertex) ∙ there) in
-      reached-within network rows flow levels side other numbered graph full fits least_ own.0 vertex own.1;
+      let own = some-distance (distance_at distances vertex) (sym (is vertex) ∙ there) in
+      reached-within network rows flow distances side other numbered graph full fits least_ own.0 vertex own.1;
 }
   where
     fits : Fits network side flow
-    fits = Fits-reached network rows flow levels side numbered countable graph full is
+    fits = Fits-reached network rows flow distances side numbered countable graph full is

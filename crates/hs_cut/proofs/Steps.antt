@@ -3,17 +3,17 @@ use Rattle.std.proofs.Common.{◌≡◌, ℕ, zero, suc, ◌+◌, ◌<◌, List,
 use Rattle.std.specs.List.{slice_get, slice_index_or}
 use Rattle.std.proofs.Common.{All}
 use Rattle.std.proofs.lemmas.Option.{slice_get_within, get_or_from_slice_get}
-use Rattle.hs_cut.specs.Levels.{AreInside}
+use Rattle.hs_cut.specs.Distances.{AreInside}
 use Rattle.std.proofs.Math.Bool.{or-true}
 use Rattle.std.proofs.lemmas.Bool.{or_cases, eqb-true, eq-eqb}
 use Rattle.std.proofs.lemmas.List.Elements.{Contains-append_cases, Contains-append_left, Contains-append_right, Contains-get_or}
 use Rattle.std.specs.declared.vec.Vec.{Vec}
 use Rattle.std.specs.declared.alloc.Global.{Global}
 use Rattle.hs_cut.specs.Arcs.{IsArc, IsGraph, start, goal, own_arcs, arcs_at, arcs_from}
-use Rattle.hs_cut.specs.Levels.{is_open, opens, shut, targets, next_to}
+use Rattle.hs_cut.specs.Distances.{is_open, opens, shut, targets, next_to}
 use Rattle.hs_cut.specs.Networks.{among}
 use Rattle.hs_cut.specs.declared.graph.Arc.{Arc}
-use Rattle.hs_cut.specs.declared.levels.Gate.{Gate}
+use Rattle.hs_cut.specs.declared.distances.Gate.{Gate}
 use Rattle.hs_cut.specs.declared.network.CutEdge.{CutEdge}
 
 -- an edge whose gate is open joins the vertices

@@ -1,46 +1,46 @@
--- The way down the levels of a search, to the least vertex each time; and the gates of the edges that may not be crossed.
+-- The way down the distances of a search, to the least vertex each time; and the gates of the edges that may not be crossed.
 --     uncut_gate edge                      open both ways if the edge is no slot
---     IsLeastAt levels level vertices ..   the least of the vertices that has this level, if one has it
---     IsLeastLevel levels vertices ..      the least level of the vertices, if one has a level
---     Descends .. level path               a way from a vertex of this level, each time to the least vertex of the level below
+--     IsLeastAt distances distance vertices ..   the least of the vertices that has this distance, if one has it
+--     IsLeastDistance distances vertices ..      the least distance of the vertices, if one has a distance
+--     Descends .. distance path               a way from a vertex of this distance, each time to the least vertex of the distance below
 use Rattle.std.specs.Prelude.{◌≡◌, ℕ, suc, ◌≤◌, min, not, List, [], ◌∷◌, Option, None, Some, IsTrue}
 use Rattle.std.specs.declared.vec.Vec.{Vec}
 use Rattle.std.specs.declared.alloc.Global.{Global}
-use Rattle.hs_cut.specs.Levels.{is_open, level_at, next_to}
+use Rattle.hs_cut.specs.Distances.{is_open, distance_at, next_to}
 use Rattle.hs_cut.specs.Networks.{among}
 use Rattle.hs_cut.specs.declared.graph.Arc.{Arc}
-use Rattle.hs_cut.specs.declared.levels.Gate.{Gate}
+use Rattle.hs_cut.specs.declared.distances.Gate.{Gate}
 use Rattle.hs_cut.specs.declared.network.CutEdge.{CutEdge}
 
 -- what may not be crossed can be traversed, either way
 abbrev pub uncut_gate : CutEdge → Gate
 uncut_gate edge = record { along = not edge.slot; against = not edge.slot }
 
--- one of the vertices has this level
+-- one of the vertices has this distance
 abbrev pub IsAt : List (Option ℕ) → ℕ → List ℕ → ℕ → Type 0
-IsAt levels level vertices vertex = IsTrue (among vertices vertex) × (level_at levels vertex ≡ Some level)
+IsAt distances distance vertices vertex = IsTrue (among vertices vertex) × (distance_at distances vertex ≡ Some distance)
 
 -- it is the least, or there is none
 abbrev pub IsLeastAt : List (Option ℕ) → ℕ → List ℕ → Option ℕ → Type 0
-IsLeastAt levels level vertices None = (vertex : ℕ) → IsAt levels level vertices vertex → ⊥
-IsLeastAt levels level vertices (Some least) = IsAt levels level vertices least × ((vertex : ℕ) → IsAt levels level vertices vertex → least ≤ vertex)
+IsLeastAt distances distance vertices None = (vertex : ℕ) → IsAt distances distance vertices vertex → ⊥
+IsLeastAt distances distance vertices (Some least) = IsAt distances distance vertices least × ((vertex : ℕ) → IsAt distances distance vertices vertex → least ≤ vertex)
 
--- the arc can be traversed, and leads to a vertex of the level
+-- the arc can be traversed, and leads to a vertex of the distance
 abbrev pub LeadsTo : List Gate → List (Option ℕ) → ℕ → Arc → Type 0
-LeadsTo gates levels level arc = (level_at levels arc.to ≡ Some level) × IsTrue (is_open gates arc)
+LeadsTo gates distances distance arc = (distance_at distances arc.to ≡ Some distance) × IsTrue (is_open gates arc)
 
--- no vertex has a lower level, and one has it; or no vertex has a level
-abbrev pub IsLeastLevel : List (Option ℕ) → List ℕ → Option ℕ → Type 0
-IsLeastLevel levels vertices None = (vertex level : ℕ) → IsAt levels level vertices vertex → ⊥
-IsLeastLevel levels vertices (Some least) =
-    ((vertex : ℕ) × IsAt levels least vertices vertex) × ((vertex level : ℕ) → IsAt levels level vertices vertex → least ≤ level)
+-- no vertex has a lower distance, and one has it; or no vertex has a distance
+abbrev pub IsLeastDistance : List (Option ℕ) → List ℕ → Option ℕ → Type 0
+IsLeastDistance distances vertices None = (vertex distance : ℕ) → IsAt distances distance vertices vertex → ⊥
+IsLeastDistance distances vertices (Some least) =
+    ((vertex : ℕ) × IsAt distances least vertices vertex) × ((vertex distance : ℕ) → IsAt distances distance vertices vertex → least ≤ distance)
 
--- from this level to level 0
+-- from this distance to distance 0
 abbrev pub Descends : List Gate → List (Vec Arc Global) → List (Option ℕ) → ℕ → List ℕ → Type 0
-Descends gates rows levels level [] = ⊥
-Descends gates rows levels level (last ∷ []) = (level ≡ 0) × (level_at levels last ≡ Some 0)
-Descends gates rows levels level (vertex ∷ next ∷ path) =
-    (below : ℕ) × (level ≡ suc below) × IsLeastAt levels below (next_to gates rows vertex) (Some next) × Descends gates rows levels below (next ∷ path)
+Descends gates rows distances distance [] = ⊥
+Descends gates rows distances distance (last ∷ []) = (distance ≡ 0) × (distance_at distances last ≡ Some 0)
+Descends gates rows distances distance (vertex ∷ next ∷ path) =
+    (below : ℕ) × (distance ≡ suc below) × IsLeastAt distances below (next_to gates rows vertex) (Some next) × Descends gates rows distances below (next ∷ path)
 
 -- the lesser of the number and the least so far
 abbrev pub lesser : Option ℕ → ℕ → ℕ

@@ -5,8 +5,8 @@ pub mod Descents
 pub mod Duality
 pub mod FilledEdges
 pub mod Flows
-pub mod LevelLaws
-pub mod Levels
+pub mod DistanceLaws
+pub mod Distances
 pub mod NetOut
 pub mod Networks
 pub mod Pushes

@@ -3,15 +3,15 @@
 --     residuals edges flow           those of all edges
 --     IsPartial network units flow   a flow of so many units
 --     IsPushed edges from to ..      one unit more flows from the one vertex to the other
---     IsFull network rows flow levels    no more may flow: no step leads to what must be outside
+--     IsFull network rows flow distances    no more may flow: no step leads to what must be outside
 use Rattle.std.specs.Prelude.{◌≡◌, ℕ, ℤ, pos, negsuc, ◌+◌, ◌+ℤ◌, nat_abs, int_lt, ◌<◌, ◌≤◌, Bool, false, cond, not, ◌||◌, List, length, map, zip, slice_index_or, Option, None, Some, All, IsTrue}
 use Rattle.std.specs.declared.vec.Vec.{Vec}
 use Rattle.std.specs.declared.alloc.Global.{Global}
 use Rattle.hs_cut.specs.Flows.{net_out, most, IsConserved}
-use Rattle.hs_cut.specs.Levels.{AreLevels, level_at, opens, shut}
+use Rattle.hs_cut.specs.Distances.{AreDistances, distance_at, opens, shut}
 use Rattle.hs_cut.specs.Networks.{Side, among}
 use Rattle.hs_cut.specs.declared.graph.Arc.{Arc}
-use Rattle.hs_cut.specs.declared.levels.Gate.{Gate}
+use Rattle.hs_cut.specs.declared.distances.Gate.{Gate}
 use Rattle.hs_cut.specs.declared.network.CutEdge.{CutEdge}
 use Rattle.hs_cut.specs.declared.network.Network.{Network}
 
@@ -39,9 +39,9 @@ amount_at flow index = slice_index_or flow index (pos 0)
 abbrev pub IsSized : List CutEdge → List ℤ → Type 0
 IsSized edges flow = (index : ℕ) → index < length edges → nat_abs (amount_at flow index) ≤ most (edge_at edges index)
 
--- the arc leads to a vertex of the level, and more may flow over it from there
+-- the arc leads to a vertex of the distance, and more may flow over it from there
 abbrev pub LeadsDown : List Gate → List (Option ℕ) → ℕ → Arc → Type 0
-LeadsDown gates levels level arc = (level_at levels arc.to ≡ Some level) × IsTrue (opens (slice_index_or gates arc.edge shut) (not arc.along))
+LeadsDown gates distances distance arc = (distance_at distances arc.to ≡ Some distance) × IsTrue (opens (slice_index_or gates arc.edge shut) (not arc.along))
 
 -- So many units flow out of what must be inside; over an edge that is no slot no more flow than in all.
 pub record IsPartial (network : Network) (units : ℕ) (flow : List ℤ) : Type 0 where
@@ -65,8 +65,8 @@ pub record IsPushed (edges : List CutEdge) (from to : ℕ) (before after : List 
   pub slots : (index : ℕ) → index < length edges → IsTrue (edge_at edges index).slot → nat_abs (amount_at after index) ≤ 1
   pub net : (side : Side) → net_out side edges after +ℤ count (side to) ≡ net_out side edges before +ℤ count (side from)
 
--- the levels by steps over which more may flow, from what must be inside: none of what must be outside has one
-pub record IsFull (network : Network) (rows : List (Vec Arc Global)) (flow : List ℤ) (levels : List (Option ℕ)) : Type 0 where
+-- the distances by steps over which more may flow, from what must be inside: none of what must be outside has one
+pub record IsFull (network : Network) (rows : List (Vec Arc Global)) (flow : List ℤ) (distances : List (Option ℕ)) : Type 0 where
   pub partial : (units : ℕ) × IsPartial network units flow
-  pub searched : AreLevels (residuals network.edges flow) rows network.inside levels
-  pub outside : All (λ vertex. level_at levels vertex ≡ None) network.outside
+  pub searched : AreDistances (residuals network.edges flow) rows network.inside distances
+  pub outside : All (λ vertex. distance_at distances vertex ≡ None) network.outside

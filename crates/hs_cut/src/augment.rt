@@ -3,28 +3,28 @@
 ghost use Rattle.std.specs.Prelude.{◌≡◌, ℕ, ◌+◌, ◌<◌, ◌^◌, ◌↔◌, length, nat_abs, All, Contains, None, Some, IfOk, IfSome, IfNone, IsTrue};
 ghost use Rattle.hs_cut.specs.Arcs.{arcs_from, IsGraph};
 ghost use Rattle.hs_cut.specs.Descents.{IsAt};
-ghost use Rattle.hs_cut.specs.Levels.{AreInside, IsInside, level_at};
+ghost use Rattle.hs_cut.specs.Distances.{AreInside, IsInside, distance_at};
 ghost use Rattle.hs_cut.specs.Networks.{IsCut, IsNumbered, Side};
 ghost use Rattle.hs_cut.specs.Pushes.{IsFull, IsPushed, IsSized, LeadsDown, residual, residuals, with_unit};
 
+use crate::distances::{Gate, distances_from};
 use crate::graph::Arc;
-use crate::levels::{Gate, levels_from};
 use crate::network::{CutEdge, Network};
 use hs_base::NoMemory;
 use std::alloc::Global;
 
-/// A flow that can't grow, and the levels of the vertices to which more may flow.
+/// A flow that can't grow, and the distances of the vertices to which more may flow.
 #[derive(Drop)]
 pub(crate) struct FullFlow {
     pub flow: Vec<i64>,
-    pub levels: Vec<Option<u32>>,
+    pub distances: Vec<Option<u32>>,
 }
 
 /// A vertex that a search reached.
 #[derive(Debug, Clone, Copy, PartialEq, Eq)]
 struct Reached {
     vertex: u32,
-    level: u32,
+    distance: u32,
 }
 
 /// A largest flow from what must be inside to what must be outside.
@@ -39,17 +39,24 @@ pub(crate) fn full_flow(
     requires each { length rows.now ≡ network.now.vertices }
     requires few { length rows.now < 2 ^ 32 }
     requires open { (side : Side) × IsCut network.now side }
-    ensures { IfOk result (λ full. IsFull network.now rows.now full.flow.items full.levels.items) }
+    ensures { IfOk result (λ full. IsFull network.now rows.now full.flow.items full.distances.items) }
 {
     let edges = network.edges.items();
     let mut flow = Vec::from_elem(alloc, 0, edges.len())?;
     'rounds: loop {
         let gates = residual_gates(alloc, edges, flow.as_slice())?;
-        let levels = levels_from(alloc, rows, gates.as_slice(), network.inside.items())?;
-        let Some(end) = first_reached(network.outside.items(), levels.as_slice()) else {
-            return Ok(FullFlow { flow, levels });
+        let distances = distances_from(alloc, rows, gates.as_slice(), network.inside.items())?;
+        let Some(end) = first_reached(network.outside.items(), distances.as_slice()) else {
+            return Ok(FullFlow { flow, distances });
         };
-        flow = pushed(edges, rows, gates.as_slice(), levels.as_slice(), end, flow);
+        flow = pushed(
+            edges,
+            rows,
+            gates.as_slice(),
+            distances.as_slice(),
+            end,
+            flow,
+        );
     }
 }
 
@@ -77,28 +84,28 @@ fn residual_gate(edge: CutEdge, amount: i64) -> Gate
 }
 
 /// The first of the vertices that the search reached.
-fn first_reached(vertices: &[u32], levels: &[Option<u32>]) -> Option<Reached>
-    requires known { All (λ vertex. vertex < length levels.now) vertices.now }
-    ensures some { IfSome result (λ end. IsAt levels.now end.level vertices.now end.vertex) }
-    ensures none { IfNone result (All (λ vertex. level_at levels.now vertex ≡ None) vertices.now) }
+fn first_reached(vertices: &[u32], distances: &[Option<u32>]) -> Option<Reached>
+    requires known { All (λ vertex. vertex < length distances.now) vertices.now }
+    ensures some { IfSome result (λ end. IsAt distances.now end.distance vertices.now end.vertex) }
+    ensures none { IfNone result (All (λ vertex. distance_at distances.now vertex ≡ None) vertices.now) }
 {
     for vertex in vertices {
-        if let Some(level) = levels[*vertex as usize] {
+        if let Some(distance) = distances[*vertex as usize] {
             return Some(Reached {
                 vertex: *vertex,
-                level,
+                distance,
             });
         }
     }
     None
 }
 
-/// The flow with one unit more, from a vertex of level 0 to the end.
+/// The flow with one unit more, from a vertex of distance 0 to the end.
 fn pushed(
     edges: &[CutEdge],
     rows: &[Vec<Arc>],
     gates: &[Gate],
-    levels: &[Option<u32>],
+    distances: &[Option<u32>],
     end: Reached,
     flow: Vec<i64>,
 ) -> Vec<i64>
@@ -107,19 +114,19 @@ fn pushed(
     requires gates { gates.now ≡ residuals edges.now flow.items }
     requires graph { IsGraph edges.now rows.now }
     requires inside { AreInside (length edges.now) rows.now }
-    requires long { length levels.now ≡ length rows.now }
-    requires below { (vertex level : ℕ) → level_at levels.now vertex ≡ Some (level + 1)
-        → (arc : Arc) × Contains (arcs_from rows.now vertex) arc × LeadsDown gates.now levels.now level arc }
-    requires end { level_at levels.now end.vertex ≡ Some end.level }
-    ensures { (start : ℕ) × (level_at levels.now start ≡ Some 0) × IsPushed edges.now start end.vertex flow.items result.items }
+    requires long { length distances.now ≡ length rows.now }
+    requires below { (vertex distance : ℕ) → distance_at distances.now vertex ≡ Some (distance + 1)
+        → (arc : Arc) × Contains (arcs_from rows.now vertex) arc × LeadsDown gates.now distances.now distance arc }
+    requires end { distance_at distances.now end.vertex ≡ Some end.distance }
+    ensures { (start : ℕ) × (distance_at distances.now start ≡ Some 0) × IsPushed edges.now start end.vertex flow.items result.items }
 {
     let mut flow = flow;
     let mut vertex = end.vertex;
-    let mut level = end.level;
-    'steps: while level > 0 {
-        level -= 1;
+    let mut distance = end.distance;
+    'steps: while distance > 0 {
+        distance -= 1;
         let row = rows[vertex as usize].as_slice();
-        let Some(arc) = arc_down(row, gates, levels, level) else {
+        let Some(arc) = arc_down(row, gates, distances, distance) else {
             unreachable!()
         };
         flow[arc.edge] = with_unit(flow[arc.edge], !arc.along);
@@ -136,24 +143,24 @@ fn with_unit(amount: i64, along: bool) -> i64
     if along { amount + 1 } else { amount - 1 }
 }
 
-/// An arc to a vertex of the level, over an edge by which more may flow from there.
-fn arc_down(row: &[Arc], gates: &[Gate], levels: &[Option<u32>], level: u32) -> Option<Arc>
-    requires inside { All (IsInside (length levels.now) (length gates.now)) row.now }
-    ensures some { IfSome result (λ arc. Contains row.now arc × LeadsDown gates.now levels.now level arc) }
-    ensures none { IfNone result (All (λ arc. LeadsDown gates.now levels.now level arc → ⊥) row.now) }
+/// An arc to a vertex of the distance, over an edge by which more may flow from there.
+fn arc_down(row: &[Arc], gates: &[Gate], distances: &[Option<u32>], distance: u32) -> Option<Arc>
+    requires inside { All (IsInside (length distances.now) (length gates.now)) row.now }
+    ensures some { IfSome result (λ arc. Contains row.now arc × LeadsDown gates.now distances.now distance arc) }
+    ensures none { IfNone result (All (λ arc. LeadsDown gates.now distances.now distance arc → ⊥) row.now) }
 {
     for arc in row {
-        if leads_down(gates, levels, level, *arc) {
+        if leads_down(gates, distances, distance, *arc) {
             return Some(*arc);
         }
     }
     None
 }
 
-/// Whether the arc leads to a vertex of the level, and more may flow over it from there.
-fn leads_down(gates: &[Gate], levels: &[Option<u32>], level: u32, arc: Arc) -> bool
-    requires inside { IsInside (length levels.now) (length gates.now) arc }
-    ensures { IsTrue result ↔ LeadsDown gates.now levels.now level arc }
+/// Whether the arc leads to a vertex of the distance, and more may flow over it from there.
+fn leads_down(gates: &[Gate], distances: &[Option<u32>], distance: u32, arc: Arc) -> bool
+    requires inside { IsInside (length distances.now) (length gates.now) arc }
+    ensures { IsTrue result ↔ LeadsDown gates.now distances.now distance arc }
 {
-    levels[arc.to as usize] == Some(level) && gates[arc.edge].opens(!arc.along)
+    distances[arc.to as usize] == Some(distance) && gates[arc.edge].opens(!arc.along)
 }

@@ -4,7 +4,7 @@ ghost use Rattle.std.specs.Prelude.{◌≡◌, ℕ, ◌<◌, ◌^◌, List, leng
 ghost use Rattle.std.specs.List.{All};
 ghost use Rattle.std.specs.List.Sorted.{IsStrictlyIncreasing};
 ghost use Rattle.hs_cut.specs.Answers.{IsEnd};
-ghost use Rattle.hs_cut.specs.Levels.{HaveLevels};
+ghost use Rattle.hs_cut.specs.Distances.{HaveDistances};
 ghost use Rattle.hs_cut.specs.Flows.{Fits};
 ghost use Rattle.hs_cut.specs.Networks.{among, IsNumbered, IsChosen};
 ghost use Rattle.hs_cut.specs.Walks.{IsObstacle};
@@ -45,23 +45,23 @@ pub fn best_cut(alloc: Global, network: &Network) -> Result<Cut, CutEnd>
         return Err(CutEnd::NoCut(Numbers::from_vec(path)));
     }
     let full = full_flow(alloc, network, rows.as_slice())?;
-    let inside = with_level(alloc, full.levels.as_slice())?;
+    let inside = with_distance(alloc, full.distances.as_slice())?;
     Ok(Cut {
         inside: Numbers::from_vec(inside),
         flow: Flow::from_vec(full.flow),
     })
 }
 
-/// The vertices that have a level, in order.
-fn with_level(alloc: Global, levels: &[Option<u32>]) -> Result<Vec<u32>, NoMemory>
-    requires few { length levels.now < 2 ^ 32 }
-    ensures each { IfOk result (λ vertices. HaveLevels levels.now vertices.items) }
+/// The vertices that have a distance, in order.
+fn with_distance(alloc: Global, distances: &[Option<u32>]) -> Result<Vec<u32>, NoMemory>
+    requires few { length distances.now < 2 ^ 32 }
+    ensures each { IfOk result (λ vertices. HaveDistances distances.now vertices.items) }
     ensures ascends { IfOk result (λ vertices. IsStrictlyIncreasing vertices.items) }
-    ensures known { IfOk result (λ vertices. All (λ vertex. vertex < length levels.now) vertices.items) }
+    ensures known { IfOk result (λ vertices. All (λ vertex. vertex < length distances.now) vertices.items) }
 {
     let mut vertices = Vec::new(alloc);
-    for (vertex, level) in levels.iter().enumerate() {
-        if level.is_some() {
+    for (vertex, distance) in distances.iter().enumerate() {
+        if distance.is_some() {
             vertices.push(vertex as u32)?;
         }
     }

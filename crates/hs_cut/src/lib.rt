@@ -4,9 +4,9 @@
 
 mod augment;
 mod cut;
+mod distances;
 mod graph;
 mod least;
-mod levels;
 mod lists;
 mod network;
 mod obstacle;

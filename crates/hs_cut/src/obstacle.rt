@@ -2,13 +2,13 @@
 
 ghost use Rattle.std.specs.Prelude.{◌≡◌, ℕ, ◌+◌, ◌<◌, ◌^◌, ◌↔◌, List, ◌∷◌, length, map, All, Some, IfOk, IfSome, IfNone, IsTrue};
 ghost use Rattle.hs_cut.specs.Arcs.{IsGraph};
-ghost use Rattle.hs_cut.specs.Descents.{Descends, IsAt, IsLeastAt, IsLeastLevel, LeadsTo, lesser, uncut_gate};
-ghost use Rattle.hs_cut.specs.Levels.{AreInside, IsInside, level_at, next_to, targets};
+ghost use Rattle.hs_cut.specs.Descents.{Descends, IsAt, IsLeastAt, IsLeastDistance, LeadsTo, lesser, uncut_gate};
+ghost use Rattle.hs_cut.specs.Distances.{AreInside, IsInside, distance_at, next_to, targets};
 ghost use Rattle.hs_cut.specs.Networks.{IsCut, IsNumbered, Side};
 ghost use Rattle.hs_cut.specs.Walks.{IsLeastObstacle};
 
+use crate::distances::{Gate, distances_from, is_open};
 use crate::graph::Arc;
-use crate::levels::{Gate, is_open, levels_from};
 use crate::network::{CutEdge, Network};
 use hs_base::NoMemory;
 use std::alloc::Global;
@@ -28,21 +28,21 @@ pub(crate) fn least_obstacle(
     ensures open { IfOk result (λ found. IfNone found ((side : Side) × IsCut network.now side)) }
 {
     let gates = uncut_gates(alloc, network.edges.items())?;
-    let levels = levels_from(alloc, rows, gates.as_slice(), network.outside.items())?;
+    let distances = distances_from(alloc, rows, gates.as_slice(), network.outside.items())?;
     let inside = network.inside.items();
-    let Some(level) = least_level(inside, levels.as_slice()) else {
+    let Some(distance) = least_distance(inside, distances.as_slice()) else {
         return Ok(None);
     };
-    let Some(first) = least_at(inside, levels.as_slice(), level) else {
+    let Some(first) = least_at(inside, distances.as_slice(), distance) else {
         unreachable!()
     };
     let path = descent(
         alloc,
         rows,
         gates.as_slice(),
-        levels.as_slice(),
+        distances.as_slice(),
         first,
-        level,
+        distance,
     )?;
     Ok(Some(path))
 }
@@ -61,59 +61,59 @@ fn uncut_gates(alloc: Global, edges: &[CutEdge]) -> Result<Vec<Gate>, NoMemory>
     Ok(gates)
 }
 
-/// The least level that one of the vertices has.
-fn least_level(vertices: &[u32], levels: &[Option<u32>]) -> Option<u32>
-    requires known { All (λ vertex. vertex < length levels.now) vertices.now }
-    ensures { IsLeastLevel levels.now vertices.now result }
+/// The least distance that one of the vertices has.
+fn least_distance(vertices: &[u32], distances: &[Option<u32>]) -> Option<u32>
+    requires known { All (λ vertex. vertex < length distances.now) vertices.now }
+    ensures { IsLeastDistance distances.now vertices.now result }
 {
     let mut least = None;
     for vertex in vertices {
-        if let Some(level) = levels[*vertex as usize] {
-            least = Some(lesser(least, level));
+        if let Some(distance) = distances[*vertex as usize] {
+            least = Some(lesser(least, distance));
         }
     }
     least
 }
 
-/// The least of the vertices that has the level.
-fn least_at(vertices: &[u32], levels: &[Option<u32>], level: u32) -> Option<u32>
-    requires known { All (λ vertex. vertex < length levels.now) vertices.now }
-    ensures { IsLeastAt levels.now level vertices.now result }
+/// The least of the vertices that has the distance.
+fn least_at(vertices: &[u32], distances: &[Option<u32>], distance: u32) -> Option<u32>
+    requires known { All (λ vertex. vertex < length distances.now) vertices.now }
+    ensures { IsLeastAt distances.now distance vertices.now result }
 {
     let mut least = None;
     for vertex in vertices {
-        if levels[*vertex as usize] == Some(level) {
+        if distances[*vertex as usize] == Some(distance) {
             least = Some(lesser(least, *vertex));
         }
     }
     least
 }
 
-/// The way down from the vertex to level 0, each time to the least vertex of the level below.
+/// The way down from the vertex to distance 0, each time to the least vertex of the distance below.
 fn descent(
     alloc: Global,
     rows: &[Vec<Arc>],
     gates: &[Gate],
-    levels: &[Option<u32>],
+    distances: &[Option<u32>],
     first: u32,
-    first_level: u32,
+    first_distance: u32,
 ) -> Result<Vec<u32>, NoMemory>
     requires inside { AreInside (length gates.now) rows.now }
-    requires long { length levels.now ≡ length rows.now }
-    requires below { (vertex level : ℕ) → level_at levels.now vertex ≡ Some (level + 1)
-        → (next : ℕ) × IsAt levels.now level (next_to gates.now rows.now vertex) next }
-    requires first { level_at levels.now first ≡ Some first_level }
+    requires long { length distances.now ≡ length rows.now }
+    requires below { (vertex distance : ℕ) → distance_at distances.now vertex ≡ Some (distance + 1)
+        → (next : ℕ) × IsAt distances.now distance (next_to gates.now rows.now vertex) next }
+    requires first { distance_at distances.now first ≡ Some first_distance }
     ensures begins { IfOk result (λ path. (rest : List ℕ) × (path.items ≡ first ∷ rest)) }
-    ensures descends { IfOk result (λ path. Descends gates.now rows.now levels.now first_level path.items) }
+    ensures descends { IfOk result (λ path. Descends gates.now rows.now distances.now first_distance path.items) }
 {
     let mut path = Vec::new(alloc);
     path.push(first)?;
     let mut vertex = first;
-    let mut level = first_level;
-    'steps: while level > 0 {
-        level -= 1;
+    let mut distance = first_distance;
+    'steps: while distance > 0 {
+        distance -= 1;
         let row = rows[vertex as usize].as_slice();
-        let Some(next) = least_step(row, gates, levels, level) else {
+        let Some(next) = least_step(row, gates, distances, distance) else {
             unreachable!()
         };
         path.push(next)?;
@@ -122,26 +122,26 @@ fn descent(
     Ok(path)
 }
 
-/// The least vertex of the level that an open arc of the row leads to.
-fn least_step(row: &[Arc], gates: &[Gate], levels: &[Option<u32>], level: u32) -> Option<u32>
-    requires inside { All (IsInside (length levels.now) (length gates.now)) row.now }
-    ensures { IsLeastAt levels.now level (targets gates.now row.now) result }
+/// The least vertex of the distance that an open arc of the row leads to.
+fn least_step(row: &[Arc], gates: &[Gate], distances: &[Option<u32>], distance: u32) -> Option<u32>
+    requires inside { All (IsInside (length distances.now) (length gates.now)) row.now }
+    ensures { IsLeastAt distances.now distance (targets gates.now row.now) result }
 {
     let mut least = None;
     for arc in row {
-        if leads_to(gates, levels, level, *arc) {
+        if leads_to(gates, distances, distance, *arc) {
             least = Some(lesser(least, arc.to));
         }
     }
     least
 }
 
-/// Whether the arc is open, and leads to a vertex of the level.
-fn leads_to(gates: &[Gate], levels: &[Option<u32>], level: u32, arc: Arc) -> bool
-    requires inside { IsInside (length levels.now) (length gates.now) arc }
-    ensures { IsTrue result ↔ LeadsTo gates.now levels.now level arc }
+/// Whether the arc is open, and leads to a vertex of the distance.
+fn leads_to(gates: &[Gate], distances: &[Option<u32>], distance: u32, arc: Arc) -> bool
+    requires inside { IsInside (length distances.now) (length gates.now) arc }
+    ensures { IsTrue result ↔ LeadsTo gates.now distances.now distance arc }
 {
-    levels[arc.to as usize] == Some(level) && is_open(gates, arc)
+    distances[arc.to as usize] == Some(distance) && is_open(gates, arc)
 }
 
 /// The lesser of the number and the least so far.

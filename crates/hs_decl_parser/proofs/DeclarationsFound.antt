@@ -19,7 +19,7 @@ use Rattle.hs_syntax.specs.Trees.{Specified, Declared, Initialising, Declaring, 
 use Rattle.hs_syntax.specs.declared.word.Place.{Place}
 use Rattle.hs_expr_parser.specs.Ahead.{is_ahead, is_mark_ahead, begins_specifier}
 use Rattle.hs_expr_parser.specs.Reading.{Known}
-use Rattle.hs_expr_parser.specs.Laws.Gives.{Gives, some_gives, then_gives, going_gives, if_gives, so_gives}
+use Rattle.hs_expr_parser.specs.Laws.Yields.{Yields, some_gives, then_gives, going_gives, if_gives, so_gives}
 use Rattle.hs_expr_parser.specs.Laws.Spelled.{Begins, form_again, nothing_begins, then_begins, when_begins, form_nothing}
 use Rattle.hs_expr_parser.specs.Laws.Firsts.{mark_gives}
 use Rattle.hs_expr_parser.specs.Laws.Tables.{Grows, one_grows, more_grows, Declares}
@@ -67,7 +67,7 @@ module _ (known : Known) (table : Shorter) (found : IsFound known table) where
 
   -- a list of initialisers
   braces_found : (at : Place) (tokens rest : List SourceToken) → Begins (form.mark_at at (codes "{")) tokens rest
-      → Gives (λ it after. Begins (initialiser_form known it) tokens after) (braces_rule table at rest)
+      → Yields (λ it after. Begins (initialiser_form known it) tokens after) (braces_rule table at rest)
   braces_found at tokens rest opening =
       then_gives _ _ (initialisers_gives known table found [] rest) (λ its middle inside.
       then_gives _ _ (mark_gives (codes "}") middle) (λ close after closing.
@@ -80,17 +80,17 @@ module _ (known : Known) (table : Shorter) (found : IsFound known table) where
       (then_begins opening (grouped all (comma_form its.1) (mark (codes "}")) rest middle after body closing.plain))))
 
   -- an expression as an initialiser
-  value_found : (tokens : List SourceToken) → Gives (λ it rest. Begins (initialiser_form known it) tokens rest) (starting_value known tokens)
+  value_found : (tokens : List SourceToken) → Yields (λ it rest. Begins (initialiser_form known it) tokens rest) (starting_value known tokens)
   value_found tokens = then_gives _ _ (assignment_begins known tokens) (λ e rest begins. some_gives (tree.value e) rest begins)
 
   -- an initialiser
-  pub initialiser_found : (tokens : List SourceToken) → Gives (λ it rest. Begins (initialiser_form known it) tokens rest) (initialiser_rule known table tokens)
+  pub initialiser_found : (tokens : List SourceToken) → Yields (λ it rest. Begins (initialiser_form known it) tokens rest) (initialiser_rule known table tokens)
   initialiser_found tokens =
       going_gives _ _ _ (mark_gives (codes "{") tokens) (λ at rest is opening. braces_found at tokens rest opening.placed) (λ is. value_found tokens)
 
   -- initialisers
   pub initialisers_found : (earlier : List Initialising) (tokens : List SourceToken)
-      → Gives (λ all rest. Grows earlier all.0 (λ its. initialisers_form known (initialisers_from its) ⨾ comma_form all.1) tokens rest)
+      → Yields (λ all rest. Grows earlier all.0 (λ its. initialisers_form known (initialisers_from its) ⨾ comma_form all.1) tokens rest)
       (initialisers_rule known table earlier tokens)
   initialisers_found earlier tokens =
       let listed : Bool → List Initialising → Form = λ comma its. initialisers_form known (initialisers_from its) ⨾ comma_form comma in
@@ -108,7 +108,7 @@ module _ (known : Known) (table : Shorter) (found : IsFound known table) where
   -- ---- declarators with what they start with
 
   -- what a declarator starts with
-  start_found : (tokens : List SourceToken) → Gives (λ start rest. Begins (start_form known start) tokens rest) (start_rule table tokens)
+  start_found : (tokens : List SourceToken) → Yields (λ start rest. Begins (start_form known start) tokens rest) (start_rule table tokens)
   start_found tokens =
       going_gives _ _ _ (mark_gives (codes "=") tokens)
       (λ at rest is equals. then_gives _ _ (initialiser_gives known table found rest) (λ it after begins.
@@ -117,19 +117,19 @@ module _ (known : Known) (table : Shorter) (found : IsFound known table) where
 
   -- a declarator with what it starts with, after the declarator
   behind_found : (declared : Declared) (tokens middle : List SourceToken) → Declares known false declared tokens middle
-      → Gives (λ it rest. Begins (item_form known it) tokens rest) (item_behind table declared middle)
+      → Yields (λ it rest. Begins (item_form known it) tokens rest) (item_behind table declared middle)
   behind_found declared tokens middle declares =
       then_gives _ _ (start_found middle) (λ start rest begins.
       some_gives (record { declarator = declared; initialiser = start }) rest
       (then_begins (when_begins (declares.named refl) declares.begins) begins))
 
   -- a declarator with what it starts with
-  item_found : (tokens : List SourceToken) → Gives (λ it rest. Begins (item_form known it) tokens rest) (item_rule known table tokens)
+  item_found : (tokens : List SourceToken) → Yields (λ it rest. Begins (item_form known it) tokens rest) (item_rule known table tokens)
   item_found tokens = then_gives _ _ (declarator_begins known false tokens) (λ declared middle declares. behind_found declared tokens middle declares)
 
   -- more of them
   pub items_found : (earlier : List Declaring) (tokens : List SourceToken)
-      → Gives (λ all rest. Adds earlier all (more_items_form known) tokens rest) (items_rule known table earlier tokens)
+      → Yields (λ all rest. Adds earlier all (more_items_form known) tokens rest) (items_rule known table earlier tokens)
   items_found earlier tokens =
       going_gives _ _ _ (mark_gives (codes ",") tokens)
       (λ at rest is comma. then_gives _ _ (item_found rest) (λ it middle first.
@@ -143,7 +143,7 @@ module _ (known : Known) (table : Shorter) (found : IsFound known table) where
   -- a declaration, after its specifiers and its first declarator
   pub declared_found : (specifiers : List Specified) (declared : Declared) (tokens between middle : List SourceToken)
       → SomeSpecified known specifiers tokens between → Declares known false declared between middle
-      → Gives (λ it rest. Begins (declaration_form known it) tokens rest) (declared_rule known table specifiers declared middle)
+      → Yields (λ it rest. Begins (declaration_form known it) tokens rest) (declared_rule known table specifiers declared middle)
   declared_found specifiers declared tokens between middle specified declares =
       then_gives _ _ (behind_found declared between middle declares) (λ it next first.
       then_gives _ _ (items_found (it ∷ []) next) (λ all behind others.
@@ -163,7 +163,7 @@ module _ (known : Known) (table : Shorter) (found : IsFound known table) where
       (followed known specifiers (nothing_at_all ⨾ mark (codes ";")) tokens middle rest specified (then_begins (nothing_begins middle) closing))
 
   -- a declaration
-  declaration_found : (tokens : List SourceToken) → Gives (λ it rest. Begins (declaration_form known it) tokens rest) (declaration_rule known table tokens)
+  declaration_found : (tokens : List SourceToken) → Yields (λ it rest. Begins (declaration_form known it) tokens rest) (declaration_rule known table tokens)
   declaration_found tokens =
       then_gives _ _ (specifiers_begin known tokens) (λ its middle specified.
       going_gives _ _ _ (mark_gives (codes ";") middle)
@@ -173,7 +173,7 @@ module _ (known : Known) (table : Shorter) (found : IsFound known table) where
 
   -- declarations
   pub declarations_found : (earlier : List Declaration) (tokens : List SourceToken)
-      → Gives (λ all rest. Adds earlier all (declarations_form known) tokens rest) (declarations_rule known table earlier tokens)
+      → Yields (λ all rest. Adds earlier all (declarations_form known) tokens rest) (declarations_rule known table earlier tokens)
   declarations_found earlier tokens =
       if_gives (is_ahead (begins_specifier known false) tokens) _ _
       (λ is. then_gives _ _ (declaration_found tokens) (λ it middle first.

@@ -17,7 +17,7 @@ use Rattle.hs_expr_parser.specs.Reading.{Known}
 use Rattle.hs_expr_parser.specs.Recursion.{Read}
 use Rattle.hs_expr_parser.specs.Steps.{declarator_at}
 use Rattle.hs_expr_parser.specs.Laws.Apart.{split}
-use Rattle.hs_expr_parser.specs.Laws.Gives.{Gives}
+use Rattle.hs_expr_parser.specs.Laws.Yields.{Yields}
 use Rattle.hs_expr_parser.specs.Laws.Spelled.{Begins, is_behind, form_again, form_nothing}
 use Rattle.hs_decl_parser.specs.Steps.{external_at}
 use Rattle.hs_decl_parser.specs.Units.{names_of, BeginsNone, IsStuck}
@@ -29,7 +29,7 @@ use Rattle.hs_decl_parser.proofs.Sound.{external_found}
 
 -- what is read stands in front
 pub external_begins : (known : Known) (tokens : List SourceToken)
-    → Gives (λ (it : ExternalDeclaration) rest. Begins (external_form known it) tokens rest) (external_at known tokens)
+    → Yields (λ (it : ExternalDeclaration) rest. Begins (external_form known it) tokens rest) (external_at known tokens)
 unfolding external_at
 external_begins known tokens = external_found known tokens
 

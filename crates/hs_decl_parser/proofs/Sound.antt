@@ -14,7 +14,7 @@ use Rattle.hs_syntax.specs.Trees.{Specified, Declared, ExternalDeclaration}
 use Rattle.hs_expr_parser.specs.Ahead.{is_ahead, is_mark_ahead, begins_specifier}
 use Rattle.hs_expr_parser.specs.Reading.{Known}
 use Rattle.hs_expr_parser.specs.Laws.Recursions.{fixed_always}
-use Rattle.hs_expr_parser.specs.Laws.Gives.{Gives, some_gives, then_gives, going_gives, if_gives}
+use Rattle.hs_expr_parser.specs.Laws.Yields.{Yields, some_gives, then_gives, going_gives, if_gives}
 use Rattle.hs_expr_parser.specs.Laws.Spelled.{Begins, nothing_begins, then_begins, when_begins}
 use Rattle.hs_expr_parser.specs.Laws.Firsts.{mark_gives}
 use Rattle.hs_expr_parser.specs.Laws.Ends.{ends_there}
@@ -64,7 +64,7 @@ module _ (known : Known) (table : Shorter) (found : IsFound known table) where
   -- a function, after its specifiers and its declarator
   function_found : (its : List Specified) (declared : Declared) (tokens between middle : List SourceToken) → SomeSpecified known its tokens between
       → Declares known false declared between middle
-      → Gives (λ it rest. Begins (external_form known it) tokens rest) (function_rule table its declared middle)
+      → Yields (λ it rest. Begins (external_form known it) tokens rest) (function_rule table its declared middle)
   function_found its declared tokens between middle specified declares =
       then_gives _ _ (block_found known table found middle) (λ body rest block.
       some_gives (tree.function_definition (specification_from its) declared body) rest
@@ -74,7 +74,7 @@ module _ (known : Known) (table : Shorter) (found : IsFound known table) where
   -- a function without specifiers, after its declarator
   unspecified_found : (declared : Declared) (tokens middle : List SourceToken) → is_ahead (begins_specifier known false) tokens ≡ false
       → Declares known false declared tokens middle
-      → Gives (λ it rest. Begins (external_form known it) tokens rest) (function_rule table [] declared middle)
+      → Yields (λ it rest. Begins (external_form known it) tokens rest) (function_rule table [] declared middle)
   unspecified_found declared tokens middle unbegun declares =
       then_gives _ _ (block_found known table found middle) (λ body rest block.
       let whole : Form = when (is_named declared) (declarator_form known false declared) ⨾ block_form known body in
@@ -85,7 +85,7 @@ module _ (known : Known) (table : Shorter) (found : IsFound known table) where
   -- a function or a declaration, after its first declarator
   behind_found : (its : List Specified) (declared : Declared) (tokens between middle : List SourceToken) → SomeSpecified known its tokens between
       → Declares known false declared between middle
-      → Gives (λ it rest. Begins (external_form known it) tokens rest) (external_behind known table its declared middle)
+      → Yields (λ it rest. Begins (external_form known it) tokens rest) (external_behind known table its declared middle)
   behind_found its declared tokens between middle specified declares =
       if_gives (is_mark_ahead (codes "{") middle) _ _
       (λ is. function_found its declared tokens between middle specified declares)
@@ -93,7 +93,7 @@ module _ (known : Known) (table : Shorter) (found : IsFound known table) where
       some_gives (tree.declaration it) rest begins))
 
   -- one that begins with specifiers
-  specified_found : (tokens : List SourceToken) → Gives (λ it rest. Begins (external_form known it) tokens rest) (specified_rule known table tokens)
+  specified_found : (tokens : List SourceToken) → Yields (λ it rest. Begins (external_form known it) tokens rest) (specified_rule known table tokens)
   specified_found tokens =
       then_gives _ _ (specifiers_begin known tokens) (λ its middle specified.
       going_gives _ _ _ (mark_gives (codes ";") middle)
@@ -102,7 +102,7 @@ module _ (known : Known) (table : Shorter) (found : IsFound known table) where
       behind_found its declared tokens middle behind specified declares)))
 
   -- an external declaration
-  pub external_rule_found : (tokens : List SourceToken) → Gives (λ it rest. Begins (external_form known it) tokens rest) (external_rule known table tokens)
+  pub external_rule_found : (tokens : List SourceToken) → Yields (λ it rest. Begins (external_form known it) tokens rest) (external_rule known table tokens)
   external_rule_found tokens =
       if_gives (is_ahead (begins_specifier known false) tokens) _ _
       (λ is. specified_found tokens)
@@ -110,5 +110,5 @@ module _ (known : Known) (table : Shorter) (found : IsFound known table) where
 
 -- what is read of an external declaration is one
 pub external_found : (known : Known) (tokens : List SourceToken)
-    → Gives (λ (it : ExternalDeclaration) rest. Begins (external_form known it) tokens rest) (external_rule known (reading known) tokens)
+    → Yields (λ (it : ExternalDeclaration) rest. Begins (external_form known it) tokens rest) (external_rule known (reading known) tokens)
 external_found known tokens = external_rule_found known (reading known) (reading_found known) tokens

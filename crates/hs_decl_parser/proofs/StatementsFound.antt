@@ -18,7 +18,7 @@ use Rattle.hs_syntax.specs.declared.word.Place.{Place}
 use Rattle.hs_expr_parser.specs.Ahead.{place_of, is_punctuator, is_keyword, is_mark_ahead, place_if}
 use Rattle.hs_expr_parser.specs.Reading.{Known}
 use Rattle.hs_expr_parser.specs.Recursion.{Read}
-use Rattle.hs_expr_parser.specs.Laws.Gives.{Gives, none_gives, some_gives, then_gives, going_gives, if_gives, so_gives}
+use Rattle.hs_expr_parser.specs.Laws.Yields.{Yields, none_gives, some_gives, then_gives, going_gives, if_gives, so_gives}
 use Rattle.hs_expr_parser.specs.Laws.Spelled.{Begins, form_again, nothing_begins, then_begins, when_begins, token_begins, place_begins}
 use Rattle.hs_expr_parser.specs.Laws.Firsts.{token_is, token_of, mark_gives}
 use Rattle.hs_expr_parser.specs.Laws.Phrases.{expression_begins, conditional_begins}
@@ -42,11 +42,11 @@ record IsWord (text : List ℕ) (tokens : List SourceToken) (at : Place) (rest :
   plain : Begins (keyword text) tokens rest
 
 -- a word
-word_gives : (text : List ℕ) (tokens : List SourceToken) → Gives (IsWord text tokens) (keyword_at text tokens)
+word_gives : (text : List ℕ) (tokens : List SourceToken) → Yields (IsWord text tokens) (keyword_at text tokens)
 word_gives text [] = none_gives
 word_gives text (source ∷ rest) = given (is_keyword text source) refl
   where
-    given : (is : Bool) → is_keyword text source ≡ is → Gives (IsWord text (source ∷ rest)) (place_at is source rest)
+    given : (is : Bool) → is_keyword text source ≡ is → Yields (IsWord text (source ∷ rest)) (place_at is source rest)
     given true is =
         let so = token_is Identifier text source is in
         some_gives (place_of source) rest (record { placed = place_begins source rest so.0 so.1; plain = token_begins source rest so.0 so.1 })
@@ -112,7 +112,7 @@ next_labelled known (one_statement labels it) others tokens middle rest first be
 -- ---- expressions in statements
 
 -- an expression in parentheses
-test_found : (known : Known) (tokens : List SourceToken) → Gives (λ e rest. Begins (test_form known e) tokens rest) (test_rule known tokens)
+test_found : (known : Known) (tokens : List SourceToken) → Yields (λ e rest. Begins (test_form known e) tokens rest) (test_rule known tokens)
 test_found known tokens =
     then_gives _ _ (mark_gives (codes "(") tokens) (λ at rest opening.
     then_gives _ _ (expression_begins known rest) (λ e middle inside.
@@ -121,7 +121,7 @@ test_found known tokens =
 
 -- an expression or none, and the punctuator after it
 optional_found : (known : Known) (text : List ℕ) (tokens : List SourceToken)
-    → Gives (λ e rest. Begins (optional_form known e ⨾ mark text) tokens rest) (optional_rule known text tokens)
+    → Yields (λ e rest. Begins (optional_form known e ⨾ mark text) tokens rest) (optional_rule known text tokens)
 optional_found known text tokens =
     going_gives _ _ _ (mark_gives text tokens) (λ at rest is closing. some_gives None rest (then_begins (nothing_begins tokens) closing.plain))
     (λ is. then_gives _ _ (expression_begins known tokens) (λ e middle begins.
@@ -134,7 +134,7 @@ record IsControlled (known : Known) (it : Controls) (tokens rest : List SourceTo
       ⨾ optional_form known it.step ⨾ mark (codes ")") ⨾ other) tokens after
 
 -- what stands in the parentheses of a `for`
-controls_found : (known : Known) (tokens : List SourceToken) → Gives (λ it rest. IsControlled known it tokens rest) (controls_rule known tokens)
+controls_found : (known : Known) (tokens : List SourceToken) → Yields (λ it rest. IsControlled known it tokens rest) (controls_rule known tokens)
 controls_found known tokens =
     then_gives _ _ (mark_gives (codes "(") tokens) (λ at start opening.
     then_gives _ _ (optional_found known (codes ";") start) (λ first one before.
@@ -150,7 +150,7 @@ controls_found known tokens =
 
 -- a label
 label_found : (known : Known) (source : SourceToken) (rest : List SourceToken) → begins_label source ≡ true
-    → Gives (λ it after. Begins (label_form known it) (source ∷ rest) after) (label_rule known source rest)
+    → Yields (λ it after. Begins (label_form known it) (source ∷ rest) after) (label_rule known source rest)
 label_found known source rest begins =
     if_gives (is_keyword (codes "case") source) _ _
     (λ is.
@@ -172,7 +172,7 @@ module _ (known : Known) (table : Shorter) (found : IsFound known table) where
 
   -- after its `{`
   inner_found : (at : Place) (tokens rest : List SourceToken) → Begins (form.mark_at at (codes "{")) tokens rest
-      → Gives (λ it after. Begins (block_form known it) tokens after) (inner_rule table at rest)
+      → Yields (λ it after. Begins (block_form known it) tokens after) (inner_rule table at rest)
   inner_found at tokens rest opening =
       then_gives _ _ (declarations_gives known table found [] rest) (λ declarations middle declared.
       then_gives _ _ (statements_gives known table found [] middle) (λ statements behind stated.
@@ -185,14 +185,14 @@ module _ (known : Known) (table : Shorter) (found : IsFound known table) where
       (then_begins opening (then_begins first (then_begins second closing.placed))))))
 
   -- a compound statement
-  pub block_found : (tokens : List SourceToken) → Gives (λ it rest. Begins (block_form known it) tokens rest) (block_rule table tokens)
+  pub block_found : (tokens : List SourceToken) → Yields (λ it rest. Begins (block_form known it) tokens rest) (block_rule table tokens)
   block_found tokens = then_gives _ _ (mark_gives (codes "{") tokens) (λ at rest opening. inner_found at tokens rest opening.placed)
 
   -- ---- statements
 
   -- after an `if`
   if_found : (at : Place) (tokens rest : List SourceToken) → Begins (form.keyword_at at (codes "if")) tokens rest
-      → Gives (λ it after. Stated known it tokens after) (if_rule known table at rest)
+      → Yields (λ it after. Stated known it tokens after) (if_rule known table at rest)
   if_found at tokens rest word =
       then_gives _ _ (test_found known rest) (λ test middle tested.
       then_gives _ _ (statement_gives known table found middle) (λ taken behind first.
@@ -210,7 +210,7 @@ module _ (known : Known) (table : Shorter) (found : IsFound known table) where
 
   -- after a `while`
   while_found : (at : Place) (tokens rest : List SourceToken) → Begins (form.keyword_at at (codes "while")) tokens rest
-      → Gives (λ it after. Stated known it tokens after) (while_rule known table at rest)
+      → Yields (λ it after. Stated known it tokens after) (while_rule known table at rest)
   while_found at tokens rest word =
       then_gives _ _ (test_found known rest) (λ test middle tested.
       then_gives _ _ (statement_gives known table found middle) (λ body after inside.
@@ -221,7 +221,7 @@ module _ (known : Known) (table : Shorter) (found : IsFound known table) where
 
   -- after a `do`
   do_found : (at : Place) (tokens rest : List SourceToken) → Begins (form.keyword_at at (codes "do")) tokens rest
-      → Gives (λ it after. Stated known it tokens after) (do_rule known table at rest)
+      → Yields (λ it after. Stated known it tokens after) (do_rule known table at rest)
   do_found at tokens rest word =
       then_gives _ _ (statement_gives known table found rest) (λ body middle inside.
       then_gives _ _ (word_gives (codes "while") middle) (λ place others separated.
@@ -234,7 +234,7 @@ module _ (known : Known) (table : Shorter) (found : IsFound known table) where
 
   -- after a `for`
   for_found : (at : Place) (tokens rest : List SourceToken) → Begins (form.keyword_at at (codes "for")) tokens rest
-      → Gives (λ it after. Stated known it tokens after) (for_rule known table at rest)
+      → Yields (λ it after. Stated known it tokens after) (for_rule known table at rest)
   for_found at tokens rest word =
       then_gives _ _ (controls_found known rest) (λ controls middle controlled.
       then_gives _ _ (statement_gives known table found middle) (λ body after inside.
@@ -245,7 +245,7 @@ module _ (known : Known) (table : Shorter) (found : IsFound known table) where
 
   -- after a `switch`
   switch_found : (at : Place) (tokens rest : List SourceToken) → Begins (form.keyword_at at (codes "switch")) tokens rest
-      → Gives (λ it after. Stated known it tokens after) (switch_rule known table at rest)
+      → Yields (λ it after. Stated known it tokens after) (switch_rule known table at rest)
   switch_found at tokens rest word =
       then_gives _ _ (test_found known rest) (λ test middle tested.
       then_gives _ _ (block_found middle) (λ body after inside.
@@ -256,7 +256,7 @@ module _ (known : Known) (table : Shorter) (found : IsFound known table) where
 
   -- a word and a semicolon
   ended_found : (it : Statement) (word : Form) (tokens rest : List SourceToken) → statement_form known it ≡ (word ⨾ mark (codes ";"))
-      → ends_open it ≡ false → Begins word tokens rest → Gives (λ it after. Stated known it tokens after) (ended_rule it rest)
+      → ends_open it ≡ false → Begins word tokens rest → Yields (λ it after. Stated known it tokens after) (ended_rule it rest)
   ended_found it word tokens rest is ends first =
       then_gives _ _ (mark_gives (codes ";") rest) (λ at after closing.
       some_gives it after (record {
@@ -266,14 +266,14 @@ module _ (known : Known) (table : Shorter) (found : IsFound known table) where
 
   -- after a `return`
   return_found : (at : Place) (tokens rest : List SourceToken) → Begins (form.keyword_at at (codes "return")) tokens rest
-      → Gives (λ it after. Stated known it tokens after) (return_rule known at rest)
+      → Yields (λ it after. Stated known it tokens after) (return_rule known at rest)
   return_found at tokens rest word =
       then_gives _ _ (optional_found known (codes ";") rest) (λ e after value.
       some_gives (tree.return_ at e) after (record { begins = then_begins word value; closed = λ ends. absurd cc }))
 
   -- a statement that begins with no word of its own
   plain_found : (source : SourceToken) (rest : List SourceToken)
-      → Gives (λ it after. Stated known it (source ∷ rest) after) (plain_rule known table source rest)
+      → Yields (λ it after. Stated known it (source ∷ rest) after) (plain_rule known table source rest)
   plain_found source rest =
       if_gives (is_punctuator (codes "{") source) _ _
       (λ is.
@@ -289,7 +289,7 @@ module _ (known : Known) (table : Shorter) (found : IsFound known table) where
       some_gives (tree.expression e) after (record { begins = then_begins first closing.plain; closed = λ ends. absurd cc })))))
 
   -- a statement
-  pub statement_found : (tokens : List SourceToken) → Gives (λ it rest. Stated known it tokens rest) (statement_rule known table tokens)
+  pub statement_found : (tokens : List SourceToken) → Yields (λ it rest. Stated known it tokens rest) (statement_rule known table tokens)
   statement_found [] = none_gives
   statement_found (source ∷ rest) = by_word (statement_word_of source) refl
     where
@@ -301,7 +301,7 @@ module _ (known : Known) (table : Shorter) (found : IsFound known table) where
           place_begins source rest so.0 so.1
 
       by_word : (word : Option StatementWord) → statement_word_of source ≡ word
-          → Gives (λ (it : Statement) after. Stated known it (source ∷ rest) after) (statement_by known table word source rest)
+          → Yields (λ (it : Statement) after. Stated known it (source ∷ rest) after) (statement_by known table word source rest)
       by_word (Some If) is = if_found (place_of source) (source ∷ rest) rest (begun If is)
       by_word (Some While) is = while_found (place_of source) (source ∷ rest) rest (begun While is)
       by_word (Some Do) is = do_found (place_of source) (source ∷ rest) rest (begun Do is)
@@ -318,7 +318,7 @@ module _ (known : Known) (table : Shorter) (found : IsFound known table) where
 
   -- labels
   pub labels_found : (earlier : List Labelling) (tokens : List SourceToken)
-      → Gives (λ all rest. Adds earlier all (labels_form known) tokens rest) (labels_rule known table earlier tokens)
+      → Yields (λ all rest. Adds earlier all (labels_form known) tokens rest) (labels_rule known table earlier tokens)
   labels_found earlier [] = some_gives earlier [] (none_added earlier (labels_form known) [] (nothing_begins []))
   labels_found earlier (source ∷ rest) =
       if_gives (begins_label source) _ _
@@ -329,7 +329,7 @@ module _ (known : Known) (table : Shorter) (found : IsFound known table) where
       (λ is. some_gives earlier (source ∷ rest) (none_added earlier (labels_form known) (source ∷ rest) (nothing_begins (source ∷ rest))))
 
   -- a statement with the labels in front of it
-  labelled_found : (tokens : List SourceToken) → Gives (λ it rest. Begins (labelled_form known it) tokens rest) (labelled_rule known table tokens)
+  labelled_found : (tokens : List SourceToken) → Yields (λ it rest. Begins (labelled_form known it) tokens rest) (labelled_rule known table tokens)
   labelled_found tokens =
       then_gives _ _ (labels_found [] tokens) (λ labels middle first.
       then_gives _ _ (statement_found middle) (λ it rest second.
@@ -339,7 +339,7 @@ module _ (known : Known) (table : Shorter) (found : IsFound known table) where
 
   -- labelled statements
   pub statements_found : (earlier : List OneStatement) (tokens : List SourceToken)
-      → Gives (λ all rest. Adds earlier all (λ its. statements_form known (statements_from its)) tokens rest) (statements_rule known table earlier tokens)
+      → Yields (λ all rest. Adds earlier all (λ its. statements_form known (statements_from its)) tokens rest) (statements_rule known table earlier tokens)
   statements_found earlier tokens =
       let listed : List OneStatement → Form = λ its. statements_form known (statements_from its) in
       if_gives (is_mark_ahead (codes "}") tokens) _ _

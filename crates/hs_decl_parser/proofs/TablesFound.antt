@@ -13,7 +13,7 @@ use Rattle.hs_syntax.specs.Phrases.{ends_open}
 use Rattle.hs_syntax.specs.StatementViews.{OneStatement, initialisers_from, statements_from}
 use Rattle.hs_syntax.specs.Trees.{Initialising, Declaring, Declaration, Labelling, Statement}
 use Rattle.hs_expr_parser.specs.Reading.{Known}
-use Rattle.hs_expr_parser.specs.Laws.Gives.{Gives, so_gives, always_gives}
+use Rattle.hs_expr_parser.specs.Laws.Yields.{Yields, so_gives, always_gives}
 use Rattle.hs_expr_parser.specs.Laws.Spelled.{Begins}
 use Rattle.hs_expr_parser.specs.Laws.Tables.{Grows}
 use Rattle.hs_decl_parser.specs.Found.{more_items_form, Takes, IsFound}
@@ -50,12 +50,12 @@ pub record Stated (known : Known) (it : Statement) (tokens rest : List SourceTok
 
 module _ (known : Known) (table : Shorter) (found : IsFound known table) where
   pub initialiser_gives : (tokens : List SourceToken)
-      → Gives (λ (it : Initialising) rest. Begins (initialiser_form known it) tokens rest) (table goal.initialiser tokens)
+      → Yields (λ (it : Initialising) rest. Begins (initialiser_form known it) tokens rest) (table goal.initialiser tokens)
   initialiser_gives tokens = so_gives (table goal.initialiser tokens) (always_gives (Takes known) table found goal.initialiser tokens)
       (λ tree rest it. record { front = it.0; whole = it.1; is = it.2 })
 
   pub initialisers_gives : (earlier : List Initialising) (tokens : List SourceToken)
-      → Gives (λ (all : List Initialising × Bool) rest.
+      → Yields (λ (all : List Initialising × Bool) rest.
       Grows earlier all.0 (λ its. initialisers_form known (initialisers_from its) ⨾ comma_form all.1) tokens rest)
       (table (goal.initialisers earlier) tokens)
   initialisers_gives earlier tokens = so_gives (table (goal.initialisers earlier) tokens)
@@ -68,27 +68,27 @@ module _ (known : Known) (table : Shorter) (found : IsFound known table) where
       })
 
   pub items_gives : (earlier : List Declaring) (tokens : List SourceToken)
-      → Gives (λ (all : List Declaring) rest. Adds earlier all (more_items_form known) tokens rest) (table (goal.items earlier) tokens)
+      → Yields (λ (all : List Declaring) rest. Adds earlier all (more_items_form known) tokens rest) (table (goal.items earlier) tokens)
   items_gives earlier tokens = so_gives (table (goal.items earlier) tokens) (always_gives (Takes known) table found (goal.items earlier) tokens)
       (λ all rest it. record { its = it.2.0; whole = it.2.1; begins = record { front = it.0; whole = it.1; is = it.2.2 } })
 
   pub declarations_gives : (earlier : List Declaration) (tokens : List SourceToken)
-      → Gives (λ (all : List Declaration) rest. Adds earlier all (declarations_form known) tokens rest) (table (goal.declarations earlier) tokens)
+      → Yields (λ (all : List Declaration) rest. Adds earlier all (declarations_form known) tokens rest) (table (goal.declarations earlier) tokens)
   declarations_gives earlier tokens = so_gives (table (goal.declarations earlier) tokens)
       (always_gives (Takes known) table found (goal.declarations earlier) tokens)
       (λ all rest it. record { its = it.2.0; whole = it.2.1; begins = record { front = it.0; whole = it.1; is = it.2.2 } })
 
   pub labels_gives : (earlier : List Labelling) (tokens : List SourceToken)
-      → Gives (λ (all : List Labelling) rest. Adds earlier all (labels_form known) tokens rest) (table (goal.labels earlier) tokens)
+      → Yields (λ (all : List Labelling) rest. Adds earlier all (labels_form known) tokens rest) (table (goal.labels earlier) tokens)
   labels_gives earlier tokens = so_gives (table (goal.labels earlier) tokens) (always_gives (Takes known) table found (goal.labels earlier) tokens)
       (λ all rest it. record { its = it.2.0; whole = it.2.1; begins = record { front = it.0; whole = it.1; is = it.2.2 } })
 
   pub statements_gives : (earlier : List OneStatement) (tokens : List SourceToken)
-      → Gives (λ (all : List OneStatement) rest. Adds earlier all (λ its. statements_form known (statements_from its)) tokens rest)
+      → Yields (λ (all : List OneStatement) rest. Adds earlier all (λ its. statements_form known (statements_from its)) tokens rest)
       (table (goal.statements earlier) tokens)
   statements_gives earlier tokens = so_gives (table (goal.statements earlier) tokens) (always_gives (Takes known) table found (goal.statements earlier) tokens)
       (λ all rest it. record { its = it.2.0; whole = it.2.1; begins = record { front = it.0; whole = it.1; is = it.2.2 } })
 
-  pub statement_gives : (tokens : List SourceToken) → Gives (λ (it : Statement) rest. Stated known it tokens rest) (table goal.statement tokens)
+  pub statement_gives : (tokens : List SourceToken) → Yields (λ (it : Statement) rest. Stated known it tokens rest) (table goal.statement tokens)
   statement_gives tokens = so_gives (table goal.statement tokens) (always_gives (Takes known) table found goal.statement tokens)
       (λ tree rest it. record { begins = record { front = it.0; whole = it.1; is = it.2.0 }; closed = it.2.1 })

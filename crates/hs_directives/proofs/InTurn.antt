@@ -31,7 +31,7 @@ use Rattle.hs_directives.specs.declared.error.ReadError.TheVariants.{Scan, Macro
 use Rattle.hs_directives.specs.declared.pieces.Part.{Part}
 use Rattle.hs_directives.specs.declared.section.Section.{Section}
 use Rattle.hs_directives.specs.declared.state.File.{File}
-use Rattle.hs_directives.specs.declared.state.Known.{Known}
+use Rattle.hs_directives.specs.declared.state.KnownFile.{KnownFile}
 use Rattle.hs_directives.specs.declared.state.Progress.{Progress}
 use Rattle.hs_directives.specs.declared.state.State.{State}
 use Rattle.hs_directives.specs.declared.state.UnitSoFar.{UnitSoFar}
@@ -286,7 +286,8 @@ module _ (name : List ℕ) (old : Progress) (before now : Counts)
   }
 
   -- it was read, and scanned or not
-  pub found_read : {F : Type 0} (leads : F → Read → F → Type 0) {first last : F} (text : List ℕ) (new : Progress) (result : Result Known ReadError) (answer : Result (List ℕ) FileEnd) → answer ≡ Ok text
+  pub found_read : {F : Type 0} (leads : F → Read → F → Type 0) {first last : F} (text : List ℕ) (new : Progress)
+      (result : Result KnownFile ReadError) (answer : Result (List ℕ) FileEnd) → answer ≡ Ok text
       → leads first (text_read name answer before now) last → nat_lt 4194304 (length text) ≡ false
       → Gives (found_of new) (scanned_file name text old (scan_of (length old.files) old.room text)) result
       → ReadsInTurn leads first last old.files new.files (λ listing. found_file listing name old) result
@@ -358,7 +359,8 @@ module _ (name : List ℕ) (old : Progress) (before now : Counts)
   refuses_unread listing end (IncludeDepth pos) fails fits = absurd fails
   refuses_unread listing end (BadCondition pos) fails fits = absurd fails
 
-  pub found_unread : {F : Type 0} {leads : F → Read → F → Type 0} {first last : F} (end : FileEnd) (error : ReadError) → leads first (text_read name (Err end) before now) last → FailsAs name end error
+  pub found_unread : {F : Type 0} {leads : F → Read → F → Type 0} {first last : F} (end : FileEnd) (error : ReadError)
+      → leads first (text_read name (Err end) before now) last → FailsAs name end error
       → WasRefused leads first last old.files (λ listing. found_file listing name old) error
   found_unread {last = last} end error led fails = record {
     reads = text_read name (Err end) before now ∷ [];
@@ -371,7 +373,7 @@ module _ (name : List ℕ) (old : Progress) (before now : Counts)
 -- the same of the bytes that a read gave
 pub found_text : {F : Type 0} {leads : F → Read → F → Type 0} {first last : F} {before now : Counts} (name : List ℕ) (old : Progress)
     → known_from 0 name old.files ≡ None → nat_le 256 (length old.files) ≡ false
-    → (text : Vec ℕ Global) (new : Progress) (result : Result Known ReadError) → nat_lt 4194304 (length text.items) ≡ false
+    → (text : Vec ℕ Global) (new : Progress) (result : Result KnownFile ReadError) → nat_lt 4194304 (length text.items) ≡ false
     → IsText leads first last name before now (Ok text)
     → Gives (found_of new) (scanned_file name text.items old (scan_of (length old.files) old.room text.items)) result
     → ReadsInTurn leads first last old.files new.files (λ listing. found_file listing name old) result
@@ -512,7 +514,7 @@ unit_file_step leads first name progress =
 
 -- and what is left after that with its walk
 pub unit_walk_step : {F : Type 0} {leads : F → Read → F → Type 0} {first mid : F}
-    (name : List ℕ) (progress progress' : Progress) (known : Known) (unit : UnitSoFar)
+    (name : List ℕ) (progress progress' : Progress) (known : KnownFile) (unit : UnitSoFar)
     → WasRead leads first mid progress.files progress'.files (λ listing. unit_of listing name progress) → unit ≡ fresh
     → ((listing : Listing) → Agrees listing progress'.files → found_file listing name progress ≡ Ok (found_of progress' known))
     → Step leads first mid progress.files progress'.files (λ listing. unit_of listing name progress)

@@ -13,7 +13,7 @@ use Rattle.hs_directives.specs.Readings.{Agrees, listing_of, Grows, IsReading, f
 use Rattle.hs_directives.specs.States.{known_from, known_file, found_file, listed_file, scanned_file, passed, Found}
 use Rattle.hs_directives.specs.declared.error.ReadError.{ReadError}
 use Rattle.hs_directives.specs.declared.state.File.{File}
-use Rattle.hs_directives.specs.declared.state.Known.{Known}
+use Rattle.hs_directives.specs.declared.state.KnownFile.{KnownFile}
 use Rattle.hs_directives.specs.declared.state.Progress.{Progress}
 
 -- one more file that is listed
@@ -84,7 +84,7 @@ scanned name text progress tokens = record {
 }
 
 -- the file that was scanned
-pub scan-file : (name text : List ℕ) (old new : Progress) (known : Known) (outcome : Result (List Token) ScanError)
+pub scan-file : (name text : List ℕ) (old new : Progress) (known : KnownFile) (outcome : Result (List Token) ScanError)
     → scanned_file name text old outcome ≡ Ok (found_of new known)
     → (tokens : List Token) × (new.files ≡ old.files ++ record { name = name; text = text; tokens = tokens } ∷ [])
 scan-file name text old new known (Err end) is = absurd cc
@@ -102,7 +102,7 @@ found-listed listing name text old none few within is =
     ∙ ap (λ (long : Bool). if long then Err (passed FileBytes) else scanned_file name text old (scan_of (length old.files) old.room text)) within
 
 -- a file that was read and scanned
-pub found_scanned : (name text : List ℕ) (old new : Progress) (result : Result Known ReadError)
+pub found_scanned : (name text : List ℕ) (old new : Progress) (result : Result KnownFile ReadError)
     → known_from 0 name old.files ≡ None → nat_le 256 (length old.files) ≡ false → nat_lt 4194304 (length text) ≡ false
     → bytes_eq name name ≡ true
     → Gives (found_of new) (scanned_file name text old (scan_of (length old.files) old.room text)) result

@@ -6,7 +6,7 @@ use Rattle.hs_directives.specs.States.{Found, and_then, found_file}
 use Rattle.hs_directives.specs.Readings.{IsReading, found_of, unit_by}
 use Rattle.hs_directives.specs.Preprocessing.{entered, walked, most_levels, fresh, unit_read, unit_of, UnitRead, Units, with_unit, units_of}
 use Rattle.hs_directives.specs.declared.state.File.{File}
-use Rattle.hs_directives.specs.declared.state.Known.{Known}
+use Rattle.hs_directives.specs.declared.state.KnownFile.{KnownFile}
 use Rattle.hs_directives.specs.declared.state.Progress.{Progress}
 use Rattle.hs_directives.specs.declared.state.UnitSoFar.{UnitSoFar}
 use Rattle.hs_directives.specs.declared.state.State.{State}
@@ -21,16 +21,16 @@ unit_behind unit listing it =
     (λ state. Ok (unit_read it.number state))
 
 -- a root file that was found and walked
-pub unit_reached : (name : List ℕ) (progress progress' : Progress) (known : Known) (unit unit' : UnitSoFar) (state : State)
+pub unit_reached : (name : List ℕ) (progress progress' : Progress) (known : KnownFile) (unit unit' : UnitSoFar) (state : State)
     → unit ≡ fresh → unit' ≡ state.unit
-    → IsReading {A = Known} progress.files progress'.files (found_of progress') (λ listing. found_file listing name progress) (Ok known)
+    → IsReading {A = KnownFile} progress.files progress'.files (found_of progress') (λ listing. found_file listing name progress) (Ok known)
     → IsReading {A = Unit {0}} progress'.files state.progress.files (λ _. state)
     (λ listing. walked (entered most_levels listing) None (pieces known.tokens) [] (record { progress = progress'; unit = unit })) (Ok tt)
     → IsReading progress.files state.progress.files (unit_by state.progress) (λ listing. unit_of listing name progress)
     (Ok (record { root = known.number; tokens = unit'.tokens; changes = unit'.changes }))
 unit_reached name progress progress' known unit unit' state new put found walk =
     let outcome : Listing → Result _ ReadError = λ listing. unit_of listing name progress in
-    let first = reached_on {A = Known} progress.files progress.files progress'.files outcome (found_of progress')
+    let first = reached_on {A = KnownFile} progress.files progress.files progress'.files outcome (found_of progress')
     (λ listing. found_file listing name progress) (unit_behind fresh) known (reached_none progress.files outcome) found in
     let walk' = subst (λ unit''. IsReading {A = Unit {0}} progress'.files state.progress.files (λ _. state)
     (λ listing. walked (entered most_levels listing) None (pieces known.tokens) [] (record { progress = progress'; unit = unit'' })) (Ok tt)) new walk in

@@ -20,7 +20,7 @@ use Rattle.hs_directives.specs.States.{and_then, Found, found_file}
 use Rattle.hs_directives.specs.declared.error.ReadError.{ReadError}
 use Rattle.hs_directives.specs.declared.error.ReadError.TheVariants.{Missing, ReadFault, IncludeDepth, Limit, NoMemory}
 use Rattle.hs_directives.specs.declared.state.File.{File}
-use Rattle.hs_directives.specs.declared.state.Known.{Known}
+use Rattle.hs_directives.specs.declared.state.KnownFile.{KnownFile}
 use Rattle.hs_directives.specs.declared.state.Progress.{Progress}
 use Rattle.hs_directives.specs.declared.state.State.{State}
 use Rattle.hs_directives.specs.declared.unit.TranslationUnit.{TranslationUnit}
@@ -48,7 +48,7 @@ IsReading old new view outcome (Ok value) = Grows old new × ((listing : Listing
 IsReading old new view outcome (Err error) = Unit {0}
 
 -- a file that is known, in what reading has come to
-abbrev pub found_of : Progress → Known → Found
+abbrev pub found_of : Progress → KnownFile → Found
 found_of progress known = record { number = known.number; tokens = known.tokens; progress = progress }
 
 -- a read of the named file that ended so, as a refusal

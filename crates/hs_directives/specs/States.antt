@@ -20,7 +20,7 @@ use Rattle.hs_directives.specs.declared.error.ReadError.TheVariants.{Scan, Macro
 use Rattle.hs_directives.specs.declared.error.ScanKind.TheVariants.{BadByte, OpenComment, OpenString}
 use Rattle.hs_directives.specs.declared.error.MacroKind.TheVariants.{BadMacro, ArgCount}
 use Rattle.hs_directives.specs.declared.state.File.{File}
-use Rattle.hs_directives.specs.declared.state.Known.{Known}
+use Rattle.hs_directives.specs.declared.state.KnownFile.{KnownFile}
 use Rattle.hs_directives.specs.declared.state.Progress.{Progress}
 
 -- one after another, up to the first refusal
@@ -55,7 +55,7 @@ of_replacement (macro.Limit limit) = Limit limit
 of_replacement macro.NoMemory = NoMemory
 
 -- the file of that name among files that are numbered from there on, if it is there
-abbrev pub known_from : ℕ → List ℕ → List File → Option Known
+abbrev pub known_from : ℕ → List ℕ → List File → Option KnownFile
 known_from number name [] = None
 known_from number name (file ∷ files) =
     if bytes_eq file.name name then Some (record { number = number; tokens = file.tokens }) else known_from (suc number) name files
@@ -86,7 +86,7 @@ listed_file name progress (Some text) =
     else scanned_file name text progress (scan_of (length progress.files) progress.room text)
 
 -- a file that was read before or not
-abbrev pub known_file : Listing → List ℕ → Progress → Option Known → Result Found ReadError
+abbrev pub known_file : Listing → List ℕ → Progress → Option KnownFile → Result Found ReadError
 known_file listing name progress (Some known) = Ok (record { number = known.number; tokens = known.tokens; progress = progress })
 known_file listing name progress None =
     if nat_le (number_of Files) (length progress.files) then Err (passed Files) else listed_file name progress (file_of listing name)

@@ -10,12 +10,12 @@ ghost use Rattle.hs_directives.specs.Preprocessing.{run_done, directive_done};
 ghost use Rattle.hs_directives.specs.Ahead.{turn_of, piece_of, IsInclusion, IsInclusionOf, piece_outcome};
 ghost use Rattle.hs_directives.specs.Outcomes.{Gives};
 
-use crate::changing::{define_done, undef_done};
+use crate::conditionals::{elif_done, else_done, endif_done, if_done};
+use crate::define::{define_done, undef_done};
 use crate::error::ReadError;
-use crate::grouping::{elif_done, else_done, endif_done, if_done};
 use crate::keyword::{Keyword, keyword_of};
+use crate::open_sections::OpenSections;
 use crate::pieces::Part;
-use crate::sections::Sections;
 use crate::state::State;
 use crate::text::text_done;
 use hs_base::Pos;
@@ -25,7 +25,7 @@ use std::alloc::Global;
 /// A run of text, if it is kept.
 pub(crate) fn run_done(
     tokens: &[Token],
-    sections: &Sections,
+    sections: &OpenSections,
     state: &mut State,
 ) -> Result<(), ReadError>
     ensures gives { (enter : Option Pos → Token → List ℕ → State → Result State ReadError)
@@ -66,7 +66,7 @@ pub(crate) fn directive_done(
     keyword: Keyword,
     hash: &Token,
     line: &[Token],
-    sections: &mut Sections,
+    sections: &mut OpenSections,
     state: &mut State,
 ) -> Result<(), ReadError>
     requires { IsInclusion keyword sections.old → ⊥ }
@@ -97,7 +97,10 @@ fn operands(line: &[Token]) -> &[Token]
 }
 
 /// The `#` of a directive that includes a file here, and the tokens after its keyword.
-pub(crate) fn inclusion<'a>(part: Part<'a>, sections: &Sections) -> Option<(&'a Token, &'a [Token])>
+pub(crate) fn inclusion<'a>(
+    part: Part<'a>,
+    sections: &OpenSections,
+) -> Option<(&'a Token, &'a [Token])>
     ensures { IsInclusionOf part.entry sections.now result }
 {
     match part {
@@ -114,7 +117,7 @@ pub(crate) fn piece_done(
     alloc: Global,
     outer: Option<Pos>,
     part: Part<'_>,
-    sections: &mut Sections,
+    sections: &mut OpenSections,
     state: &mut State,
 ) -> Result<(), ReadError>
     requires { IsInclusionOf part sections.old None }

@@ -2,7 +2,7 @@
 
 ghost use Rattle.std.specs.Prelude.{◌≡◌, ◌∷◌, [], ◌++◌, ◌<◌, ◌≤◌, List, length, IfOk, OnOk};
 
-use crate::state::{File, Known};
+use crate::state::{File, KnownFile};
 use std::alloc::{AllocError, Global};
 use std::marker::Model;
 
@@ -44,14 +44,14 @@ impl FilesRead {
     }
 
     /// The file of that name, if it was read.
-    pub(crate) fn known(&self, name: &[u8]) -> Result<Option<Known>, AllocError>
+    pub(crate) fn known(&self, name: &[u8]) -> Result<Option<KnownFile>, AllocError>
         ensures { IfOk result (λ known. known ≡ known_from 0 name.now self.now) }
     {
         let mut number = 0;
         let mut rest = self.vec.as_slice();
         'files: while let Some((file, behind)) = rest.split_first() {
             if file.name.items() == name {
-                return Ok(Some(Known {
+                return Ok(Some(KnownFile {
                     number,
                     tokens: file.tokens.shared()?,
                 }));

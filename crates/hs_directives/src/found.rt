@@ -13,7 +13,7 @@ ghost use Rattle.hs_directives.specs.Reads.{ReadsInTurn};
 
 use crate::error::{ReadError, ScanKind};
 use crate::file_tokens::FileTokens;
-use crate::state::{File, Known, Progress};
+use crate::state::{File, KnownFile, Progress};
 use hs_base::{Bytes, FileEnd, Files, LimitKind};
 use hs_tokens::{ScanError, scan};
 use std::alloc::{AllocError, Global};
@@ -71,7 +71,7 @@ fn scanned_file(
     name: &str,
     text: Vec<u8>,
     progress: &mut Progress,
-) -> Result<Known, ReadError>
+) -> Result<KnownFile, ReadError>
     requires few { length progress.old.files < 256 }
     requires within { length text.items ≤ 4194304 }
     ensures { Gives (found_of progress.new) (scanned_file name.now text.items progress.old
@@ -90,7 +90,7 @@ fn scanned_file(
         tokens: tokens.shared()?,
     })?;
     progress.room = room;
-    Ok(Known { number, tokens })
+    Ok(KnownFile { number, tokens })
 }
 
 /// The file of that name: read and scanned at its first mention.
@@ -99,7 +99,7 @@ pub(crate) fn found_file<F: Files>(
     files: &mut F,
     name: &str,
     progress: &mut Progress,
-) -> Result<Known, ReadError>
+) -> Result<KnownFile, ReadError>
     ensures listing_stays { F.listing files.new ≡ F.listing files.old }
     ensures counts_stay_up { NeverFall (F.counts files.old) (F.counts files.new) }
     ensures means { IsReading progress.old.files progress.new.files

@@ -2,23 +2,23 @@
 //! definition, a function from a listing of files; each file is read once and scanned once.
 #![tactic(auto)]
 
-mod changes;
-mod changing;
 mod condition;
+mod conditionals;
+mod define;
 mod directive;
 mod entry;
 mod error;
 mod file_tokens;
 mod files_read;
 mod found;
-mod grouping;
 mod include;
 mod included;
 mod keyword;
 mod lists;
+mod macro_changes;
+mod open_sections;
 mod pieces;
 mod section;
-mod sections;
 mod source;
 mod sources;
 mod state;
@@ -26,8 +26,8 @@ mod text;
 mod unit;
 mod walk;
 
-pub use changes::{MacroChanges, UnitChanges};
 pub use error::{MacroKind, ReadError, ScanKind};
 pub use lists::{FileNumbers, SourceTokens, Texts, UnitTokens};
+pub use macro_changes::{MacroChanges, UnitChanges};
 pub use source::{MacroChange, Source};
 pub use sources::preprocess;

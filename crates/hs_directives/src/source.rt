@@ -1,7 +1,7 @@
 //! What the named files and their headers were read as.
 
-use crate::changes::UnitChanges;
 use crate::lists::{FileNumbers, Texts, UnitTokens};
+use crate::macro_changes::UnitChanges;
 use hs_base::{Bytes, Pos};
 
 /// A `#define` or `#undef` that was reached.

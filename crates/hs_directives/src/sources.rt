@@ -8,11 +8,11 @@ ghost use Rattle.hs_directives.specs.Preprocessing.{fresh, start, units_of, sour
 ghost use Rattle.hs_directives.specs.Readings.{IsReading, units_by};
 ghost use Rattle.hs_directives.specs.Reads.{ReadsInTurn, IsReadThrough};
 
-use crate::changes::UnitChanges;
 use crate::error::ReadError;
 use crate::files_read::FilesRead;
 use crate::included::Included;
 use crate::lists::{FileNumbers, Texts, UnitTokens};
+use crate::macro_changes::UnitChanges;
 use crate::source::Source;
 use crate::state::{File, Progress, State};
 use crate::unit::{TranslationUnit, fresh, unit_of};

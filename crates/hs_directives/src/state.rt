@@ -1,10 +1,10 @@
 //! What reading has come to.
 
-use crate::changes::MacroChanges;
 use crate::file_tokens::FileTokens;
 use crate::files_read::FilesRead;
 use crate::included::Included;
 use crate::lists::SourceTokens;
+use crate::macro_changes::MacroChanges;
 use hs_base::Bytes;
 use hs_macros::{Budget, Macros};
 
@@ -18,7 +18,7 @@ pub(crate) struct File {
 
 /// A file that was read before: its number and its tokens.
 #[derive(Drop)]
-pub(crate) struct Known {
+pub(crate) struct KnownFile {
     pub(crate) number: u16,
     pub(crate) tokens: FileTokens,
 }

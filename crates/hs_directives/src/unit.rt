@@ -7,10 +7,10 @@ ghost use Rattle.hs_directives.specs.Preprocessing.{fresh, unit_of};
 ghost use Rattle.hs_directives.specs.Readings.{IsReading, unit_by};
 ghost use Rattle.hs_directives.specs.Reads.{ReadsInTurn};
 
-use crate::changes::MacroChanges;
 use crate::error::ReadError;
 use crate::found::found_file;
 use crate::lists::SourceTokens;
+use crate::macro_changes::MacroChanges;
 use crate::state::{State, UnitSoFar};
 use crate::walk::walk;
 use hs_base::{Files, NoMemory};

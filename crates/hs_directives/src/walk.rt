@@ -8,13 +8,13 @@ ghost use Rattle.hs_directives.specs.Readings.{IsReading};
 ghost use Rattle.hs_directives.specs.Reads.{ReadsInTurn};
 ghost use Rattle.std.specs.Prelude.{◌≡◌, []};
 
-use crate::changing::place_of;
+use crate::define::place_of;
 use crate::directive::{inclusion, piece_done};
 use crate::entry::entry;
 use crate::error::ReadError;
 use crate::file_tokens::FileTokens;
+use crate::open_sections::OpenSections;
 use crate::pieces::first_piece;
-use crate::sections::Sections;
 use crate::state::State;
 use hs_base::{Files, Pos};
 use std::alloc::Global;
@@ -36,7 +36,7 @@ pub(crate) fn walk<F: Files>(
     ensures reads { ReadsInTurn (Makes F.leads_to F.listing F.counts) files.old files.new state.old.progress.files state.new.progress.files
         (λ listing. walked (entered levels listing) outer (pieces file.now) [] state.old) result }
 {
-    let mut sections = Sections::new(alloc);
+    let mut sections = OpenSections::new(alloc);
     let mut rest = file.items();
     'pieces: while let Some((part, behind)) = first_piece(rest) {
         if let Some((hash, line)) = inclusion(part, &sections) {

@@ -6,7 +6,7 @@ use Rattle.hs_tokens.specs.Marks.{is_same_kind}
 use Rattle.hs_tokens.specs.declared.token.SourceToken.{SourceToken}
 use Rattle.hs_tokens.specs.declared.token.TokenKind.TheVariants.{Identifier, Punctuator}
 use Rattle.hs_syntax.specs.Names.{is_name, is_type_name}
-use Rattle.hs_syntax.specs.Operators.{level_of}
+use Rattle.hs_syntax.specs.Operators.{precedence_of}
 use Rattle.hs_syntax.specs.Phrases.{rank, is_type, is_named}
 use Rattle.hs_syntax.specs.RowViews.{OneLeft, one_left, OneMember, one_member, OneConstant, plain_one, valued_one, OneParameter, one_parameter, expressions_from, specification_from, members_from, constants_from, declarators_from, parameters_from}
 use Rattle.hs_syntax.specs.Trees as tree
@@ -112,26 +112,26 @@ binary_step known least tokens = refl
 climb_step : (known : Known) (least most : ℕ) (left : Expression) (tokens : List SourceToken)
     → climb_at known least most left tokens
     ≡ going_on (infix_at known least most tokens)
-    (λ it rest. climb_at known least (level_of it.operator) (tree.binary left it.operator it.at it.right) rest) (Some (left, tokens))
+    (λ it rest. climb_at known least (precedence_of it.operator) (tree.binary left it.operator it.at it.right) rest) (Some (left, tokens))
 unfolding climb_at infix_at
 climb_step known least most left tokens =
     λ i. going_on (operand_rule (reading known) least most tokens)
-    (λ it rest. round known i (goal.climb least (level_of it.operator) (tree.binary left it.operator it.at it.right)) rest) (Some (left, tokens))
+    (λ it rest. round known i (goal.climb least (precedence_of it.operator) (tree.binary left it.operator it.at it.right)) rest) (Some (left, tokens))
 
 -- one more operator, or none
 pub climb_more : (known : Known) (least most : ℕ) (left : Expression) (tokens : List SourceToken) (it : Operand) (rest : List SourceToken)
     → infix_at known least most tokens ≡ Some (it, rest)
-    → climb_at known least most left tokens ≡ climb_at known least (level_of it.operator) (tree.binary left it.operator it.at it.right) rest
+    → climb_at known least most left tokens ≡ climb_at known least (precedence_of it.operator) (tree.binary left it.operator it.at it.right) rest
 climb_more known least most left tokens it rest is =
     climb_step known least most left tokens
-    ∙ ap (λ found. going_on found (λ it rest. climb_at known least (level_of it.operator) (tree.binary left it.operator it.at it.right) rest)
+    ∙ ap (λ found. going_on found (λ it rest. climb_at known least (precedence_of it.operator) (tree.binary left it.operator it.at it.right) rest)
     (Some (left, tokens))) is
 
 pub climb_end : (known : Known) (least most : ℕ) (left : Expression) (tokens : List SourceToken)
     → infix_at known least most tokens ≡ None → climb_at known least most left tokens ≡ Some (left, tokens)
 climb_end known least most left tokens is =
     climb_step known least most left tokens
-    ∙ ap (λ found. going_on found (λ it rest. climb_at known least (level_of it.operator) (tree.binary left it.operator it.at it.right) rest)
+    ∙ ap (λ found. going_on found (λ it rest. climb_at known least (precedence_of it.operator) (tree.binary left it.operator it.at it.right) rest)
     (Some (left, tokens))) is
 
 pub infix_nothing : (known : Known) (least most : ℕ) → infix_at known least most [] ≡ None
@@ -140,19 +140,19 @@ infix_nothing known least most = refl
 
 infix_found : (known : Known) (least most : ℕ) (found : Option BinaryOperator) (source : SourceToken) (rest : List SourceToken)
     → operand_by (reading known) least most found (place_of source) rest
-    ≡ (found >>= (λ operator. if nat_le least (level_of operator) && nat_le (level_of operator) most
-    then (binary_at known (suc (level_of operator)) rest >>= (λ e. Some (record { operator = operator; at = place_of source; right = e.0 }, e.1))) else None))
+    ≡ (found >>= (λ operator. if nat_le least (precedence_of operator) && nat_le (precedence_of operator) most
+    then (binary_at known (suc (precedence_of operator)) rest >>= (λ e. Some (record { operator = operator; at = place_of source; right = e.0 }, e.1))) else None))
 unfolding binary_at
 infix_found known least most None source rest = refl
 infix_found known least most (Some operator) source rest =
     let more : Expression × List SourceToken → Read Operand = λ e. Some (record { operator = operator; at = place_of source; right = e.0 }, e.1) in
-    λ i. if nat_le least (level_of operator) && nat_le (level_of operator) most
-    then (round known i (goal.binary (suc (level_of operator))) rest >>= more) else None
+    λ i. if nat_le least (precedence_of operator) && nat_le (precedence_of operator) most
+    then (round known i (goal.binary (suc (precedence_of operator))) rest >>= more) else None
 
 pub infix_step : (known : Known) (least most : ℕ) (source : SourceToken) (rest : List SourceToken)
     → infix_at known least most (source ∷ rest)
-    ≡ (binary_of source >>= (λ operator. if nat_le least (level_of operator) && nat_le (level_of operator) most
-    then (binary_at known (suc (level_of operator)) rest >>= (λ e. Some (record { operator = operator; at = place_of source; right = e.0 }, e.1))) else None))
+    ≡ (binary_of source >>= (λ operator. if nat_le least (precedence_of operator) && nat_le (precedence_of operator) most
+    then (binary_at known (suc (precedence_of operator)) rest >>= (λ e. Some (record { operator = operator; at = place_of source; right = e.0 }, e.1))) else None))
 unfolding infix_at
 infix_step known least most source rest = infix_found known least most (binary_of source) source rest
 

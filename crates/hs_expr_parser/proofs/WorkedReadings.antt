@@ -130,7 +130,7 @@ groups_left : read (a ∷ minus ∷ b ∷ minus ∷ c ∷ []) ≡ Some (binary (
 unfolding reading keywords specifier_words
 groups_left = refl
 
--- `a + b * c` and `a * b + c` by their levels
+-- `a + b * c` and `a * b + c` by their precedences
 product_last : read (a ∷ plus ∷ b ∷ star ∷ c ∷ []) ≡ Some (binary a_read Add (binary b_read Multiply c_read), [])
 unfolding reading keywords specifier_words
 product_last = refl

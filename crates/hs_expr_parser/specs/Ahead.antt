@@ -13,7 +13,7 @@ use Rattle.hs_tokens.specs.declared.token.SourceToken.{SourceToken}
 use Rattle.hs_tokens.specs.declared.token.TokenKind.{TokenKind}
 use Rattle.hs_tokens.specs.declared.token.TokenKind.TheVariants.{Identifier, Literal, Punctuator}
 use Rattle.hs_syntax.specs.Names.{is_among, is_name, is_type_name}
-use Rattle.hs_syntax.specs.Operators.{binary_text, level_of, assign_text, prefix_text, postfix_text, access_text, storage_text, dropped_text, basic_text}
+use Rattle.hs_syntax.specs.Operators.{binary_text, precedence_of, assign_text, prefix_text, postfix_text, access_text, storage_text, dropped_text, basic_text}
 use Rattle.hs_syntax.specs.Phrases.{specifier_words}
 use Rattle.hs_syntax.specs.declared.operators.Access.{Access}
 use Rattle.hs_syntax.specs.declared.operators.Access.TheVariants as access
@@ -184,7 +184,7 @@ postfix_marks = codes "[" ∷ codes "(" ∷ codes "." ∷ codes "->" ∷ codes "
 -- of postfix expressions, 3 to 12 for the binary operators, 2 for `?`, 1 for the operators of assignments and 0 for a comma.
 abbrev pub joins_by : Bool → Option BinaryOperator → Option AssignOperator → SourceToken → Option ℕ
 joins_by true operator assigned source = Some 15
-joins_by false (Some operator) assigned source = Some (2 + level_of operator)
+joins_by false (Some operator) assigned source = Some (2 + precedence_of operator)
 joins_by false None (Some operator) source = Some 1
 joins_by false None None source =
     if is_punctuator (codes "?") source then Some 2 else if is_punctuator (codes ",") source then Some 0 else None

@@ -6,7 +6,7 @@ use Rattle.hs_syntax.specs.RowViews.{OneLeft, OneMember, OneConstant, OneParamet
 use Rattle.hs_syntax.specs.Trees.{Expression, NamedType, Specified, Declared, Directly}
 
 pub data Goal : Type 0 where
-  -- expressions: an `expression`, an `assignment`, a `conditional`, one of binary operators of at least that level, a `cast`, a `unary`
+  -- expressions: an `expression`, an `assignment`, a `conditional`, one of binary operators of at least that precedence, a `cast`, a `unary`
   expression : Goal
   assignment : Goal
   conditional : Goal
@@ -15,7 +15,7 @@ pub data Goal : Type 0 where
   unary : Goal
   -- the rest of an expression after its commas so far and the last operand
   commas : List OneLeft → Expression → Goal
-  -- the rest after a left operand: operators of at least the first level and at most the second
+  -- the rest after a left operand: operators of at least the first precedence and at most the second
   climb : ℕ → ℕ → Expression → Goal
   -- the rest of a postfix expression
   suffixes : Expression → Goal

@@ -14,7 +14,7 @@ pub mod ExpressionsFound
 pub mod Fails
 pub mod FirstTokens
 pub mod Firsts
-pub mod Gives
+pub mod Yields
 pub mod MembersRead
 pub mod Operations
 pub mod Phrases

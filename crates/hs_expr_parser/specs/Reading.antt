@@ -10,7 +10,7 @@ use Rattle.hs_tokens.specs.declared.token.SourceToken.{SourceToken}
 use Rattle.hs_tokens.specs.declared.token.TokenKind.{TokenKind}
 use Rattle.hs_tokens.specs.declared.token.TokenKind.TheVariants.{Identifier, Number, Character, Literal, Punctuator}
 use Rattle.hs_syntax.specs.Names.{is_among, is_name, is_type_name}
-use Rattle.hs_syntax.specs.Operators.{level_of}
+use Rattle.hs_syntax.specs.Operators.{precedence_of}
 use Rattle.hs_syntax.specs.Phrases.{rank, is_type, is_named, is_empty}
 use Rattle.hs_syntax.specs.RowViews.{OneLeft, one_left, OneMember, one_member, OneConstant, plain_one, valued_one, OneParameter, one_parameter, expressions_from, lefts_from, specification_from, members_from, constants_from, declarators_from, parameters_from}
 use Rattle.hs_syntax.specs.Trees as tree
@@ -167,21 +167,21 @@ pub record Operand : Type 0 where
 abbrev pub operand_by : Shorter → ℕ → ℕ → Option BinaryOperator → Place → List SourceToken → Read Operand
 operand_by table least most None at rest = None
 operand_by table least most (Some operator) at rest =
-    if nat_le least (level_of operator) && nat_le (level_of operator) most then (do
-      e ← table (goal.binary (suc (level_of operator))) rest
+    if nat_le least (precedence_of operator) && nat_le (precedence_of operator) most then (do
+      e ← table (goal.binary (suc (precedence_of operator))) rest
       Some (record { operator = operator; at = at; right = e.0 }, e.1))
     else None
 
--- an operator of at least that level and at most the other, with its right operand
+-- an operator of at least that precedence and at most the other, with its right operand
 abbrev pub operand_rule : Shorter → ℕ → ℕ → List SourceToken → Read Operand
 operand_rule table least most [] = None
 operand_rule table least most (source ∷ rest) = operand_by table least most (binary_of source) (place_of source) rest
 
--- After an operator of some level no tighter one follows: its right operand would have taken it.
+-- After an operator of some precedence no tighter one follows: its right operand would have taken it.
 abbrev pub climb_rule : Shorter → ℕ → ℕ → Expression → List SourceToken → Read Expression
 climb_rule table least most left tokens =
     going_on (operand_rule table least most tokens)
-    (λ it rest. table (goal.climb least (level_of it.operator) (tree.binary left it.operator it.at it.right)) rest) (Some (left, tokens))
+    (λ it rest. table (goal.climb least (precedence_of it.operator) (tree.binary left it.operator it.at it.right)) rest) (Some (left, tokens))
 
 abbrev pub binary_rule : Known → Shorter → ℕ → List SourceToken → Read Expression
 binary_rule known table least tokens = do

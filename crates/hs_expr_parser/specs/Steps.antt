@@ -23,7 +23,7 @@ assignment_at known tokens = assignment_rule known (reading known) tokens
 unfoldable pub conditional_at : Known → List SourceToken → Read Expression
 conditional_at known tokens = conditional_rule known (reading known) tokens
 
--- operands of operators of at least that level
+-- operands of operators of at least that precedence
 unfoldable pub binary_at : Known → ℕ → List SourceToken → Read Expression
 binary_at known least tokens = binary_rule known (reading known) least tokens
 

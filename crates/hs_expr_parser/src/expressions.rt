@@ -19,7 +19,7 @@ use hs_syntax::{AssignOperator, BinaryOperator, Expr, Left, Place};
 use hs_tokens::SourceToken;
 use std::alloc::Global;
 
-/// The tightest level of binary operators (X3.159-1989 3.3.5).
+/// The tightest precedence of binary operators (X3.159-1989 3.3.5).
 const TIGHTEST: u8 = 10;
 
 /// A comma and its right operand (X3.159-1989 3.3.17).
@@ -231,8 +231,8 @@ fn branches<'a>(
     Ok(((at, then, otherwise), rest))
 }
 
-/// Reads operands of binary operators that bind at that level or more tightly (X3.159-1989 3.3.5 to 3.3.14). They
-/// group to the left: after an operator of some level no tighter one follows, since its right operand would have
+/// Reads operands of binary operators that bind at that precedence or more tightly (X3.159-1989 3.3.5 to 3.3.14). They
+/// group to the left: after an operator of some precedence no tighter one follows, since its right operand would have
 /// taken it.
 ///
 /// `binary = cast { binary-operator cast }`
@@ -260,7 +260,7 @@ fn binary<'a>(
                     at: it.at,
                     right: Box::new(alloc, it.right)?,
                 };
-                most = it.operator.level();
+                most = it.operator.precedence();
                 rest = next;
             }
             Err(ParseEnd::NotExpr) => return Ok((left, rest)),
@@ -269,11 +269,11 @@ fn binary<'a>(
     }
 }
 
-/// Reads a binary operator of at least the first level and at most the second, and its right operand.
+/// Reads a binary operator of at least the first precedence and at most the second, and its right operand.
 ///
 /// `binary-operator binary`
 #[cycle(read)]
-#[tactic(auto, using(crate::proofs::Stepping::infix_step, crate::proofs::Stepping::infix_nothing, crate::specs::Laws::Ranks::level_most))]
+#[tactic(auto, using(crate::proofs::Stepping::infix_step, crate::proofs::Stepping::infix_nothing, crate::specs::Laws::Ranks::precedence_most))]
 fn infix<'a>(
     alloc: Global,
     known: &TypeNames,
@@ -291,11 +291,11 @@ fn infix<'a>(
     let Some(operator) = binary_of(source) else {
         return Err(ParseEnd::NotExpr);
     };
-    let level = operator.level();
-    if !(least <= level && level <= most) {
+    let precedence = operator.precedence();
+    if !(least <= precedence && precedence <= most) {
         return Err(ParseEnd::NotExpr);
     }
-    let (right, rest) = binary(alloc, known, level + 1, behind)?;
+    let (right, rest) = binary(alloc, known, precedence + 1, behind)?;
     Ok((
         Operand {
             operator,

@@ -14,13 +14,13 @@ use Rattle.hs_macros.specs.Replacement.{Invocation, Found, stays, wrong, invoked
 use Rattle.hs_macros.specs.Loads.{load, held_of_found}
 use Rattle.hs_macros.specs.ExpandedLaws.{spent_tokens, expanded-none, expanded-token}
 use Rattle.hs_macros.specs.Stacks.{hidden, done, ahead, argument, ready, waiting, invocation}
-use Rattle.hs_macros.specs.Levels.{level_outcome, call_outcome, after_argument, resumed, with_sources, IsStep, weight_of, weights, weight}
+use Rattle.hs_macros.specs.Frames.{frame_outcome, call_outcome, after_argument, resumed, with_sources, IsStep, weight_of, weights, weight}
 use Rattle.hs_macros.specs.declared.arguments.Supplied.{Supplied}
 use Rattle.hs_macros.specs.declared.budget.Budget.{Budget}
 use Rattle.hs_macros.specs.declared.call.Call.{Call}
 use Rattle.hs_macros.specs.declared.error.MacroError.{MacroError}
 use Rattle.hs_macros.specs.declared.error.MacroError.TheVariants.{ArgCount, NoMemory}
-use Rattle.hs_macros.specs.declared.expansion.Level.{Level}
+use Rattle.hs_macros.specs.declared.expansion.Frame.{Frame}
 use Rattle.hs_macros.specs.declared.expansion.Suspended.{Suspended}
 use Rattle.hs_macros.specs.declared.pending.Pending.{Pending}
 
@@ -83,13 +83,13 @@ pub begins : (macros : Definitions) (calls more : List Suspended) (before tokens
     (next : Supplied) (left : Budget) → call.waiting.items ≡ rest.items ++ next ∷ [] → is_used next.parameter.now call.body.now ≡ true
     → blank.items ≡ [] → tokens.items ≡ reverse next.tokens.items
     → more ≡ calls ++ record { before = before; call = record call { waiting = rest }; parameter = next.parameter } ∷ []
-    → resumed macros more (level_outcome macros (record { before = blank; tokens = tokens; left = left }))
+    → resumed macros more (frame_outcome macros (record { before = blank; tokens = tokens; left = left }))
     ≡ resumed macros calls (call_outcome macros (done before.items) call left)
 begins macros calls more before tokens blank call rest next left popped used empty turned pushed =
     let last : Suspended = record { before = before; call = record call { waiting = rest }; parameter = next.parameter } in
     let tokens_ahead : ahead tokens.items ≡ done next.tokens.items =
     ap ahead turned ∙ ap done (reverse-reverse next.tokens.items) in
-    let begun : level_outcome macros (record { before = blank; tokens = tokens; left = left }) ≡ expanded macros left (done next.tokens.items) =
+    let begun : frame_outcome macros (record { before = blank; tokens = tokens; left = left }) ≡ expanded macros left (done next.tokens.items) =
     ap (λ (front : List Pending). with_front (done front) (expanded macros left (ahead tokens.items))) empty
     ∙ front_none (expanded macros left (ahead tokens.items))
     ∙ ap (expanded macros left) tokens_ahead in
@@ -100,8 +100,8 @@ begins macros calls more before tokens blank call rest next left popped used emp
     (ap waiting popped ∙ waiting-push rest.items next)
     ∙ ap (with_front (done before.items)) (used_first macros (invocation call) (ready call.ready.items) (waiting rest.items) (argument next) left used)
     ∙ front_then (done before.items) (expanded macros left (done next.tokens.items)) later in
-    ap (λ (all : List Suspended). resumed macros all (level_outcome macros (record { before = blank; tokens = tokens; left = left }))) pushed
-    ∙ resumed-push macros calls last (level_outcome macros (record { before = blank; tokens = tokens; left = left }))
+    ap (λ (all : List Suspended). resumed macros all (frame_outcome macros (record { before = blank; tokens = tokens; left = left }))) pushed
+    ∙ resumed-push macros calls last (frame_outcome macros (record { before = blank; tokens = tokens; left = left }))
     ∙ ap (resumed macros calls) (ap (λ (outcome : Outcome). and_then outcome (after_argument macros last)) begun ∙ sym whole)
 
 -- what an argument that is begun leaves to do
@@ -132,7 +132,7 @@ last_placed macros before call left answer none is =
 pub places : (macros : Definitions) (calls : List Suspended) (before tokens : Vec Pending Global) (call : Call) (left after : Budget)
     → call.waiting.items ≡ [] → Ok after ≡ spent left (length (placed (invocation call) (ready call.ready.items)))
     → ahead tokens.items ≡ placed (invocation call) (ready call.ready.items) ++ ahead call.behind.items
-    → resumed macros calls (level_outcome macros (record { before = before; tokens = tokens; left = after }))
+    → resumed macros calls (frame_outcome macros (record { before = before; tokens = tokens; left = after }))
     ≡ resumed macros calls (call_outcome macros (done before.items) call left)
 places macros calls before tokens call left after none is put =
     ap (resumed macros calls)
@@ -210,7 +210,7 @@ ends macros calls all before argument' call ready' parameter left popped pushed 
     (sym arguments))
 
 -- what comes to the same as the whole decides the whole
-pub step_of : (whole other : Outcome) (later : Level → Outcome) (result : Result Level MacroError)
+pub step_of : (whole other : Outcome) (later : Frame → Outcome) (result : Result Frame MacroError)
     → whole ≡ other → IsStep whole later result → IsStep other later result
 step_of whole other later result same step = subst (λ (outcome : Outcome). IsStep outcome later result) same step
 
@@ -246,11 +246,11 @@ held_behind macros token tokens call (is, fresh) =
       length-ahead tokens,
     )
 
--- no tokens are ahead of the level
-pub level_done : (macros : Definitions) (calls : List Suspended) (level : Level) → level.tokens.items ≡ []
-    → resumed macros calls (with_front (done level.before.items) (expanded macros level.left [])) ≡ resumed macros calls (level_outcome macros level)
-level_done macros calls level none =
-    ap (λ (tokens : List Pending). resumed macros calls (with_front (done level.before.items) (expanded macros level.left (ahead tokens)))) (sym none)
+-- no tokens are ahead of the frame
+pub frame_done : (macros : Definitions) (calls : List Suspended) (frame : Frame) → frame.tokens.items ≡ []
+    → resumed macros calls (with_front (done frame.before.items) (expanded macros frame.left [])) ≡ resumed macros calls (frame_outcome macros frame)
+frame_done macros calls frame none =
+    ap (λ (tokens : List Pending). resumed macros calls (with_front (done frame.before.items) (expanded macros frame.left (ahead tokens)))) (sym none)
 
 -- the token stays, and the others are still ahead
 pub whole_stays : (macros : Definitions) (before : List Hidden) (token : Pending) (tokens rest : List Hidden) (left : Budget)
@@ -261,24 +261,24 @@ whole_stays macros before token tokens rest left (is, same) =
     ∙ sym (whole_at macros before token rest left stays is)
 
 -- nothing waits, and nothing is done or ahead: what all gave already is all
-pub all_done : (macros : Definitions) (sources : List SourceToken) (calls : List Suspended) (level : Level)
-    → calls ≡ [] → level.before.items ≡ [] → level.tokens.items ≡ []
-    → with_sources sources (replaced_by (resumed macros calls (level_outcome macros level))) ≡ Ok (record { tokens = sources; left = level.left })
-all_done macros sources calls level none given empty =
-    ap (λ (calls' : List Suspended). with_sources sources (replaced_by (resumed macros calls' (level_outcome macros level)))) none
-    ∙ ap (λ (front : List Pending). with_sources sources (replaced_by (with_front (done front) (expanded macros level.left (ahead level.tokens.items))))) given
-    ∙ ap (λ (tokens : List Pending). with_sources sources (replaced_by (with_front [] (expanded macros level.left (ahead tokens))))) empty
-    ∙ ap (λ (outcome : Outcome). with_sources sources (replaced_by outcome)) (whole_done macros [] level.left)
-    ∙ ap (λ (tokens : List SourceToken). Ok (record { tokens = tokens; left = level.left })) (append-nil sources)
+pub all_done : (macros : Definitions) (sources : List SourceToken) (calls : List Suspended) (frame : Frame)
+    → calls ≡ [] → frame.before.items ≡ [] → frame.tokens.items ≡ []
+    → with_sources sources (replaced_by (resumed macros calls (frame_outcome macros frame))) ≡ Ok (record { tokens = sources; left = frame.left })
+all_done macros sources calls frame none given empty =
+    ap (λ (calls' : List Suspended). with_sources sources (replaced_by (resumed macros calls' (frame_outcome macros frame)))) none
+    ∙ ap (λ (front : List Pending). with_sources sources (replaced_by (with_front (done front) (expanded macros frame.left (ahead frame.tokens.items))))) given
+    ∙ ap (λ (tokens : List Pending). with_sources sources (replaced_by (with_front [] (expanded macros frame.left (ahead tokens))))) empty
+    ∙ ap (λ (outcome : Outcome). with_sources sources (replaced_by outcome)) (whole_done macros [] frame.left)
+    ∙ ap (λ (tokens : List SourceToken). Ok (record { tokens = tokens; left = frame.left })) (append-nil sources)
 
 -- the next token, in front of those after it
-pub next_ahead : (macros : Definitions) (sources : List SourceToken) (calls : List Suspended) (level : Level) (rest : List Pending) (token : Pending)
-    → level.tokens.items ≡ rest ++ token ∷ []
-    → with_sources sources (replaced_by (resumed macros calls (with_front (done level.before.items) (expanded macros level.left (hidden token ∷ ahead rest)))))
-    ≡ with_sources sources (replaced_by (resumed macros calls (level_outcome macros level)))
-next_ahead macros sources calls level rest token popped =
+pub next_ahead : (macros : Definitions) (sources : List SourceToken) (calls : List Suspended) (frame : Frame) (rest : List Pending) (token : Pending)
+    → frame.tokens.items ≡ rest ++ token ∷ []
+    → with_sources sources (replaced_by (resumed macros calls (with_front (done frame.before.items) (expanded macros frame.left (hidden token ∷ ahead rest)))))
+    ≡ with_sources sources (replaced_by (resumed macros calls (frame_outcome macros frame)))
+next_ahead macros sources calls frame rest token popped =
     ap (λ (tokens : List Hidden). with_sources sources (replaced_by (resumed macros calls
-    (with_front (done level.before.items) (expanded macros level.left tokens)))))
+    (with_front (done frame.before.items) (expanded macros frame.left tokens)))))
     (sym (ap ahead popped ∙ ap (map hidden) (reverse-append rest (token ∷ []))))
 
 -- what refuses what is left refuses all

@@ -2,7 +2,7 @@ pub mod Arguments
 pub mod Definitions
 pub mod ExpandedLaws
 pub mod HideSets
-pub mod Levels
+pub mod Frames
 pub mod Lines
 pub mod Loads
 pub mod Refusals

@@ -6,7 +6,7 @@ ghost use Rattle.hs_macros.specs.Refusals.{IsRefusal};
 ghost use Rattle.hs_macros.specs.Replacement.{with_front, expanded, replaced_by, replaced};
 ghost use Rattle.hs_macros.specs.Loads.{load};
 ghost use Rattle.hs_macros.specs.Stacks.{hidden, done, ahead, waiting};
-ghost use Rattle.hs_macros.specs.Levels.{level_outcome, call_outcome, after_argument, resumed, IsStep, with_sources, weight_of, weights, weight};
+ghost use Rattle.hs_macros.specs.Frames.{frame_outcome, call_outcome, after_argument, resumed, IsStep, with_sources, weight_of, weights, weight};
 
 use crate::arguments::Supplied;
 use crate::budget::Budget;
@@ -20,8 +20,8 @@ use std::alloc::{AllocError, Global};
 
 /// How far the expansion of a list of tokens has come.
 #[derive(Drop)]
-pub(crate) struct Level<'a> {
-    /// The tokens that are done, in order; at the outermost level those that the sources do not have yet.
+pub(crate) struct Frame<'a> {
+    /// The tokens that are done, in order; at the outermost frame those that the sources do not have yet.
     pub(crate) before: Vec<Pending<'a>>,
     /// Those ahead, the next one last.
     pub(crate) tokens: Vec<Pending<'a>>,
@@ -52,11 +52,11 @@ fn proceed<'a>(
     before: Vec<Pending<'a>>,
     call: Call<'a>,
     left: Budget,
-) -> Result<Level<'a>, MacroError>
+) -> Result<Frame<'a>, MacroError>
     ensures step { (macros : Definitions)
         → IsStep (resumed macros calls.old.items (call_outcome macros (done before.entry.items) call.entry left))
-        (λ level. resumed macros calls.new.items (level_outcome macros level)) result }
-    ensures falls { IfOk result (λ level. weights calls.new.items + weight level
+        (λ frame. resumed macros calls.new.items (frame_outcome macros frame)) result }
+    ensures falls { IfOk result (λ frame. weights calls.new.items + weight frame
         ≤ weights calls.old.items + load (waiting call.entry.waiting.items) + length call.entry.behind.items + left.tokens) }
 {
     let mut call = call;
@@ -70,7 +70,7 @@ fn proceed<'a>(
                 call,
                 parameter,
             })?;
-            return Ok(Level {
+            return Ok(Frame {
                 before: Vec::new(alloc),
                 tokens,
                 left,
@@ -79,38 +79,38 @@ fn proceed<'a>(
         call.ready.push(argument)?;
     }
     let left = call.spent(left)?;
-    Ok(Level {
+    Ok(Frame {
         before,
         tokens: call.place(alloc)?,
         left,
     })
 }
 
-/// Takes the next token, with the level's tokens after it: it stays, or the invocation that it begins is begun.
+/// Takes the next token, with the frame's tokens after it: it stays, or the invocation that it begins is begun.
 fn take_token<'a>(
     alloc: Global,
     macros: &'a Macros,
     calls: &mut Vec<Suspended<'a>>,
-    level: Level<'a>,
+    frame: Frame<'a>,
     token: Pending<'a>,
-) -> Result<Level<'a>, MacroError>
+) -> Result<Frame<'a>, MacroError>
     ensures step { IsStep
-        (resumed macros.now calls.old.items (with_front (done level.entry.before.items)
-        (expanded macros.now level.entry.left (hidden token.entry ∷ ahead level.entry.tokens.items))))
-        (λ level. resumed macros.now calls.new.items (level_outcome macros.now level)) result }
+        (resumed macros.now calls.old.items (with_front (done frame.entry.before.items)
+        (expanded macros.now frame.entry.left (hidden token.entry ∷ ahead frame.entry.tokens.items))))
+        (λ frame. resumed macros.now calls.new.items (frame_outcome macros.now frame)) result }
     ensures falls { IfOk result (λ next. weights calls.new.items + weight next
-        ≤ weights calls.old.items + weight level.entry) }
+        ≤ weights calls.old.items + weight frame.entry) }
 {
-    let Level {
+    let Frame {
         before,
         tokens,
         left,
-    } = level;
+    } = frame;
     match invocation_at(alloc, macros, &token, tokens)? {
         Found::Stays(tokens) => {
             let mut before = before;
             before.push(token)?;
-            Ok(Level {
+            Ok(Frame {
                 before,
                 tokens,
                 left,
@@ -120,19 +120,19 @@ fn take_token<'a>(
     }
 }
 
-/// Takes up the invocation that waited for the level's tokens, which are done.
+/// Takes up the invocation that waited for the frame's tokens, which are done.
 fn take_up<'a>(
     alloc: Global,
     calls: &mut Vec<Suspended<'a>>,
     suspended: Suspended<'a>,
-    level: Level<'a>,
-) -> Result<Level<'a>, MacroError>
-    requires { level.tokens.items ≡ [] }
+    frame: Frame<'a>,
+) -> Result<Frame<'a>, MacroError>
+    requires { frame.tokens.items ≡ [] }
     ensures step { (macros : Definitions)
-        → IsStep (resumed macros (calls.old.items ++ suspended.entry ∷ []) (level_outcome macros level.entry))
-        (λ level. resumed macros calls.new.items (level_outcome macros level)) result }
+        → IsStep (resumed macros (calls.old.items ++ suspended.entry ∷ []) (frame_outcome macros frame.entry))
+        (λ frame. resumed macros calls.new.items (frame_outcome macros frame)) result }
     ensures falls { IfOk result (λ next. weights calls.new.items + weight next
-        < weights calls.old.items + weight_of suspended.entry + weight level.entry) }
+        < weights calls.old.items + weight_of suspended.entry + weight frame.entry) }
 {
     let Suspended {
         before,
@@ -142,27 +142,27 @@ fn take_up<'a>(
     let mut call = call;
     call.ready.push(Supplied {
         parameter,
-        tokens: level.before,
+        tokens: frame.before,
     })?;
-    proceed(alloc, calls, before, call, level.left)
+    proceed(alloc, calls, before, call, frame.left)
 }
 
-/// If no invocation waits, gives the level's tokens that are done to the sources: what they hide is of no use any more.
+/// If no invocation waits, gives the frame's tokens that are done to the sources: what they hide is of no use any more.
 fn give_done<'a>(
     alloc: Global,
     calls: &[Suspended<'a>],
-    level: &mut Level<'a>,
+    frame: &mut Frame<'a>,
     sources: &mut Vec<SourceToken>,
 ) -> Result<(), AllocError>
     ensures same { OnOk result ((macros : Definitions)
-        → with_sources sources.new.items (replaced_by (resumed macros calls.now (level_outcome macros level.new)))
-        ≡ with_sources sources.old.items (replaced_by (resumed macros calls.now (level_outcome macros level.old)))) }
-    ensures weight { OnOk result (weight level.new ≡ weight level.old) }
-    ensures given { OnOk result (calls.now ≡ [] → level.new.before.items ≡ []) }
+        → with_sources sources.new.items (replaced_by (resumed macros calls.now (frame_outcome macros frame.new)))
+        ≡ with_sources sources.old.items (replaced_by (resumed macros calls.now (frame_outcome macros frame.old)))) }
+    ensures weight { OnOk result (weight frame.new ≡ weight frame.old) }
+    ensures given { OnOk result (calls.now ≡ [] → frame.new.before.items ≡ []) }
 {
     if calls.is_empty() {
-        put_sources(alloc, level.before.as_slice(), sources)?;
-        level.before.clear();
+        put_sources(alloc, frame.before.as_slice(), sources)?;
+        frame.before.clear();
     }
     Ok(())
 }
@@ -181,21 +181,21 @@ pub(crate) fn replaced_run(
 {
     let mut calls = Vec::new(alloc);
     let mut sources = Vec::new(alloc);
-    let mut level = Level {
+    let mut frame = Frame {
         before: Vec::new(alloc),
         tokens: tokens_ahead(alloc, run)?,
         left,
     };
     'steps: loop {
-        give_done(alloc, &calls, &mut level, &mut sources)?;
-        if let Some(token) = level.tokens.pop() {
-            level = take_token(alloc, macros, &mut calls, level, token)?;
+        give_done(alloc, &calls, &mut frame, &mut sources)?;
+        if let Some(token) = frame.tokens.pop() {
+            frame = take_token(alloc, macros, &mut calls, frame, token)?;
         } else if let Some(suspended) = calls.pop() {
-            level = take_up(alloc, &mut calls, suspended, level)?;
+            frame = take_up(alloc, &mut calls, suspended, frame)?;
         } else {
             return Ok(Replaced {
                 tokens: sources,
-                left: level.left,
+                left: frame.left,
             });
         }
     }

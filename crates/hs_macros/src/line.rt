@@ -3,7 +3,7 @@
 ghost use Rattle.std.specs.Prelude.{◌≡◌, IfOk};
 ghost use Rattle.std.specs.List.{list_any};
 ghost use Rattle.hs_macros.specs.Definitions.{is_distinct, names_from, parameters_from, is_operator, with_body, with_definition, definition_from, definition_of};
-ghost use Rattle.hs_macros.specs.Lines.{names_of, form_of, parameters_of, named, Gives};
+ghost use Rattle.hs_macros.specs.Lines.{names_of, form_of, parameters_of, named, Seen};
 
 use hs_tokens::{Token, is_identifier, is_mark};
 use std::alloc::{AllocError, Global};
@@ -43,7 +43,7 @@ fn is_distinct(alloc: Global, names: &[&[u8]]) -> Result<bool, AllocError>
 
 /// One or more identifiers with commas between them, up to the closing parenthesis.
 fn names_from<'a>(alloc: Global, line: &'a [Token]) -> Result<Option<Parameters<'a>>, AllocError>
-    ensures { IfOk result (λ read. Gives parameters_of read (names_from line.now)) }
+    ensures { IfOk result (λ read. Seen parameters_of read (names_from line.now)) }
 {
     let mut names = Vec::new(alloc);
     let mut rest = line;
@@ -68,7 +68,7 @@ fn parameters_from<'a>(
     alloc: Global,
     line: &'a [Token],
 ) -> Result<Option<Parameters<'a>>, AllocError>
-    ensures { IfOk result (λ read. Gives parameters_of read (parameters_from line.now)) }
+    ensures { IfOk result (λ read. Seen parameters_of read (parameters_from line.now)) }
 {
     match line {
         [token, behind @ ..] if is_mark(b")", token) => Ok(Some(Parameters {
@@ -108,7 +108,7 @@ fn with_body<'a>(
     parameters: Option<Vec<&'a [u8]>>,
     body: &'a [Token],
 ) -> Option<Line<'a>>
-    ensures { Gives named result
+    ensures { Seen named result
         (with_definition name.now (with_body (form_of parameters.entry) body.now)) }
 {
     if has_operator(body) {
@@ -127,7 +127,7 @@ fn definition_from<'a>(
     name: &'a [u8],
     line: &'a [Token],
 ) -> Result<Option<Line<'a>>, AllocError>
-    ensures { IfOk result (λ read. Gives named read
+    ensures { IfOk result (λ read. Seen named read
         (with_definition name.now (definition_from line.now))) }
 {
     match line {
@@ -146,7 +146,7 @@ pub(crate) fn definition_of<'a>(
     alloc: Global,
     line: &'a [Token],
 ) -> Result<Option<Line<'a>>, AllocError>
-    ensures { IfOk result (λ read. Gives named read (definition_of line.now)) }
+    ensures { IfOk result (λ read. Seen named read (definition_of line.now)) }
 {
     match line {
         [name, rest @ ..] if is_identifier(name) && name.text.items() != b"defined".as_slice() => {

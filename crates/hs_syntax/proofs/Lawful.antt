@@ -5,7 +5,7 @@ use Rattle.std.proofs.lemmas.Bool.{and_parts, leb-true}
 use Rattle.hs_syntax.specs.Forms.{Form, ◌⨾◌, mark, mark_at}
 use Rattle.hs_syntax.specs.Grammar.{expression_form, direct_form, declarator_form, declaration_form, items_form, statement_form, test_form, specification_form}
 use Rattle.hs_syntax.specs.Laws.{GroupsLeft, ElseIsNearest, TypesBeginParameters, SpecifiersGoOn}
-use Rattle.hs_syntax.specs.Operators.{level_of}
+use Rattle.hs_syntax.specs.Operators.{precedence_of}
 use Rattle.hs_syntax.specs.Parts.{in_parens}
 use Rattle.hs_syntax.specs.Phrases.{begins_none, begins_parameters, has_specifiers, is_empty, is_typed, rank}
 use Rattle.hs_syntax.specs.Trees as tree
@@ -13,11 +13,11 @@ use Rattle.hs_syntax.specs.Trees as tree
 pub groups_left : GroupsLeft
 groups_left known a b c first second at place = (
   λ fits.
-      let low : nat_le (2 + level_of second) (2 + level_of first) ≡ true = (and_parts _ _ (and_parts _ _ fits).0).0 in
-      omega (arith, leb-true (2 + level_of second) (2 + level_of first) low),
+      let low : nat_le (2 + precedence_of second) (2 + precedence_of first) ≡ true = (and_parts _ _ (and_parts _ _ fits).0).0 in
+      omega (arith, leb-true (2 + precedence_of second) (2 + precedence_of first) low),
   λ fits.
-      let high : nat_le (2 + suc (level_of first)) (2 + level_of second) ≡ true = (and_parts _ _ (and_parts _ _ fits).1).0 in
-      omega (arith, leb-true (2 + suc (level_of first)) (2 + level_of second) high),
+      let high : nat_le (2 + suc (precedence_of first)) (2 + precedence_of second) ≡ true = (and_parts _ _ (and_parts _ _ fits).1).0 in
+      omega (arith, leb-true (2 + suc (precedence_of first)) (2 + precedence_of second) high),
 )
 
 -- a test that fails, after another

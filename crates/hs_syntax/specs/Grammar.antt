@@ -15,7 +15,7 @@ use Rattle.hs_tokens.specs.declared.token.SourceToken.{SourceToken}
 use Rattle.hs_tokens.specs.declared.token.TokenKind.TheVariants.{Identifier, Number, Character, Literal}
 use Rattle.hs_syntax.specs.Forms.{Form, ◌⨾◌, when, nothing_at_all, mark, mark_at, keyword, keyword_at, word, IsOf}
 use Rattle.hs_syntax.specs.Names.{is_among}
-use Rattle.hs_syntax.specs.Operators.{binary_text, level_of, assign_text, prefix_text, postfix_text, access_text}
+use Rattle.hs_syntax.specs.Operators.{binary_text, precedence_of, assign_text, prefix_text, postfix_text, access_text}
 use Rattle.hs_syntax.specs.Operators.{storage_text, dropped_text, basic_text}
 use Rattle.hs_syntax.specs.Parts.{identifier, literals, pointers_form, tag_form, comma_form, behind_comma, as_prefixed}
 use Rattle.hs_syntax.specs.Parts.{in_parens}
@@ -43,10 +43,10 @@ abbrev mutual
   expression_form known (tree.conditional test at taken otherwise) =
       as_operand 1 test (expression_form known test) ⨾ mark_at at (codes "?") ⨾ expression_form known taken
       ⨾ mark (codes ":") ⨾ as_conditional otherwise (expression_form known otherwise)
-  -- binary = cast { binary-operator cast }: operators of a level group to the left
+  -- binary = cast { binary-operator cast }: operators of a precedence group to the left
   expression_form known (tree.binary left operator at right) =
-      as_operand (level_of operator) left (expression_form known left) ⨾ mark_at at (binary_text operator)
-      ⨾ as_operand (suc (level_of operator)) right (expression_form known right)
+      as_operand (precedence_of operator) left (expression_form known left) ⨾ mark_at at (binary_text operator)
+      ⨾ as_operand (suc (precedence_of operator)) right (expression_form known right)
   -- cast = unary | "(" type-name ")" cast
   expression_form known (tree.cast at type operand) =
       mark_at at (codes "(") ⨾ type_form known type ⨾ mark (codes ")") ⨾ as_cast operand (expression_form known operand)

@@ -1,5 +1,5 @@
 -- Laws that show the grammar to be the right one.
---     GroupsLeft                 precedence, and operators of a level group to the left (X3.159-1989 3.3)
+--     GroupsLeft                 precedence, and operators of a precedence group to the left (X3.159-1989 3.3)
 --     ElseIsNearest              an `else` belongs to the nearest open `if` (3.6.4.1)
 --     TypesBeginParameters       a typedef name begins a parameter list as the rule says (3.5.4.3, 3.5.5)
 --     SpecifiersGoOn             a list of specifiers takes what it can (3.5)
@@ -9,7 +9,7 @@ use Rattle.hs_tokens.specs.declared.token.SourceToken.{SourceToken}
 use Rattle.hs_syntax.specs.Forms.{◌⨾◌, mark, IsOf}
 use Rattle.hs_syntax.specs.Grammar.{expression_form, direct_form, declarator_form, declaration_form, items_form}
 use Rattle.hs_syntax.specs.Grammar.{statement_form, specification_form, IsExpression}
-use Rattle.hs_syntax.specs.Operators.{level_of}
+use Rattle.hs_syntax.specs.Operators.{precedence_of}
 use Rattle.hs_syntax.specs.Phrases.{begins_none, begins_parameters, is_typed}
 use Rattle.hs_syntax.specs.Positions.{first_of, first_of_specifiers, first_of_statement, BeginsAt, BeginsIfAny}
 use Rattle.hs_syntax.specs.Trees as tree
@@ -22,9 +22,9 @@ use Rattle.hs_syntax.specs.declared.word.Place.{Place}
 abbrev pub GroupsLeft : Type 0
 GroupsLeft = (known : List (List ℕ)) (a b c : Expression) (first second : BinaryOperator) (at place : Place)
     → ((expression_form known (tree.binary (tree.binary a first at b) second place c)).fits ≡ true
-    → level_of second ≤ level_of first)
+    → precedence_of second ≤ precedence_of first)
     × ((expression_form known (tree.binary a first at (tree.binary b second place c))).fits ≡ true
-    → level_of first < level_of second)
+    → precedence_of first < precedence_of second)
 
 -- an `else` after an `if` without one is not that of an outer `if`
 abbrev pub ElseIsNearest : Type 0

@@ -1,6 +1,6 @@
 -- The spellings of operators and words, and how tightly operators bind.
 --     binary_text, assign_text, ..     the spelling
---     level_of operator                the binary operators bind from 10, the tightest, to 1 (3.3.5 to 3.3.14)
+--     precedence_of operator                the binary operators bind from 10, the tightest, to 1 (3.3.5 to 3.3.14)
 use Rattle.std.specs.Prelude.{ℕ, List, codes}
 use Rattle.hs_syntax.specs.declared.operators.Access.{Access}
 use Rattle.hs_syntax.specs.declared.operators.Access.TheVariants as access
@@ -39,25 +39,25 @@ binary_text binary.BitOr = codes "|"
 binary_text binary.And = codes "&&"
 binary_text binary.Or = codes "||"
 
-abbrev pub level_of : BinaryOperator → ℕ
-level_of binary.Multiply = 10
-level_of binary.Divide = 10
-level_of binary.Remainder = 10
-level_of binary.Add = 9
-level_of binary.Subtract = 9
-level_of binary.ShiftLeft = 8
-level_of binary.ShiftRight = 8
-level_of binary.Less = 7
-level_of binary.Greater = 7
-level_of binary.LessEqual = 7
-level_of binary.GreaterEqual = 7
-level_of binary.Equal = 6
-level_of binary.NotEqual = 6
-level_of binary.BitAnd = 5
-level_of binary.BitXor = 4
-level_of binary.BitOr = 3
-level_of binary.And = 2
-level_of binary.Or = 1
+abbrev pub precedence_of : BinaryOperator → ℕ
+precedence_of binary.Multiply = 10
+precedence_of binary.Divide = 10
+precedence_of binary.Remainder = 10
+precedence_of binary.Add = 9
+precedence_of binary.Subtract = 9
+precedence_of binary.ShiftLeft = 8
+precedence_of binary.ShiftRight = 8
+precedence_of binary.Less = 7
+precedence_of binary.Greater = 7
+precedence_of binary.LessEqual = 7
+precedence_of binary.GreaterEqual = 7
+precedence_of binary.Equal = 6
+precedence_of binary.NotEqual = 6
+precedence_of binary.BitAnd = 5
+precedence_of binary.BitXor = 4
+precedence_of binary.BitOr = 3
+precedence_of binary.And = 2
+precedence_of binary.Or = 1
 
 abbrev pub assign_text : AssignOperator → List ℕ
 assign_text assigning.Plain = codes "="

@@ -12,7 +12,7 @@ use Rattle.hs_tokens.specs.Marks.{is_same_kind}
 use Rattle.hs_tokens.specs.declared.token.TokenKind.TheVariants.{Identifier}
 use Rattle.hs_syntax.specs.Forms.{Piece, Form, when}
 use Rattle.hs_syntax.specs.Names.{is_among, is_type_name}
-use Rattle.hs_syntax.specs.Operators.{level_of}
+use Rattle.hs_syntax.specs.Operators.{precedence_of}
 use Rattle.hs_syntax.specs.Trees as tree
 use Rattle.hs_syntax.specs.Trees.{Expression, Expressions, Lefts, Specified, Specification, Members, Constants}
 use Rattle.hs_syntax.specs.Trees.{Declared, Declarators, Directly, Parameters, Initialisers, Statement}
@@ -28,7 +28,7 @@ abbrev pub rank : Expression → ℕ
 rank (tree.comma lefts right) = 0
 rank (tree.assign target operator at value) = 1
 rank (tree.conditional test at taken otherwise) = 2
-rank (tree.binary left operator at right) = 2 + level_of operator
+rank (tree.binary left operator at right) = 2 + precedence_of operator
 rank (tree.cast at type operand) = 13
 rank (tree.prefix operator at operand) = 14
 rank (tree.sizeof_value at operand) = 14

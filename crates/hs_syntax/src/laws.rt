@@ -2,7 +2,7 @@
 
 ghost use Rattle.hs_syntax.specs.Laws.{ElseIsNearest, FirstTokensAreFirst, GroupsLeft, SpecifiersGoOn, TypesBeginParameters};
 
-/// A law on the grammar: binary operators that bind tighter are applied first, and those of a level group to the left
+/// A law on the grammar: binary operators that bind tighter are applied first, and those of a precedence group to the left
 /// (X3.159-1989 3.3).
 pub fn binary_operators_group_to_the_left()
     ensures { GroupsLeft }

@@ -1,7 +1,7 @@
 //! The operators and the words of specifiers, with their spellings.
 
 ghost use Rattle.std.specs.Prelude.{◌≡◌};
-ghost use Rattle.hs_syntax.specs.Operators.{binary_text, level_of, assign_text, prefix_text, postfix_text, access_text, storage_text, dropped_text, basic_text};
+ghost use Rattle.hs_syntax.specs.Operators.{binary_text, precedence_of, assign_text, prefix_text, postfix_text, access_text, storage_text, dropped_text, basic_text};
 
 use crate::Place;
 
@@ -58,8 +58,8 @@ impl BinaryOperator {
     /// How tightly it binds: 10 is the tightest.
     ///
     /// Example: 10 for `*`, and 1 for `||`.
-    pub fn level(self) -> u8
-        ensures { result ≡ level_of self }
+    pub fn precedence(self) -> u8
+        ensures { result ≡ precedence_of self }
     {
         match self {
             BinaryOperator::Multiply | BinaryOperator::Divide | BinaryOperator::Remainder => 10,

@@ -1,6 +1,6 @@
 -- Reading the tokens of a straight program from left to right. Each function gives what it read and the tokens after it, or
 -- nothing; `Grammar.antt` has the relation that decides what is right.
---     Gives view result read              what a function returned is what reading gives
+--     Seen view result read              what a function returned is what reading gives
 --     first_at, mark_at, marks_at         any token, one with a given text, several with given texts
 --     is_at text tokens                   the first token has that text
 --     numeral, number_at                  a number in its one form, at most `most`
@@ -27,9 +27,9 @@ use Rattle.hs_tree.specs.declared.straight.tree.Step.{Step}
 use Rattle.hs_tree.specs.declared.straight.tree.Step.TheVariants as step
 
 -- what a function returned, seen by view, is what reading gives
-abbrev pub Gives : {X Y : Type 0} → (X → Y) → Option X → Option Y → Type 0
-Gives view None read = read ≡ None
-Gives view (Some x) read = read ≡ Some (view x)
+abbrev pub Seen : {X Y : Type 0} → (X → Y) → Option X → Option Y → Type 0
+Seen view None read = read ≡ None
+Seen view (Some x) read = read ≡ Some (view x)
 
 infixl 10 ◌>>=◌
 -- nothing, or what follows from what was read

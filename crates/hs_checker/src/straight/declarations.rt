@@ -1,7 +1,7 @@
 //! Reads the declarations of a straight program.
 
 ghost use Rattle.std.specs.Prelude.{◌≡◌, ◌≤◌, ◌+◌, length, IfOk, IfSome, IfNone};
-ghost use Rattle.hs_checker.specs.Straight.Reading.{Gives, second_star_at, kind_at, declaration_at};
+ghost use Rattle.hs_checker.specs.Straight.Reading.{Seen, second_star_at, kind_at, declaration_at};
 ghost use Rattle.hs_checker.specs.Straight.Rows.{AreDeclarations, NoDeclarations};
 
 use crate::straight::marks::{first, is_at, mark};
@@ -14,7 +14,7 @@ use std::alloc::Global;
 /// Reads the second star of a handle, if it stands.
 #[tactic(auto, unfolding(crate::specs::Straight::Reading::second_star_at))]
 fn second_star(tokens: &[SourceToken]) -> Option<(Kind, &[SourceToken])>
-    ensures { Gives (λ x. (x.0, x.1.now)) result (second_star_at tokens.now) }
+    ensures { Seen (λ x. (x.0, x.1.now)) result (second_star_at tokens.now) }
 {
     if is_at(b"*", tokens) {
         let (_, rest) = mark(b"*", tokens)?;
@@ -27,7 +27,7 @@ fn second_star(tokens: &[SourceToken]) -> Option<(Kind, &[SourceToken])>
 /// Reads the stars of a declaration.
 #[tactic(auto, unfolding(crate::specs::Straight::Reading::kind_at))]
 fn kind(tokens: &[SourceToken]) -> Option<(Kind, &[SourceToken])>
-    ensures { Gives (λ x. (x.0, x.1.now)) result (kind_at tokens.now) }
+    ensures { Seen (λ x. (x.0, x.1.now)) result (kind_at tokens.now) }
 {
     if is_at(b"*", tokens) {
         let (_, rest) = mark(b"*", tokens)?;
@@ -43,7 +43,7 @@ fn declaration<'a>(
     earlier: &[Variable],
     tokens: &'a [SourceToken],
 ) -> Option<(Kind, &'a [u8], &'a [SourceToken])>
-    ensures { Gives (λ x. (record { kind = x.0; name = x.1.now }, x.2.now)) result (declaration_at earlier.now tokens.now) }
+    ensures { Seen (λ x. (record { kind = x.0; name = x.1.now }, x.2.now)) result (declaration_at earlier.now tokens.now) }
 {
     let (_, rest) = mark(b"char", tokens)?;
     let (kind, rest) = kind(rest)?;

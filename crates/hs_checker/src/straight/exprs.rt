@@ -1,7 +1,7 @@
 //! Reads values: a letter, a load through a pointer, or a number.
 
 ghost use Rattle.std.specs.Prelude.{◌≡◌, ◌<◌, ◌^◌, length};
-ghost use Rattle.hs_checker.specs.Straight.Reading.{Gives, word_value, word_at, load_at, expr_at};
+ghost use Rattle.hs_checker.specs.Straight.Reading.{Seen, word_value, word_at, load_at, expr_at};
 
 use crate::straight::marks::{first, is_at, mark};
 use crate::straight::names::{begins_with_letter, number_of, variable};
@@ -32,7 +32,7 @@ fn word_value(variables: &[Variable], token: &Token) -> Option<Expr>
 #[tactic(auto, unfolding(crate::specs::Straight::Reading::word_at))]
 fn word<'a>(variables: &[Variable], tokens: &'a [SourceToken]) -> Option<(Expr, &'a [SourceToken])>
     requires { length variables.now < 2 ^ 32 }
-    ensures { Gives (λ x. (x.0, x.1.now)) result (word_at variables.now tokens.now) }
+    ensures { Seen (λ x. (x.0, x.1.now)) result (word_at variables.now tokens.now) }
 {
     let (token, rest) = first(tokens)?;
     let value = word_value(variables, token)?;
@@ -43,7 +43,7 @@ fn word<'a>(variables: &[Variable], tokens: &'a [SourceToken]) -> Option<(Expr, 
 #[tactic(auto, unfolding(crate::specs::Straight::Reading::load_at))]
 fn load<'a>(variables: &[Variable], tokens: &'a [SourceToken]) -> Option<(Expr, &'a [SourceToken])>
     requires { length variables.now < 2 ^ 32 }
-    ensures { Gives (λ x. (x.0, x.1.now)) result (load_at variables.now tokens.now) }
+    ensures { Seen (λ x. (x.0, x.1.now)) result (load_at variables.now tokens.now) }
 {
     let (pos, rest) = mark(b"*", tokens)?;
     let (pointer, rest) = variable(variables, rest)?;
@@ -57,7 +57,7 @@ pub(crate) fn expr<'a>(
     tokens: &'a [SourceToken],
 ) -> Option<(Expr, &'a [SourceToken])>
     requires { length variables.now < 2 ^ 32 }
-    ensures { Gives (λ x. (x.0, x.1.now)) result (expr_at variables.now tokens.now) }
+    ensures { Seen (λ x. (x.0, x.1.now)) result (expr_at variables.now tokens.now) }
 {
     if is_at(b"*", tokens) {
         load(variables, tokens)

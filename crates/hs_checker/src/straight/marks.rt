@@ -1,14 +1,14 @@
 //! Reads tokens of given texts.
 
 ghost use Rattle.std.specs.Prelude.{◌≡◌, map};
-ghost use Rattle.hs_checker.specs.Straight.Reading.{Gives, first_at, mark_at, marks_at, is_at};
+ghost use Rattle.hs_checker.specs.Straight.Reading.{Seen, first_at, mark_at, marks_at, is_at};
 
 use hs_base::Pos;
 use hs_tokens::{SourceToken, Token};
 
 /// The first token, and the tokens after it.
 pub(crate) fn first(tokens: &[SourceToken]) -> Option<(&Token, &[SourceToken])>
-    ensures { Gives (λ x. (x.0.now, x.1.now)) result (first_at tokens.now) }
+    ensures { Seen (λ x. (x.0.now, x.1.now)) result (first_at tokens.now) }
 {
     let (source, rest) = tokens.split_first()?;
     Some((&source.token, rest))
@@ -17,7 +17,7 @@ pub(crate) fn first(tokens: &[SourceToken]) -> Option<(&Token, &[SourceToken])>
 /// Reads one token with that text. Its place, and the tokens after it.
 #[tactic(auto, unfolding(crate::specs::Straight::Reading::mark_at))]
 pub(crate) fn mark<'a>(text: &[u8], tokens: &'a [SourceToken]) -> Option<(Pos, &'a [SourceToken])>
-    ensures { Gives (λ x. (x.0, x.1.now)) result (mark_at text.now tokens.now) }
+    ensures { Seen (λ x. (x.0, x.1.now)) result (mark_at text.now tokens.now) }
 {
     let (token, rest) = first(tokens)?;
     if token.text.items() == text {
@@ -38,7 +38,7 @@ pub(crate) fn is_at(text: &[u8], tokens: &[SourceToken]) -> bool
 /// Reads tokens with these texts. The tokens after them.
 #[tactic(auto, unfolding(crate::specs::Straight::Reading::marks_at))]
 pub(crate) fn marks<'a>(texts: &[&str], tokens: &'a [SourceToken]) -> Option<&'a [SourceToken]>
-    ensures { Gives (λ x. x.now) result (marks_at (map (λ text. text.now) texts.now) tokens.now) }
+    ensures { Seen (λ x. x.now) result (marks_at (map (λ text. text.now) texts.now) tokens.now) }
 {
     let mut rest = tokens;
     for text in texts {

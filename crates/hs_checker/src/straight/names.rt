@@ -6,7 +6,7 @@ ghost use Rattle.std.specs.Str.{bytes_eq};
 ghost use Rattle.hs_base.specs.Text.{is_word_byte};
 ghost use Rattle.hs_tree.specs.Straight.Names.{begins_with_letter, is_identifier, is_name, reserved};
 ghost use Rattle.hs_tree.specs.Straight.Fine.{is_taken, is_fine_name};
-ghost use Rattle.hs_checker.specs.Straight.Reading.{Gives, number_of, variable_at};
+ghost use Rattle.hs_checker.specs.Straight.Reading.{Seen, number_of, variable_at};
 
 use crate::straight::marks::first;
 use hs_base::{is_letter, is_word_byte};
@@ -135,7 +135,7 @@ pub(crate) fn variable<'a>(
     tokens: &'a [SourceToken],
 ) -> Option<(u32, &'a [SourceToken])>
     requires { length variables.now < 2 ^ 32 }
-    ensures { Gives (λ x. (x.0, x.1.now)) result (variable_at variables.now tokens.now) }
+    ensures { Seen (λ x. (x.0, x.1.now)) result (variable_at variables.now tokens.now) }
 {
     let (token, rest) = first(tokens)?;
     let number = number_of(variables, token.text.items())?;

@@ -3,7 +3,7 @@
 ghost use Rattle.std.specs.Prelude.{◌≡◌, ◌≤◌, IfSome};
 ghost use Rattle.std.specs.List.{list_all};
 ghost use Rattle.hs_base.specs.Text.{is_digit};
-ghost use Rattle.hs_checker.specs.Straight.Reading.{Gives, is_numeral, numeral, number_at};
+ghost use Rattle.hs_checker.specs.Straight.Reading.{Seen, is_numeral, numeral, number_at};
 
 use crate::straight::marks::first;
 use hs_base::is_digit;
@@ -51,7 +51,7 @@ pub(crate) fn numeral(most: u32, text: &[u8]) -> Option<u32>
 #[tactic(auto, unfolding(crate::specs::Straight::Reading::number_at))]
 pub(crate) fn number(most: u32, tokens: &[SourceToken]) -> Option<(u32, &[SourceToken])>
     requires { most ≤ 32767 }
-    ensures value { Gives (λ x. (x.0, x.1.now)) result (number_at most tokens.now) }
+    ensures value { Seen (λ x. (x.0, x.1.now)) result (number_at most tokens.now) }
     ensures low { IfSome result (λ x. x.0 ≤ most) }
 {
     let (token, rest) = first(tokens)?;

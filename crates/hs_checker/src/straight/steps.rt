@@ -2,7 +2,7 @@
 
 ghost use Rattle.std.specs.Prelude.{◌≡◌, ◌<◌, ◌^◌, length, [], IsTrue, IfOk, IfSome, IfNone};
 ghost use Rattle.hs_tree.specs.Straight.Fine.{kind_eq, is_declared, assigns, was_assigned, is_readable, is_fine_expr, is_fine_step, are_fine_names};
-ghost use Rattle.hs_checker.specs.Straight.Reading.{Gives, handle_at, lock_at, unlock_at, putchar_at, store_at, new_handle_at, derive_at, set_at, source_at, assign_at, form_at, step_at};
+ghost use Rattle.hs_checker.specs.Straight.Reading.{Seen, handle_at, lock_at, unlock_at, putchar_at, store_at, new_handle_at, derive_at, set_at, source_at, assign_at, form_at, step_at};
 ghost use Rattle.hs_checker.specs.Straight.Rows.{AreSteps, NoSteps};
 
 use crate::straight::exprs::expr;
@@ -97,7 +97,7 @@ fn is_fine_step(variables: &[Variable], done: &[Step], step: Step) -> bool
 #[tactic(auto, unfolding(crate::specs::Straight::Reading::handle_at))]
 fn handle<'a>(variables: &[Variable], tokens: &'a [SourceToken]) -> Option<(u32, &'a [SourceToken])>
     requires { length variables.now < 2 ^ 32 }
-    ensures { Gives (λ x. (x.0, x.1.now)) result (handle_at variables.now tokens.now) }
+    ensures { Seen (λ x. (x.0, x.1.now)) result (handle_at variables.now tokens.now) }
 {
     let (_, rest) = mark(b"(", tokens)?;
     let (handle, rest) = variable(variables, rest)?;
@@ -109,7 +109,7 @@ fn handle<'a>(variables: &[Variable], tokens: &'a [SourceToken]) -> Option<(u32,
 #[tactic(auto, unfolding(crate::specs::Straight::Reading::lock_at))]
 fn lock<'a>(variables: &[Variable], tokens: &'a [SourceToken]) -> Option<(Step, &'a [SourceToken])>
     requires { length variables.now < 2 ^ 32 }
-    ensures { Gives (λ x. (x.0, x.1.now)) result (lock_at variables.now tokens.now) }
+    ensures { Seen (λ x. (x.0, x.1.now)) result (lock_at variables.now tokens.now) }
 {
     let (pos, rest) = mark(b"HLock", tokens)?;
     let (handle, rest) = handle(variables, rest)?;
@@ -123,7 +123,7 @@ fn unlock<'a>(
     tokens: &'a [SourceToken],
 ) -> Option<(Step, &'a [SourceToken])>
     requires { length variables.now < 2 ^ 32 }
-    ensures { Gives (λ x. (x.0, x.1.now)) result (unlock_at variables.now tokens.now) }
+    ensures { Seen (λ x. (x.0, x.1.now)) result (unlock_at variables.now tokens.now) }
 {
     let (pos, rest) = mark(b"HUnlock", tokens)?;
     let (handle, rest) = handle(variables, rest)?;
@@ -137,7 +137,7 @@ fn putchar<'a>(
     tokens: &'a [SourceToken],
 ) -> Option<(Step, &'a [SourceToken])>
     requires { length variables.now < 2 ^ 32 }
-    ensures { Gives (λ x. (x.0, x.1.now)) result (putchar_at variables.now tokens.now) }
+    ensures { Seen (λ x. (x.0, x.1.now)) result (putchar_at variables.now tokens.now) }
 {
     let (_, rest) = mark(b"putchar", tokens)?;
     let (_, rest) = mark(b"(", rest)?;
@@ -150,7 +150,7 @@ fn putchar<'a>(
 #[tactic(auto, unfolding(crate::specs::Straight::Reading::store_at))]
 fn store<'a>(variables: &[Variable], tokens: &'a [SourceToken]) -> Option<(Step, &'a [SourceToken])>
     requires { length variables.now < 2 ^ 32 }
-    ensures { Gives (λ x. (x.0, x.1.now)) result (store_at variables.now tokens.now) }
+    ensures { Seen (λ x. (x.0, x.1.now)) result (store_at variables.now tokens.now) }
 {
     let (_, rest) = mark(b"*", tokens)?;
     let (pointer, rest) = variable(variables, rest)?;
@@ -169,7 +169,7 @@ fn store<'a>(variables: &[Variable], tokens: &'a [SourceToken]) -> Option<(Step,
 /// Reads `NewHandle(number)`, which is assigned to the handle.
 #[tactic(auto, unfolding(crate::specs::Straight::Reading::new_handle_at))]
 fn new_handle(handle: u32, tokens: &[SourceToken]) -> Option<(Step, &[SourceToken])>
-    ensures { Gives (λ x. (x.0, x.1.now)) result (new_handle_at handle tokens.now) }
+    ensures { Seen (λ x. (x.0, x.1.now)) result (new_handle_at handle tokens.now) }
 {
     let (_, rest) = mark(b"NewHandle", tokens)?;
     let (_, rest) = mark(b"(", rest)?;
@@ -192,7 +192,7 @@ fn derive<'a>(
     tokens: &'a [SourceToken],
 ) -> Option<(Step, &'a [SourceToken])>
     requires { length variables.now < 2 ^ 32 }
-    ensures { Gives (λ x. (x.0, x.1.now)) result (derive_at variables.now pointer tokens.now) }
+    ensures { Seen (λ x. (x.0, x.1.now)) result (derive_at variables.now pointer tokens.now) }
 {
     let (pos, rest) = mark(b"*", tokens)?;
     let (handle, rest) = variable(variables, rest)?;
@@ -214,7 +214,7 @@ fn set<'a>(
     tokens: &'a [SourceToken],
 ) -> Option<(Step, &'a [SourceToken])>
     requires { length variables.now < 2 ^ 32 }
-    ensures { Gives (λ x. (x.0, x.1.now)) result (set_at variables.now letter tokens.now) }
+    ensures { Seen (λ x. (x.0, x.1.now)) result (set_at variables.now letter tokens.now) }
 {
     let (value, rest) = expr(variables, tokens)?;
     Some((Step::Set { letter, value }, rest))
@@ -228,7 +228,7 @@ fn source<'a>(
     tokens: &'a [SourceToken],
 ) -> Option<(Step, &'a [SourceToken])>
     requires { length variables.now < 2 ^ 32 }
-    ensures { Gives (λ x. (x.0, x.1.now)) result (source_at variables.now number tokens.now) }
+    ensures { Seen (λ x. (x.0, x.1.now)) result (source_at variables.now number tokens.now) }
 {
     if is_declared(Kind::Handle, variables, number) {
         new_handle(number, tokens)
@@ -246,7 +246,7 @@ fn assign<'a>(
     tokens: &'a [SourceToken],
 ) -> Option<(Step, &'a [SourceToken])>
     requires { length variables.now < 2 ^ 32 }
-    ensures { Gives (λ x. (x.0, x.1.now)) result (assign_at variables.now tokens.now) }
+    ensures { Seen (λ x. (x.0, x.1.now)) result (assign_at variables.now tokens.now) }
 {
     let (target, rest) = variable(variables, tokens)?;
     let (_, rest) = mark(b"=", rest)?;
@@ -257,7 +257,7 @@ fn assign<'a>(
 #[tactic(auto, unfolding(crate::specs::Straight::Reading::form_at))]
 fn form<'a>(variables: &[Variable], tokens: &'a [SourceToken]) -> Option<(Step, &'a [SourceToken])>
     requires { length variables.now < 2 ^ 32 }
-    ensures { Gives (λ x. (x.0, x.1.now)) result (form_at variables.now tokens.now) }
+    ensures { Seen (λ x. (x.0, x.1.now)) result (form_at variables.now tokens.now) }
 {
     if is_at(b"*", tokens) {
         store(variables, tokens)
@@ -280,7 +280,7 @@ fn step<'a>(
     tokens: &'a [SourceToken],
 ) -> Option<(Step, &'a [SourceToken])>
     requires { length variables.now < 2 ^ 32 }
-    ensures { Gives (λ x. (x.0, x.1.now)) result (step_at variables.now done.now tokens.now) }
+    ensures { Seen (λ x. (x.0, x.1.now)) result (step_at variables.now done.now tokens.now) }
 {
     let (step, rest) = form(variables, tokens)?;
     let (_, rest) = mark(b";", rest)?;

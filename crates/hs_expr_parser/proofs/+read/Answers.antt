@@ -2,7 +2,7 @@ use Rattle.std.proofs.Common.{rules, ◌≡◌, [], map, ◌∷◌, ◌++◌, ap
 use Rattle.std.proofs.lemmas.List.{map-append}
 use Rattle.std.proofs.lemmas.Result.{err_from_is_err_and}
 use Rattle.hs_syntax.specs.RowViews.{one_left, view_left}
-use Rattle.hs_syntax.specs.Operators.{level_of}
+use Rattle.hs_syntax.specs.Operators.{precedence_of}
 use Rattle.hs_syntax.specs.Trees as tree
 use Rattle.hs_syntax.specs.Views.{view}
 use Rattle.hs_syntax.specs.declared.expr.Left.{Left}
@@ -76,12 +76,12 @@ expressions::expression-commas-preserved t c =
 -- one more operator
 pub expressions::binary-operators-preserved : goal.expressions::binary-operators-preserved
 expressions::binary-operators-preserved t c = (
-  ap (λ level. climb_at c.args.known.now c.args.least level
+  ap (λ precedence. climb_at c.args.known.now c.args.least precedence
       (tree.binary (view c.in_ok-new-in-Ok.field-0.value) c.in-Ok.it.operator c.in-Ok.it.at
-      (view c.in_ok-new-in-Ok-2.field-0.value)) c.in-Ok.next.now) c.level-most.ensures
-      ∙ ap (λ e. climb_at c.args.known.now c.args.least (level_of c.in-Ok.it.operator)
+      (view c.in_ok-new-in-Ok-2.field-0.value)) c.in-Ok.next.now) c.precedence-most.ensures
+      ∙ ap (λ e. climb_at c.args.known.now c.args.least (precedence_of c.in-Ok.it.operator)
       (tree.binary (view e) c.in-Ok.it.operator c.in-Ok.it.at (view c.in_ok-new-in-Ok-2.field-0.value)) c.in-Ok.next.now) c.in_ok-new-in-Ok.ensures.ok
-      ∙ ap (λ e. climb_at c.args.known.now c.args.least (level_of c.in-Ok.it.operator)
+      ∙ ap (λ e. climb_at c.args.known.now c.args.least (precedence_of c.in-Ok.it.operator)
       (tree.binary (view c.operators.left) c.in-Ok.it.operator c.in-Ok.it.at (view e)) c.in-Ok.next.now) c.in_ok-new-in-Ok-2.ensures.ok
       ∙ sym (climb_more c.args.known.now c.args.least c.operators.most (view c.operators.left) c.operators.rest.now
       (record { operator = c.in-Ok.it.operator; at = c.in-Ok.it.at; right = view c.in-Ok.it.right }) c.in-Ok.next.now c.in-Ok.ensures.read)

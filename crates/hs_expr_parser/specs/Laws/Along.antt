@@ -5,7 +5,7 @@
 use Rattle.std.proofs.Common.{◌≡◌, ℕ, zero, suc, ◌≤◌, Bool, true, false, List, [], ◌∷◌, ◌++◌, length, Some, None, refl, ap, ◌∙◌, arith}
 use Rattle.std.specs.Prelude.{◌+◌, nat_le, if◌then◌else◌}
 use Rattle.hs_tokens.specs.declared.token.SourceToken.{SourceToken}
-use Rattle.hs_syntax.specs.Operators.{level_of}
+use Rattle.hs_syntax.specs.Operators.{precedence_of}
 use Rattle.hs_syntax.specs.Phrases.{rank}
 use Rattle.hs_syntax.specs.RowViews.{OneLeft, one_left}
 use Rattle.hs_syntax.specs.Trees as tree
@@ -102,18 +102,18 @@ climb_by : {known : Known} {table : Shorter} → Whole known table → (n least 
     → Longer (climb_rule table least most left tokens) tokens
 climb_by {known = known} {table = table} whole zero least most left tokens few =
     going_longer (operand_rule table least most tokens)
-    (λ it rest. table (goal.climb least (level_of it.operator) (tree.binary left it.operator it.at it.right)) rest) left tokens
+    (λ it rest. table (goal.climb least (precedence_of it.operator) (tree.binary left it.operator it.at it.right)) rest) left tokens
     (λ it rest is.
     let short = operand_short known table whole.short least most tokens it rest is in
     absurd (omega (arith, short, few)))
 climb_by {known = known} {table = table} whole (suc n) least most left tokens few =
     going_longer (operand_rule table least most tokens)
-    (λ it rest. table (goal.climb least (level_of it.operator) (tree.binary left it.operator it.at it.right)) rest) left tokens
+    (λ it rest. table (goal.climb least (precedence_of it.operator) (tree.binary left it.operator it.at it.right)) rest) left tokens
     (λ it rest is.
     let short = operand_short known table whole.short least most tokens it rest is in
-    let next = goal.climb least (level_of it.operator) (tree.binary left it.operator it.at it.right) in
+    let next = goal.climb least (precedence_of it.operator) (tree.binary left it.operator it.at it.right) in
     longer_on (omega (arith, short)) (longer_along (whole.plain next rest)
-    (climb_by whole n least (level_of it.operator) (tree.binary left it.operator it.at it.right) rest (omega (arith, short, few)))))
+    (climb_by whole n least (precedence_of it.operator) (tree.binary left it.operator it.at it.right) rest (omega (arith, short, few)))))
 
 pub climb_longer : {known : Known} {table : Shorter} → Whole known table → (least most : ℕ) (left : Expression) (tokens : List SourceToken)
     → Longer (climb_rule table least most left tokens) tokens
@@ -150,7 +150,7 @@ suffixes_stop table e tokens is = stays (λ it rest. table (goal.suffixes it) re
 pub climb_stop : (table : Shorter) (least most : ℕ) (left : Expression) (tokens : List SourceToken) → stops (2 + least) tokens ≡ true
     → climb_rule table least most left tokens ≡ Some (left, tokens)
 climb_stop table least most left tokens is =
-    stays (λ it rest. table (goal.climb least (level_of it.operator) (tree.binary left it.operator it.at it.right)) rest) (Some (left, tokens))
+    stays (λ it rest. table (goal.climb least (precedence_of it.operator) (tree.binary left it.operator it.at it.right)) rest) (Some (left, tokens))
     (operand_none table least most tokens is)
 
 pub commas_stop : (table : Shorter) (lefts : List OneLeft) (right : Expression) (tokens : List SourceToken) → stops 0 tokens ≡ true

@@ -25,7 +25,7 @@ use Rattle.hs_syntax.specs.declared.word.Word.{Word}
 use Rattle.hs_expr_parser.specs.Ahead.{place_of, is_punctuator, is_keyword, is_mark_ahead, mark_at, place_if, name_of, name_at}
 use Rattle.hs_expr_parser.specs.Reading.{Known, Shorter, ◌>>=◌, pointers_at, begins_list, inside_rule, nothing_there, base_by, base_rule, length_rule, void_alone, list_rule, directs_rule, declarator_rule, declarators_rule, parameter_rule, parameters_rule, type_rule, member_rule_of, members_rule, constant_rule, constants_rule}
 use Rattle.hs_expr_parser.specs.Found.{IsFound}
-use Rattle.hs_expr_parser.specs.Laws.Gives.{Gives, none_gives, some_gives, then_gives, so_then_gives, going_gives, if_gives, so_gives}
+use Rattle.hs_expr_parser.specs.Laws.Yields.{Yields, none_gives, some_gives, then_gives, so_then_gives, going_gives, if_gives, so_gives}
 use Rattle.hs_expr_parser.specs.Laws.Spelled.{Begins, Goes, is_behind, form_again, nothing_begins, then_begins, when_begins, token_begins, place_begins, goes_begins}
 use Rattle.hs_expr_parser.specs.Laws.Firsts.{token_is, mark_gives, name_gives, pointers_begin}
 use Rattle.hs_expr_parser.specs.Laws.Ends.{no_list}
@@ -199,7 +199,7 @@ module _ (known : Known) (table : Shorter) (found : IsFound known table) where
   -- a declarator in parentheses
   inside_found : (inner : Bool) (source : SourceToken) (rest : List SourceToken)
       → (is_punctuator (codes "(") source && not (inner && begins_list known rest)) ≡ true
-      → Gives (λ base after. Based known inner base (source ∷ rest) after) (inside_rule table inner rest)
+      → Yields (λ base after. Based known inner base (source ∷ rest) after) (inside_rule table inner rest)
   inside_found inner source rest is =
       let tests = and_parts (is_punctuator (codes "(") source) (not (inner && begins_list known rest)) is in
       let so = token_is Punctuator (codes "(") source tests.0 in
@@ -213,17 +213,17 @@ module _ (known : Known) (table : Shorter) (found : IsFound known table) where
       }))))
 
   -- nothing
-  nothing_found : (inner : Bool) (tokens : List SourceToken) → Gives (λ base rest. Based known inner base tokens rest) (nothing_there inner tokens)
+  nothing_found : (inner : Bool) (tokens : List SourceToken) → Yields (λ base rest. Based known inner base tokens rest) (nothing_there inner tokens)
   nothing_found true tokens = some_gives tree.nothing tokens (record { begins = nothing_begins tokens; named = λ is. absurd cc })
   nothing_found false tokens = none_gives
 
   -- what the rest of a declarator follows
-  base_found : (inner : Bool) (tokens : List SourceToken) → Gives (λ base rest. Based known inner base tokens rest) (base_rule known table inner tokens)
+  base_found : (inner : Bool) (tokens : List SourceToken) → Yields (λ base rest. Based known inner base tokens rest) (base_rule known table inner tokens)
   base_found inner [] = nothing_found inner []
   base_found inner (source ∷ rest) = by_first (name_of source) refl
     where
       by_first : (naming : Option Word) → name_of source ≡ naming
-          → Gives (λ (base : Directly) after. Based known inner base (source ∷ rest) after) (base_by known table inner naming source rest)
+          → Yields (λ (base : Directly) after. Based known inner base (source ∷ rest) after) (base_by known table inner naming source rest)
       by_first (Some name) is =
           let read : name_at (source ∷ rest) ≡ Some (name, rest) = ap (option_map (λ (it : Word). (it, rest))) is in
           some_gives (tree.identifier name) rest (record { begins = (name_gives (source ∷ rest)).holds name rest read; named = λ outer. refl })
@@ -232,7 +232,7 @@ module _ (known : Known) (table : Shorter) (found : IsFound known table) where
 
   -- after a `[`
   length_found : (base : Directly) (source : SourceToken) (rest : List SourceToken) → is_punctuator (codes "[") source ≡ true
-      → Gives (λ direct after. Directs known base direct (source ∷ rest) after) (length_rule table base rest)
+      → Yields (λ direct after. Directs known base direct (source ∷ rest) after) (length_rule table base rest)
   length_found base source rest is =
       let so = token_is Punctuator (codes "[") source is in
       going_gives _ _ _ (mark_gives (codes "]") rest)
@@ -246,12 +246,12 @@ module _ (known : Known) (table : Shorter) (found : IsFound known table) where
       (source ∷ rest) after refl (λ inner. refl) (then_begins (token_begins source rest so.0 so.1) (then_begins inside closing.plain))))))
 
   -- `void` and a `)`
-  void_found : (tokens : List SourceToken) → Gives (λ at rest. Begins (keyword_at at (codes "void") ⨾ mark (codes ")")) tokens rest) (void_alone tokens)
+  void_found : (tokens : List SourceToken) → Yields (λ at rest. Begins (keyword_at at (codes "void") ⨾ mark (codes ")")) tokens rest) (void_alone tokens)
   void_found [] = none_gives
   void_found (source ∷ rest) = by_first (is_keyword (codes "void") source) refl
     where
       by_first : (is_word : Bool) → is_keyword (codes "void") source ≡ is_word
-          → Gives (λ at after. Begins (keyword_at at (codes "void") ⨾ mark (codes ")")) (source ∷ rest) after)
+          → Yields (λ at after. Begins (keyword_at at (codes "void") ⨾ mark (codes ")")) (source ∷ rest) after)
           (place_if is_word source >>= (λ (at : Place). mark_at (codes ")") rest >>= (λ (close : Place × List SourceToken). Some (at, close.1))))
       by_first true is =
           let so = token_is Identifier (codes "void") source is in
@@ -261,7 +261,7 @@ module _ (known : Known) (table : Shorter) (found : IsFound known table) where
 
   -- after a `(`
   list_found : (base : Directly) (source : SourceToken) (rest : List SourceToken) → is_punctuator (codes "(") source ≡ true
-      → Gives (λ direct after. Directs known base direct (source ∷ rest) after) (list_rule table base rest)
+      → Yields (λ direct after. Directs known base direct (source ∷ rest) after) (list_rule table base rest)
   list_found base source rest is =
       let so = token_is Punctuator (codes "(") source is in
       going_gives _ _ _ (mark_gives (codes ")") rest)
@@ -288,7 +288,7 @@ module _ (known : Known) (table : Shorter) (found : IsFound known table) where
 
   -- the rest of a declarator
   pub directs_found : (base : Directly) (tokens : List SourceToken)
-      → Gives (λ direct rest. Directs known base direct tokens rest) (directs_rule table base tokens)
+      → Yields (λ direct rest. Directs known base direct tokens rest) (directs_rule table base tokens)
   directs_found base [] = some_gives base [] (directs_stay known base [])
   directs_found base (source ∷ rest) =
       if_gives (is_punctuator (codes "[") source) _ _
@@ -303,7 +303,7 @@ module _ (known : Known) (table : Shorter) (found : IsFound known table) where
 
   -- a declarator
   pub declarator_found : (inner : Bool) (tokens : List SourceToken)
-      → Gives (λ it rest. Declares known inner it tokens rest) (declarator_rule known table inner tokens)
+      → Yields (λ it rest. Declares known inner it tokens rest) (declarator_rule known table inner tokens)
   declarator_found inner tokens =
       then_gives _ _ (base_found inner (pointers_at tokens).1) (λ base middle first.
       then_gives _ _ (directs_found base middle) (λ direct rest second.
@@ -314,7 +314,7 @@ module _ (known : Known) (table : Shorter) (found : IsFound known table) where
 
   -- declarators
   pub declarators_found : (earlier : List Declared) (tokens : List SourceToken)
-      → Gives (λ all rest. Grows earlier all (λ its. declarators_form known (declarators_from its)) tokens rest) (declarators_rule known table earlier tokens)
+      → Yields (λ all rest. Grows earlier all (λ its. declarators_form known (declarators_from its)) tokens rest) (declarators_rule known table earlier tokens)
   declarators_found earlier tokens =
       let listed : List Declared → Form = λ its. declarators_form known (declarators_from its) in
       then_gives _ _ (declarator_found false tokens) (λ it middle first.
@@ -326,7 +326,7 @@ module _ (known : Known) (table : Shorter) (found : IsFound known table) where
       (one_grows earlier it listed tokens middle (then_begins (when_begins (first.named refl) first.begins) (nothing_begins middle)))))
 
   -- a parameter
-  parameter_found : (tokens : List SourceToken) → Gives (λ it rest. Begins (parameter_form known it) tokens rest) (parameter_rule known table tokens)
+  parameter_found : (tokens : List SourceToken) → Yields (λ it rest. Begins (parameter_form known it) tokens rest) (parameter_rule known table tokens)
   parameter_found tokens =
       then_gives _ _ (some_found known table found tokens) (λ its middle specified.
       then_gives _ _ (declarator_found true middle) (λ declared rest second.
@@ -335,7 +335,7 @@ module _ (known : Known) (table : Shorter) (found : IsFound known table) where
 
   -- parameters
   pub parameters_found : (earlier : List OneParameter) (tokens : List SourceToken)
-      → Gives (λ all rest. Grows earlier all (λ its. parameters_form known (parameters_from its)) tokens rest) (parameters_rule known table earlier tokens)
+      → Yields (λ all rest. Grows earlier all (λ its. parameters_form known (parameters_from its)) tokens rest) (parameters_rule known table earlier tokens)
   parameters_found earlier tokens =
       let listed : List OneParameter → Form = λ its. parameters_form known (parameters_from its) in
       then_gives _ _ (parameter_found tokens) (λ it middle first.
@@ -346,7 +346,7 @@ module _ (known : Known) (table : Shorter) (found : IsFound known table) where
       (λ is. some_gives (earlier ++ it ∷ []) middle (one_grows earlier it listed tokens middle (last_parameter known it tokens middle first))))
 
   -- a type name
-  pub type_name_found : (tokens : List SourceToken) → Gives (λ type rest. Begins (type_form known type) tokens rest) (type_rule known table tokens)
+  pub type_name_found : (tokens : List SourceToken) → Yields (λ type rest. Begins (type_form known type) tokens rest) (type_rule known table tokens)
   type_name_found tokens =
       then_gives _ _ (some_found known table found tokens) (λ its middle specified.
       then_gives _ _ (declarator_found true middle) (λ declared rest second.
@@ -356,7 +356,7 @@ module _ (known : Known) (table : Shorter) (found : IsFound known table) where
       (followed known its (declarator_form known true declared) tokens middle rest specified second.begins)))))
 
   -- members that are declared together
-  member_found : (tokens : List SourceToken) → Gives (λ it rest. Begins (member_form known it) tokens rest) (member_rule_of known table tokens)
+  member_found : (tokens : List SourceToken) → Yields (λ it rest. Begins (member_form known it) tokens rest) (member_rule_of known table tokens)
   member_found tokens =
       then_gives _ _ (some_found known table found tokens) (λ its middle specified.
       then_gives _ _ (declarators_gives known table found [] middle) (λ declared behind second.
@@ -373,7 +373,7 @@ module _ (known : Known) (table : Shorter) (found : IsFound known table) where
 
   -- members
   pub members_found : (earlier : List OneMember) (tokens : List SourceToken)
-      → Gives (λ all rest. Grows earlier all (λ its. members_form known (members_from its)) tokens rest) (members_rule known table earlier tokens)
+      → Yields (λ all rest. Grows earlier all (λ its. members_form known (members_from its)) tokens rest) (members_rule known table earlier tokens)
   members_found earlier tokens =
       let listed : List OneMember → Form = λ its. members_form known (members_from its) in
       then_gives _ _ (member_found tokens) (λ it middle first.
@@ -385,7 +385,7 @@ module _ (known : Known) (table : Shorter) (found : IsFound known table) where
       (λ next others behind. next_member known it (next ∷ others) tokens middle after first behind))))
 
   -- an enumeration constant
-  constant_found : (tokens : List SourceToken) → Gives (λ it rest. Begins (constant_form known it) tokens rest) (constant_rule table tokens)
+  constant_found : (tokens : List SourceToken) → Yields (λ it rest. Begins (constant_form known it) tokens rest) (constant_rule table tokens)
   constant_found tokens =
       then_gives _ _ (name_gives tokens) (λ name middle naming.
       going_gives _ _ _ (mark_gives (codes "=") middle)
@@ -395,7 +395,7 @@ module _ (known : Known) (table : Shorter) (found : IsFound known table) where
 
   -- enumeration constants
   pub constants_found : (earlier : List OneConstant) (tokens : List SourceToken)
-      → Gives (λ all rest. Grows earlier all.0 (λ its. constants_form known (constants_from its) ⨾ comma_form all.1) tokens rest)
+      → Yields (λ all rest. Grows earlier all.0 (λ its. constants_form known (constants_from its) ⨾ comma_form all.1) tokens rest)
       (constants_rule table earlier tokens)
   constants_found earlier tokens =
       let listed : Bool → List OneConstant → Form = λ comma its. constants_form known (constants_from its) ⨾ comma_form comma in

@@ -14,7 +14,7 @@ use Rattle.hs_syntax.specs.Forms as form
 use Rattle.hs_syntax.specs.Forms.{Form, ◌⨾◌, when, mark, IsOf}
 use Rattle.hs_syntax.specs.Grammar.{expression_form, lefts_form, arguments_form, type_form}
 use Rattle.hs_syntax.specs.Names.{is_among, is_name}
-use Rattle.hs_syntax.specs.Operators.{binary_text, level_of, assign_text, prefix_text, postfix_text, access_text}
+use Rattle.hs_syntax.specs.Operators.{binary_text, precedence_of, assign_text, prefix_text, postfix_text, access_text}
 use Rattle.hs_syntax.specs.Parts.{as_prefixed}
 use Rattle.hs_syntax.specs.Phrases.{rank, at_least, as_assignment, as_conditional, as_operand, as_cast, as_unary, as_postfix}
 use Rattle.hs_syntax.specs.RowViews.{OneLeft, one_left, expressions_from, lefts_from}
@@ -35,8 +35,8 @@ use Rattle.hs_expr_parser.specs.Ahead.{place_of, word_of, is_punctuator, is_keyw
 use Rattle.hs_expr_parser.specs.Goals as goal
 use Rattle.hs_expr_parser.specs.Reading.{Known, Shorter, parens_rule, primary_by, primary_rule, index_rule, call_rule, member_rule, suffix_rule, suffixes_rule, postfix_rule, operand_at, type_in_parens, sizeof_rule, unary_by, unary_rule, cast_rule, Operand, operand_by, operand_rule, climb_rule, binary_rule, Branches, branches_rule, conditional_rule, Assigned, value_by, value_rule, assignment_rule, another_rule, joined, commas_rule, expression_rule, arguments_rule}
 use Rattle.hs_expr_parser.specs.Found.{IsFound}
-use Rattle.hs_expr_parser.specs.Laws.Gives.{Gives, none_gives, some_gives, then_gives, going_gives, if_gives, so_gives}
-use Rattle.hs_expr_parser.specs.Laws.Ranks.{level_most}
+use Rattle.hs_expr_parser.specs.Laws.Yields.{Yields, none_gives, some_gives, then_gives, going_gives, if_gives, so_gives}
+use Rattle.hs_expr_parser.specs.Laws.Ranks.{precedence_most}
 use Rattle.hs_expr_parser.specs.Laws.Spelled.{Begins, Goes, form_again, nothing_begins, then_begins, when_begins, token_begins, place_begins, stays, then_goes, behind_goes, form_goes, goes_form, begins_form, goes_begins}
 use Rattle.hs_expr_parser.specs.Laws.Firsts.{token_is, token_of, mark_gives, name_gives, literals_begin}
 use Rattle.hs_expr_parser.specs.Laws.Tables.{Grows, one_grows, more_grows, expression_gives, assignment_gives, conditional_gives, binary_gives, cast_gives, unary_gives, commas_gives, climb_gives, suffixes_gives, arguments_gives, type_gives}
@@ -74,11 +74,11 @@ cast_operand least e it within sources is =
 
 -- an operator with its right operand stands there
 record IsOperand (known : Known) (least most : ℕ) (it : Operand) (tokens rest : List SourceToken) : Type 0 where
-  above : nat_le least (level_of it.operator) ≡ true
-  below : nat_le (level_of it.operator) most ≡ true
-  begins : Begins (form.mark_at it.at (binary_text it.operator) ⨾ as_operand (suc (level_of it.operator)) it.right (expression_form known it.right)) tokens rest
+  above : nat_le least (precedence_of it.operator) ≡ true
+  below : nat_le (precedence_of it.operator) most ≡ true
+  begins : Begins (form.mark_at it.at (binary_text it.operator) ⨾ as_operand (suc (precedence_of it.operator)) it.right (expression_form known it.right)) tokens rest
 
--- the tokens have a front that is of the form, if there may be an operator of that level
+-- the tokens have a front that is of the form, if there may be an operator of that precedence
 pub record BeginsWithin (least : ℕ) (it : Form) (tokens rest : List SourceToken) : Type 0 where
   pub front : List SourceToken
   pub whole : tokens ≡ front ++ rest
@@ -92,33 +92,33 @@ pub record GoesWithin (least : ℕ) (it other : Form) (tokens rest : List Source
 
 -- a left operand takes an operator and its right operand
 taken : (least most : ℕ) (left : Expression) (operator : BinaryOperator) (at : Place) (right : Expression) (known : Known)
-    → nat_le least (level_of operator) ≡ true → nat_le (level_of operator) most ≡ true → {tokens rest : List SourceToken}
-    → Begins (form.mark_at at (binary_text operator) ⨾ as_operand (suc (level_of operator)) right (expression_form known right)) tokens rest
+    → nat_le least (precedence_of operator) ≡ true → nat_le (precedence_of operator) most ≡ true → {tokens rest : List SourceToken}
+    → Begins (form.mark_at at (binary_text operator) ⨾ as_operand (suc (precedence_of operator)) right (expression_form known right)) tokens rest
     → let new : Expression = tree.binary left operator at right in
     Goes (as_operand most left (as_operand least left (expression_form known left)))
-    (as_operand (level_of operator) new (as_operand least new (expression_form known new))) tokens rest
+    (as_operand (precedence_of operator) new (as_operand least new (expression_form known new))) tokens rest
 taken least most left operator at right known above below begins =
     let it : Form = expression_form known left in
     let new : Expression = tree.binary left operator at right in
     let loose : (sources : List SourceToken) → IsOf (as_operand most left (as_operand least left it)) sources
-    → IsOf (as_operand (level_of operator) left it) sources =
+    → IsOf (as_operand (precedence_of operator) left it) sources =
     λ sources is.
     let inner = but_for (nat_le (2 + most) (rank left)) (as_operand least left it) sources is in
     let outer = (and_parts (nat_le (2 + most) (rank left)) (nat_le (2 + least) (rank left) && it.fits) is.0).0 in
     let fine = (and_parts (nat_le (2 + least) (rank left)) it.fits inner.0).1 in
-    let ranked : nat_le (2 + level_of operator) (rank left) ≡ true = grind (arith, nat_tests) in
-    let fits : (nat_le (2 + level_of operator) (rank left) && it.fits) ≡ true = rw (ranked, fine) refl in
+    let ranked : nat_le (2 + precedence_of operator) (rank left) ≡ true = grind (arith, nat_tests) in
+    let fits : (nat_le (2 + precedence_of operator) (rank left) && it.fits) ≡ true = rw (ranked, fine) refl in
     (fits, is.1) in
     let tight : (sources : List SourceToken) → IsOf (expression_form known new) sources
-    → IsOf (as_operand (level_of operator) new (as_operand least new (expression_form known new))) sources =
+    → IsOf (as_operand (precedence_of operator) new (as_operand least new (expression_form known new))) sources =
     λ sources is.
-    let own : nat_le (2 + level_of operator) (2 + level_of operator) ≡ true = grind (arith, nat_tests) in
-    let lowest : nat_le (2 + least) (2 + level_of operator) ≡ true = grind (arith, nat_tests) in
-    let fits : (nat_le (2 + level_of operator) (2 + level_of operator)
-    && (nat_le (2 + least) (2 + level_of operator) && (expression_form known new).fits)) ≡ true =
+    let own : nat_le (2 + precedence_of operator) (2 + precedence_of operator) ≡ true = grind (arith, nat_tests) in
+    let lowest : nat_le (2 + least) (2 + precedence_of operator) ≡ true = grind (arith, nat_tests) in
+    let fits : (nat_le (2 + precedence_of operator) (2 + precedence_of operator)
+    && (nat_le (2 + least) (2 + precedence_of operator) && (expression_form known new).fits)) ≡ true =
     rw (own, lowest) is.0 in
     (fits, is.1) in
-    form_goes loose (goes_form (behind_goes (as_operand (level_of operator) left it) begins) tight)
+    form_goes loose (goes_form (behind_goes (as_operand (precedence_of operator) left it) begins) tight)
 
 -- one more left operand
 lefts_more : (known : Known) (lefts : List OneLeft) (right : Expression) (at : Place) → lefts_form known (lefts_from (lefts ++ one_left right at ∷ []))
@@ -170,7 +170,7 @@ record IsTyped (known : Known) (at : Place) (type : NamedType) (tokens rest : Li
 module _ (known : Known) (table : Shorter) (found : IsFound known table) where
   -- an expression in parentheses
   parens_found : (source : SourceToken) (rest : List SourceToken) → is_punctuator (codes "(") source ≡ true
-      → Gives (λ e after. Begins (as_postfix e (expression_form known e)) (source ∷ rest) after) (parens_rule table (place_of source) rest)
+      → Yields (λ e after. Begins (as_postfix e (expression_form known e)) (source ∷ rest) after) (parens_rule table (place_of source) rest)
   parens_found source rest is =
       let so = token_is Punctuator (codes "(") source is in
       then_gives _ _ (expression_gives known table found rest) (λ inner middle inside.
@@ -178,12 +178,12 @@ module _ (known : Known) (table : Shorter) (found : IsFound known table) where
       some_gives (tree.parens (place_of source) inner) after (then_begins (place_begins source rest so.0 so.1) (then_begins inside closing.plain))))
 
   -- a primary expression
-  primary_found : (tokens : List SourceToken) → Gives (λ e rest. Begins (as_postfix e (expression_form known e)) tokens rest) (primary_rule known table tokens)
+  primary_found : (tokens : List SourceToken) → Yields (λ e rest. Begins (as_postfix e (expression_form known e)) tokens rest) (primary_rule known table tokens)
   primary_found [] = none_gives
   primary_found (source ∷ rest) = by_kind source.token.kind refl
     where
       by_kind : (kind : TokenKind) → source.token.kind ≡ kind
-          → Gives (λ (e : Expression) after. Begins (as_postfix e (expression_form known e)) (source ∷ rest) after) (primary_by known table kind source rest)
+          → Yields (λ (e : Expression) after. Begins (as_postfix e (expression_form known e)) (source ∷ rest) after) (primary_by known table kind source rest)
       by_kind Identifier kind = if_gives (is_name source.token.text && not (is_among known source.token.text)) _ _
           (λ is. let tests = and_parts (is_name source.token.text) (not (is_among known source.token.text)) is in
           some_gives (tree.name (word_of source)) rest (when_begins tests.1 (when_begins tests.0 (place_begins source rest kind refl)))) (λ is. none_gives)
@@ -198,7 +198,7 @@ module _ (known : Known) (table : Shorter) (found : IsFound known table) where
 
   -- an index
   index_found : (base : Expression) (source : SourceToken) (rest : List SourceToken) → is_punctuator (codes "[") source ≡ true
-      → Gives (λ e after. Goes (as_postfix base (expression_form known base)) (as_postfix e (expression_form known e)) (source ∷ rest) after)
+      → Yields (λ e after. Goes (as_postfix base (expression_form known base)) (as_postfix e (expression_form known e)) (source ∷ rest) after)
       (index_rule table base (place_of source) rest)
   index_found base source rest is =
       let so = token_is Punctuator (codes "[") source is in
@@ -208,7 +208,7 @@ module _ (known : Known) (table : Shorter) (found : IsFound known table) where
       (behind_goes (as_postfix base (expression_form known base)) (then_begins (place_begins source rest so.0 so.1) (then_begins inside closing.plain)))))
 
   -- the arguments of a call
-  listed_found : (rest : List SourceToken) → Gives (λ its after. Begins (arguments_form known (expressions_from its)) rest after)
+  listed_found : (rest : List SourceToken) → Yields (λ its after. Begins (arguments_form known (expressions_from its)) rest after)
       (if is_mark_ahead (codes ")") rest then Some ([], rest) else table (goal.arguments []) rest)
   listed_found rest = if_gives (is_mark_ahead (codes ")") rest) _ _ (λ is. some_gives [] rest (nothing_begins rest))
       (λ is. so_gives (table (goal.arguments []) rest) (arguments_gives known table found [] rest)
@@ -216,7 +216,7 @@ module _ (known : Known) (table : Shorter) (found : IsFound known table) where
 
   -- a call
   call_found : (base : Expression) (source : SourceToken) (rest : List SourceToken) → is_punctuator (codes "(") source ≡ true
-      → Gives (λ e after. Goes (as_postfix base (expression_form known base)) (as_postfix e (expression_form known e)) (source ∷ rest) after)
+      → Yields (λ e after. Goes (as_postfix base (expression_form known base)) (as_postfix e (expression_form known e)) (source ∷ rest) after)
       (call_rule table base rest)
   call_found base source rest is =
       let so = token_is Punctuator (codes "(") source is in
@@ -228,7 +228,7 @@ module _ (known : Known) (table : Shorter) (found : IsFound known table) where
   -- a member, and an operator after its operand
   member_found : (base : Expression) (source : SourceToken) (rest : List SourceToken) (accessed : Option Access) (operated : Option PostfixOperator)
       → access_of source ≡ accessed → postfix_of source ≡ operated
-      → Gives (λ e after. Goes (as_postfix base (expression_form known base)) (as_postfix e (expression_form known e)) (source ∷ rest) after)
+      → Yields (λ e after. Goes (as_postfix base (expression_form known base)) (as_postfix e (expression_form known e)) (source ∷ rest) after)
       (member_rule base accessed operated (place_of source) rest)
   member_found base source rest (Some it) operated is is_operated =
       let so = token_of Punctuator access_text (access.Dot ∷ access.Arrow ∷ []) source it is in
@@ -242,7 +242,7 @@ module _ (known : Known) (table : Shorter) (found : IsFound known table) where
 
   -- what follows a postfix expression
   suffix_found : (base : Expression) (tokens : List SourceToken)
-      → Gives (λ e rest. Goes (as_postfix base (expression_form known base)) (as_postfix e (expression_form known e)) tokens rest)
+      → Yields (λ e rest. Goes (as_postfix base (expression_form known base)) (as_postfix e (expression_form known e)) tokens rest)
       (suffix_rule table base tokens)
   suffix_found base [] = none_gives
   suffix_found base (source ∷ rest) =
@@ -252,7 +252,7 @@ module _ (known : Known) (table : Shorter) (found : IsFound known table) where
 
   -- the rest of a postfix expression
   pub suffixes_found : (base : Expression) (tokens : List SourceToken)
-      → Gives (λ e rest. Goes (as_postfix base (expression_form known base)) (as_postfix e (expression_form known e)) tokens rest)
+      → Yields (λ e rest. Goes (as_postfix base (expression_form known base)) (as_postfix e (expression_form known e)) tokens rest)
       (suffixes_rule table base tokens)
   suffixes_found base tokens =
       going_gives _ _ _ (suffix_found base tokens)
@@ -260,20 +260,20 @@ module _ (known : Known) (table : Shorter) (found : IsFound known table) where
       (λ is. some_gives base tokens (stays (as_postfix base (expression_form known base)) tokens))
 
   -- a postfix expression
-  postfix_found : (tokens : List SourceToken) → Gives (λ e rest. Begins (as_postfix e (expression_form known e)) tokens rest) (postfix_rule known table tokens)
+  postfix_found : (tokens : List SourceToken) → Yields (λ e rest. Begins (as_postfix e (expression_form known e)) tokens rest) (postfix_rule known table tokens)
   postfix_found tokens =
       then_gives _ _ (primary_found tokens) (λ e rest first.
       so_gives _ (suffixes_found e rest) (λ all after second. goes_begins first second))
 
   -- the operand of an operator in front
   operand_found : (operator : PrefixOperator) (rest : List SourceToken)
-      → Gives (λ e after. Begins (as_prefixed operator e (expression_form known e)) rest after) (operand_at table operator rest)
+      → Yields (λ e after. Begins (as_prefixed operator e (expression_form known e)) rest after) (operand_at table operator rest)
   operand_found prefix.Increment rest = unary_gives known table found rest
   operand_found prefix.Decrement rest = unary_gives known table found rest
   operand_found _ rest = cast_gives known table found rest
 
   -- a type name in parentheses
-  type_found : (tokens : List SourceToken) → Gives (λ it rest. IsTyped known it.0 it.1 tokens rest) (type_in_parens table tokens)
+  type_found : (tokens : List SourceToken) → Yields (λ it rest. IsTyped known it.0 it.1 tokens rest) (type_in_parens table tokens)
   type_found tokens =
       then_gives _ _ (mark_gives (codes "(") tokens) (λ at middle opening.
       then_gives _ _ (type_gives known table found middle) (λ type behind inside.
@@ -285,7 +285,7 @@ module _ (known : Known) (table : Shorter) (found : IsFound known table) where
 
   -- `sizeof`
   sizeof_found : (source : SourceToken) (rest : List SourceToken) → is_keyword (codes "sizeof") source ≡ true
-      → Gives (λ e after. Begins (as_unary e (expression_form known e)) (source ∷ rest) after) (sizeof_rule known table (place_of source) rest)
+      → Yields (λ e after. Begins (as_unary e (expression_form known e)) (source ∷ rest) after) (sizeof_rule known table (place_of source) rest)
   sizeof_found source rest is =
       let so = token_is Identifier (codes "sizeof") source is in
       if_gives (begins_type known rest) _ _
@@ -295,12 +295,12 @@ module _ (known : Known) (table : Shorter) (found : IsFound known table) where
       some_gives (tree.sizeof_value (place_of source) e) after (then_begins (place_begins source rest so.0 so.1) operand)))
 
   -- a unary expression
-  pub unary_found : (tokens : List SourceToken) → Gives (λ e rest. Begins (as_unary e (expression_form known e)) tokens rest) (unary_rule known table tokens)
+  pub unary_found : (tokens : List SourceToken) → Yields (λ e rest. Begins (as_unary e (expression_form known e)) tokens rest) (unary_rule known table tokens)
   unary_found [] = none_gives
   unary_found (source ∷ rest) = by_first (prefix_of source) (is_keyword (codes "sizeof") source) refl refl
     where
       by_first : (operated : Option PrefixOperator) (is_sizeof : Bool) → prefix_of source ≡ operated → is_keyword (codes "sizeof") source ≡ is_sizeof
-          → Gives (λ (e : Expression) after. Begins (as_unary e (expression_form known e)) (source ∷ rest) after)
+          → Yields (λ (e : Expression) after. Begins (as_unary e (expression_form known e)) (source ∷ rest) after)
           (unary_by known table operated is_sizeof source rest)
       by_first (Some it) is_sizeof is is_word =
           let so = token_of Punctuator prefix_text
@@ -313,7 +313,7 @@ module _ (known : Known) (table : Shorter) (found : IsFound known table) where
           (λ e after it. looser_begins 14 15 e (expression_form known e) (source ∷ rest) after (omega arith) it)
 
   -- a cast
-  pub cast_found : (tokens : List SourceToken) → Gives (λ e rest. Begins (as_cast e (expression_form known e)) tokens rest) (cast_rule known table tokens)
+  pub cast_found : (tokens : List SourceToken) → Yields (λ e rest. Begins (as_cast e (expression_form known e)) tokens rest) (cast_rule known table tokens)
   cast_found tokens =
       if_gives (begins_type known tokens) _ _
       (λ typed. then_gives _ _ (type_found tokens) (λ type middle inside.
@@ -323,62 +323,62 @@ module _ (known : Known) (table : Shorter) (found : IsFound known table) where
 
   -- an operator and its right operand
   operator_found : (least most : ℕ) (tokens : List SourceToken)
-      → Gives (λ it rest. IsOperand known least most it tokens rest) (operand_rule table least most tokens)
+      → Yields (λ it rest. IsOperand known least most it tokens rest) (operand_rule table least most tokens)
   operator_found least most [] = none_gives
   operator_found least most (source ∷ rest) = by_first (binary_of source) refl
     where
       by_first : (operator : Option BinaryOperator) → binary_of source ≡ operator
-          → Gives (λ (it : Operand) after. IsOperand known least most it (source ∷ rest) after) (operand_by table least most operator (place_of source) rest)
+          → Yields (λ (it : Operand) after. IsOperand known least most it (source ∷ rest) after) (operand_by table least most operator (place_of source) rest)
       by_first None is = none_gives
       by_first (Some it) is =
           let so = token_of Punctuator binary_text
           (binary.Multiply ∷ binary.Divide ∷ binary.Remainder ∷ binary.Add ∷ binary.Subtract ∷ binary.ShiftLeft ∷ binary.ShiftRight
           ∷ binary.Less ∷ binary.Greater ∷ binary.LessEqual ∷ binary.GreaterEqual ∷ binary.Equal ∷ binary.NotEqual ∷ binary.BitAnd
           ∷ binary.BitXor ∷ binary.BitOr ∷ binary.And ∷ binary.Or ∷ []) source it is in
-          let within = level_most it in
-          if_gives (nat_le least (level_of it) && nat_le (level_of it) most) _ _
-          (λ levels. let tests = and_parts (nat_le least (level_of it)) (nat_le (level_of it) most) levels in
-          then_gives _ _ (binary_gives known table found (suc (level_of it)) rest (omega arith)) (λ e after operand.
+          let within = precedence_most it in
+          if_gives (nat_le least (precedence_of it) && nat_le (precedence_of it) most) _ _
+          (λ precedences. let tests = and_parts (nat_le least (precedence_of it)) (nat_le (precedence_of it) most) precedences in
+          then_gives _ _ (binary_gives known table found (suc (precedence_of it)) rest (omega arith)) (λ e after operand.
           some_gives (record { operator = it; at = place_of source; right = e }) after
           (record { above = tests.0; below = tests.1; begins = then_begins (place_begins source rest so.0 so.1) operand })))
-          (λ levels. none_gives)
+          (λ precedences. none_gives)
 
   -- the rest of operators
   climb_found : (least most : ℕ) (left : Expression) (tokens : List SourceToken) → least ≤ 11
-      → Gives (λ e rest. Goes (as_operand most left (as_operand least left (expression_form known left)))
+      → Yields (λ e rest. Goes (as_operand most left (as_operand least left (expression_form known left)))
       (as_operand least e (expression_form known e)) tokens rest)
       (climb_rule table least most left tokens)
   climb_found least most left tokens within =
       going_gives _ _ _ (operator_found least most tokens)
       (λ it rest is operand.
       let new : Expression = tree.binary left it.operator it.at it.right in
-      so_gives _ (climb_gives known table found least (level_of it.operator) new rest within) (λ e after others.
+      so_gives _ (climb_gives known table found least (precedence_of it.operator) new rest within) (λ e after others.
       then_goes (taken least most left it.operator it.at it.right known operand.above operand.below operand.begins) others))
       (λ is. some_gives left tokens (goes_form (stays (as_operand most left (as_operand least left (expression_form known left))) tokens)
       (but_for (nat_le (2 + most) (rank left)) (as_operand least left (expression_form known left)))))
 
   -- binary operators
   binary_found : (least : ℕ) (tokens : List SourceToken) → least ≤ 11
-      → Gives (λ e rest. Begins (as_operand least e (expression_form known e)) tokens rest) (binary_rule known table least tokens)
+      → Yields (λ e rest. Begins (as_operand least e (expression_form known e)) tokens rest) (binary_rule known table least tokens)
   binary_found least tokens within =
       then_gives _ _ (cast_found tokens) (λ e middle first.
       so_gives _ (climb_found least 10 e middle within) (λ all rest second.
       goes_begins (begins_form first (cast_operand least e (expression_form known e) within)) second))
 
-  -- no operator is tighter than level 10
+  -- no operator is tighter than precedence 10
   climb_stops : (least most : ℕ) (left : Expression) (tokens : List SourceToken) → 11 < least
-      → Gives (λ e rest. tokens ≡ rest) (climb_rule table least most left tokens)
+      → Yields (λ e rest. tokens ≡ rest) (climb_rule table least most left tokens)
   climb_stops least most left tokens above =
       going_gives _ _ _ (operator_found least most tokens)
       (λ it rest is operand.
-      let within = level_most it.operator in
-      let reaches : nat_le least (level_of it.operator) ≡ true = operand.above in
+      let within = precedence_most it.operator in
+      let reaches : nat_le least (precedence_of it.operator) ≡ true = operand.above in
       absurd (grind (arith, nat_tests)))
       (λ is. some_gives left tokens refl)
 
   -- the rest of operators, if there may be some
   pub climb_within : (least most : ℕ) (left : Expression) (tokens : List SourceToken)
-      → Gives (λ e rest. GoesWithin least (as_operand most left (as_operand least left (expression_form known left)))
+      → Yields (λ e rest. GoesWithin least (as_operand most left (as_operand least left (expression_form known left)))
       (as_operand least e (expression_form known e)) tokens rest) (climb_rule table least most left tokens)
   climb_within least most left tokens = elim (cases_lt 11 least) [
     | inl above ↦ so_gives _ (climb_stops least most left tokens above)
@@ -389,7 +389,7 @@ module _ (known : Known) (table : Shorter) (found : IsFound known table) where
 
   -- binary operators, if there may be some
   pub binary_within : (least : ℕ) (tokens : List SourceToken)
-      → Gives (λ e rest. BeginsWithin least (as_operand least e (expression_form known e)) tokens rest) (binary_rule known table least tokens)
+      → Yields (λ e rest. BeginsWithin least (as_operand least e (expression_form known e)) tokens rest) (binary_rule known table least tokens)
   binary_within least tokens = elim (cases_lt 11 least) [
     | inl above ↦ then_gives _ _ (cast_found tokens) (λ e middle first.
         so_gives _ (climb_stops least 10 e middle above) (λ all rest same. record {
@@ -401,7 +401,7 @@ module _ (known : Known) (table : Shorter) (found : IsFound known table) where
   ]
 
   -- what follows a test
-  branches_found : (tokens : List SourceToken) → Gives (λ it rest. IsBranches known it tokens rest) (branches_rule table tokens)
+  branches_found : (tokens : List SourceToken) → Yields (λ it rest. IsBranches known it tokens rest) (branches_rule table tokens)
   branches_found tokens =
       then_gives _ _ (mark_gives (codes "?") tokens) (λ at middle query.
       then_gives _ _ (expression_gives known table found middle) (λ one behind first.
@@ -412,7 +412,7 @@ module _ (known : Known) (table : Shorter) (found : IsFound known table) where
 
   -- a conditional
   pub conditional_found : (tokens : List SourceToken)
-      → Gives (λ e rest. Begins (as_conditional e (expression_form known e)) tokens rest) (conditional_rule known table tokens)
+      → Yields (λ e rest. Begins (as_conditional e (expression_form known e)) tokens rest) (conditional_rule known table tokens)
   conditional_found tokens =
       then_gives _ _ (binary_found 1 tokens (omega arith)) (λ test middle first.
       going_gives _ _ _ (branches_found middle)
@@ -420,12 +420,12 @@ module _ (known : Known) (table : Shorter) (found : IsFound known table) where
       (λ is. some_gives test middle (looser_begins 2 3 test (expression_form known test) tokens middle (omega arith) first)))
 
   -- what is assigned
-  value_found : (tokens : List SourceToken) → Gives (λ it rest. IsAssigned known it tokens rest) (value_rule table tokens)
+  value_found : (tokens : List SourceToken) → Yields (λ it rest. IsAssigned known it tokens rest) (value_rule table tokens)
   value_found [] = none_gives
   value_found (source ∷ rest) = by_first (assign_of source) refl
     where
       by_first : (operator : Option AssignOperator) → assign_of source ≡ operator
-          → Gives (λ (it : Assigned) after. IsAssigned known it (source ∷ rest) after) (value_by table operator (place_of source) rest)
+          → Yields (λ (it : Assigned) after. IsAssigned known it (source ∷ rest) after) (value_by table operator (place_of source) rest)
       by_first None is = none_gives
       by_first (Some it) is =
           let so = token_of Punctuator assign_text
@@ -436,7 +436,7 @@ module _ (known : Known) (table : Shorter) (found : IsFound known table) where
 
   -- an assignment
   pub assignment_found : (tokens : List SourceToken)
-      → Gives (λ e rest. Begins (as_assignment e (expression_form known e)) tokens rest) (assignment_rule known table tokens)
+      → Yields (λ e rest. Begins (as_assignment e (expression_form known e)) tokens rest) (assignment_rule known table tokens)
   assignment_found tokens =
       then_gives _ _ (conditional_found tokens) (λ target middle first.
       going_gives {Before = λ it rest. (nat_le 14 (rank target) ≡ true) × IsAssigned known it middle rest} _ _ _
@@ -447,7 +447,7 @@ module _ (known : Known) (table : Shorter) (found : IsFound known table) where
 
   -- a comma and its right operand
   another_found : (tokens : List SourceToken)
-      → Gives (λ it rest. Begins (form.mark_at it.0 (codes ",") ⨾ as_assignment it.1 (expression_form known it.1)) tokens rest) (another_rule table tokens)
+      → Yields (λ it rest. Begins (form.mark_at it.0 (codes ",") ⨾ as_assignment it.1 (expression_form known it.1)) tokens rest) (another_rule table tokens)
   another_found tokens =
       then_gives _ _ (mark_gives (codes ",") tokens) (λ at middle comma.
       then_gives _ _ (assignment_gives known table found middle) (λ e rest right.
@@ -455,7 +455,7 @@ module _ (known : Known) (table : Shorter) (found : IsFound known table) where
 
   -- the rest of an expression
   pub commas_found : (lefts : List OneLeft) (right : Expression) (tokens : List SourceToken)
-      → Gives (λ e rest. Goes (lefts_form known (lefts_from lefts) ⨾ as_assignment right (expression_form known right)) (expression_form known e) tokens rest)
+      → Yields (λ e rest. Goes (lefts_form known (lefts_from lefts) ⨾ as_assignment right (expression_form known right)) (expression_form known e) tokens rest)
       (commas_rule table lefts right tokens)
   commas_found lefts right tokens =
       let operands : Form = lefts_form known (lefts_from lefts) ⨾ as_assignment right (expression_form known right) in
@@ -465,14 +465,14 @@ module _ (known : Known) (table : Shorter) (found : IsFound known table) where
       (λ is. some_gives (joined lefts right) tokens (goes_form (stays operands tokens) (joined_is known lefts right)))
 
   -- an expression
-  pub expression_found : (tokens : List SourceToken) → Gives (λ e rest. Begins (expression_form known e) tokens rest) (expression_rule known table tokens)
+  pub expression_found : (tokens : List SourceToken) → Yields (λ e rest. Begins (expression_form known e) tokens rest) (expression_rule known table tokens)
   expression_found tokens =
       then_gives _ _ (assignment_found tokens) (λ e middle first.
       so_gives _ (commas_found [] e middle) (λ all rest second. goes_begins first second))
 
   -- arguments
   pub arguments_found : (earlier : List Expression) (tokens : List SourceToken)
-      → Gives (λ all rest. Grows earlier all (λ its. arguments_form known (expressions_from its)) tokens rest) (arguments_rule known table earlier tokens)
+      → Yields (λ all rest. Grows earlier all (λ its. arguments_form known (expressions_from its)) tokens rest) (arguments_rule known table earlier tokens)
   arguments_found earlier tokens =
       let listed : List Expression → Form = λ its. arguments_form known (expressions_from its) in
       then_gives _ _ (assignment_found tokens) (λ e middle first.

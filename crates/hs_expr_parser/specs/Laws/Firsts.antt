@@ -27,7 +27,7 @@ use Rattle.hs_expr_parser.specs.Ahead.{place_of, word_of, is_token, is_punctuato
 use Rattle.hs_expr_parser.specs.Reading.{going_on, tag_at, pointer_by, with_pointer, pointers_at}
 use Rattle.hs_expr_parser.specs.Recursion.{Read}
 use Rattle.hs_expr_parser.specs.Laws.Apart.{spelled_is}
-use Rattle.hs_expr_parser.specs.Laws.Gives.{Gives, none_gives, some_gives}
+use Rattle.hs_expr_parser.specs.Laws.Yields.{Yields, none_gives, some_gives}
 use Rattle.hs_expr_parser.specs.Laws.Spelled.{Begins, nothing_begins, then_begins, when_begins, token_begins, place_begins}
 
 -- texts that are the same
@@ -57,24 +57,24 @@ pub record IsMark (text : List ℕ) (tokens : List SourceToken) (at : Place) (re
   pub plain : Begins (form.mark text) tokens rest
 
 -- a punctuator
-pub mark_gives : (text : List ℕ) (tokens : List SourceToken) → Gives (IsMark text tokens) (mark_at text tokens)
+pub mark_gives : (text : List ℕ) (tokens : List SourceToken) → Yields (IsMark text tokens) (mark_at text tokens)
 mark_gives text [] = none_gives
 mark_gives text (source ∷ rest) = given (is_punctuator text source) refl
   where
     given : (is : Bool) → is_punctuator text source ≡ is
-        → Gives (IsMark text (source ∷ rest)) (option_map (λ (it : Place). (it, rest)) (place_if is source))
+        → Yields (IsMark text (source ∷ rest)) (option_map (λ (it : Place). (it, rest)) (place_if is source))
     given true is =
         let so = token_is Punctuator text source is in
         some_gives (place_of source) rest (record { placed = place_begins source rest so.0 so.1; plain = token_begins source rest so.0 so.1 })
     given false is = none_gives
 
 -- a name
-pub name_gives : (tokens : List SourceToken) → Gives (λ name rest. Begins (identifier name) tokens rest) (name_at tokens)
+pub name_gives : (tokens : List SourceToken) → Yields (λ name rest. Begins (identifier name) tokens rest) (name_at tokens)
 name_gives [] = none_gives
 name_gives (source ∷ rest) = given (is_same_kind source.token.kind Identifier && is_name source.token.text) refl
   where
     given : (is : Bool) → (is_same_kind source.token.kind Identifier && is_name source.token.text) ≡ is
-        → Gives (λ (name : Word) others. Begins (identifier name) (source ∷ rest) others)
+        → Yields (λ (name : Word) others. Begins (identifier name) (source ∷ rest) others)
         (option_map (λ (it : Word). (it, rest)) (if is then Some (word_of source) else None))
     given true is =
         let tests = and_parts (is_same_kind source.token.kind Identifier) (is_name source.token.text) is in
@@ -95,7 +95,7 @@ literals_begin (source ∷ rest) = elim (cases_Bool (is_literal source)) [
 pub tag_begins : (tokens : List SourceToken) → Begins (tag_form (tag_at tokens).0) tokens (tag_at tokens).1
 tag_begins tokens = given (name_at tokens) (name_gives tokens)
   where
-    given : (it : Read Word) → Gives (λ name rest. Begins (identifier name) tokens rest) it
+    given : (it : Read Word) → Yields (λ name rest. Begins (identifier name) tokens rest) it
         → let tag : Option Word × List SourceToken = going_on it (λ name rest. (Some name, rest)) (None, tokens) in
         Begins (tag_form tag.0) tokens tag.1
     given None gives = nothing_begins tokens

@@ -8,7 +8,7 @@ use Rattle.hs_tokens.specs.declared.token.SourceToken.{SourceToken}
 use Rattle.hs_tokens.specs.declared.token.TokenKind.TheVariants.{Punctuator}
 use Rattle.hs_syntax.specs.Forms.{◌⨾◌, when, mark, mark_at as mark_form, IsOf}
 use Rattle.hs_syntax.specs.Grammar.{expression_form, lefts_form}
-use Rattle.hs_syntax.specs.Operators.{binary_text, level_of, assign_text}
+use Rattle.hs_syntax.specs.Operators.{binary_text, precedence_of, assign_text}
 use Rattle.hs_syntax.specs.Phrases.{rank, as_assignment, as_conditional, as_operand, as_unary, has_lefts}
 use Rattle.hs_syntax.specs.RowViews.{OneLeft, one_left, lefts_from}
 use Rattle.hs_syntax.specs.Trees as tree
@@ -25,31 +25,31 @@ use Rattle.hs_expr_parser.specs.Reading.{Known, Shorter, ◌>>=◌, going_on, Op
 use Rattle.hs_expr_parser.specs.Laws.Along.{Whole, Longer, Reads, longer_along, longer_on, reads_along, climb_longer, climb_stop, commas_longer, commas_stop}
 use Rattle.hs_expr_parser.specs.Laws.Apart.{with_text, split, when_parts, one_token}
 use Rattle.hs_expr_parser.specs.Laws.Primaries.{ReadsAll, mark_reads, ranked, behind}
-use Rattle.hs_expr_parser.specs.Laws.Ranks.{AllRead, level_most, tightest, binary_all, conditional_all, assignment_all, expression_all, all_along}
+use Rattle.hs_expr_parser.specs.Laws.Ranks.{AllRead, precedence_most, tightest, binary_all, conditional_all, assignment_all, expression_all, all_along}
 use Rattle.hs_expr_parser.specs.Laws.Stopping.{looser, binary_joins, assign_joins}
 
 -- ---- binary operators
 
--- each binds at some level
-level_least : (it : BinaryOperator) → 1 ≤ level_of it
-level_least binary.Multiply = omega arith
-level_least binary.Divide = omega arith
-level_least binary.Remainder = omega arith
-level_least binary.Add = omega arith
-level_least binary.Subtract = omega arith
-level_least binary.ShiftLeft = omega arith
-level_least binary.ShiftRight = omega arith
-level_least binary.Less = omega arith
-level_least binary.Greater = omega arith
-level_least binary.LessEqual = omega arith
-level_least binary.GreaterEqual = omega arith
-level_least binary.Equal = omega arith
-level_least binary.NotEqual = omega arith
-level_least binary.BitAnd = omega arith
-level_least binary.BitXor = omega arith
-level_least binary.BitOr = omega arith
-level_least binary.And = omega arith
-level_least binary.Or = omega arith
+-- each binds at some precedence
+precedence_least : (it : BinaryOperator) → 1 ≤ precedence_of it
+precedence_least binary.Multiply = omega arith
+precedence_least binary.Divide = omega arith
+precedence_least binary.Remainder = omega arith
+precedence_least binary.Add = omega arith
+precedence_least binary.Subtract = omega arith
+precedence_least binary.ShiftLeft = omega arith
+precedence_least binary.ShiftRight = omega arith
+precedence_least binary.Less = omega arith
+precedence_least binary.Greater = omega arith
+precedence_least binary.LessEqual = omega arith
+precedence_least binary.GreaterEqual = omega arith
+precedence_least binary.Equal = omega arith
+precedence_least binary.NotEqual = omega arith
+precedence_least binary.BitAnd = omega arith
+precedence_least binary.BitXor = omega arith
+precedence_least binary.BitOr = omega arith
+precedence_least binary.And = omega arith
+precedence_least binary.Or = omega arith
 
 -- the operator that a token is
 binary_found : (it : BinaryOperator) (source : SourceToken) → binary_of (with_text Punctuator (binary_text it) source) ≡ Some it
@@ -72,29 +72,29 @@ binary_found binary.BitOr source = refl
 binary_found binary.And source = refl
 binary_found binary.Or source = refl
 
--- an expression of that rank binds at that level or more tightly
-tight_enough : (e : Expression) (level : ℕ) → 1 ≤ level → level ≤ 10 → 2 + level ≤ rank e → level ≤ tightest e
-tight_enough (tree.binary left operator at right) level some most tight = omega (arith, tight)
-tight_enough (tree.comma lefts right) level some most tight = omega (arith, most)
-tight_enough (tree.assign target operator at value) level some most tight = omega (arith, most)
-tight_enough (tree.conditional test at taken otherwise) level some most tight = omega (arith, most)
-tight_enough (tree.cast at type operand) level some most tight = omega (arith, most)
-tight_enough (tree.prefix operator at operand) level some most tight = omega (arith, most)
-tight_enough (tree.sizeof_value at operand) level some most tight = omega (arith, most)
-tight_enough (tree.sizeof_type at type) level some most tight = omega (arith, most)
-tight_enough (tree.index base at offset) level some most tight = omega (arith, most)
-tight_enough (tree.call callee arguments) level some most tight = omega (arith, most)
-tight_enough (tree.member base access at name) level some most tight = omega (arith, most)
-tight_enough (tree.postfix operand operator at) level some most tight = omega (arith, most)
-tight_enough (tree.name it) level some most tight = omega (arith, most)
-tight_enough (tree.number it) level some most tight = omega (arith, most)
-tight_enough (tree.character it) level some most tight = omega (arith, most)
-tight_enough (tree.strings first others) level some most tight = omega (arith, most)
-tight_enough (tree.parens at inner) level some most tight = omega (arith, most)
+-- an expression of that rank binds at that precedence or more tightly
+tight_enough : (e : Expression) (precedence : ℕ) → 1 ≤ precedence → precedence ≤ 10 → 2 + precedence ≤ rank e → precedence ≤ tightest e
+tight_enough (tree.binary left operator at right) precedence some most tight = omega (arith, tight)
+tight_enough (tree.comma lefts right) precedence some most tight = omega (arith, most)
+tight_enough (tree.assign target operator at value) precedence some most tight = omega (arith, most)
+tight_enough (tree.conditional test at taken otherwise) precedence some most tight = omega (arith, most)
+tight_enough (tree.cast at type operand) precedence some most tight = omega (arith, most)
+tight_enough (tree.prefix operator at operand) precedence some most tight = omega (arith, most)
+tight_enough (tree.sizeof_value at operand) precedence some most tight = omega (arith, most)
+tight_enough (tree.sizeof_type at type) precedence some most tight = omega (arith, most)
+tight_enough (tree.index base at offset) precedence some most tight = omega (arith, most)
+tight_enough (tree.call callee arguments) precedence some most tight = omega (arith, most)
+tight_enough (tree.member base access at name) precedence some most tight = omega (arith, most)
+tight_enough (tree.postfix operand operator at) precedence some most tight = omega (arith, most)
+tight_enough (tree.name it) precedence some most tight = omega (arith, most)
+tight_enough (tree.number it) precedence some most tight = omega (arith, most)
+tight_enough (tree.character it) precedence some most tight = omega (arith, most)
+tight_enough (tree.strings first others) precedence some most tight = omega (arith, most)
+tight_enough (tree.parens at inner) precedence some most tight = omega (arith, most)
 
 -- what is read after an operator
 abbrev climbing : Shorter → ℕ → Expression → Operand → List SourceToken → Read Expression
-climbing table least left it rest = table (goal.climb least (level_of it.operator) (tree.binary left it.operator it.at it.right)) rest
+climbing table least left it rest = table (goal.climb least (precedence_of it.operator) (tree.binary left it.operator it.at it.right)) rest
 
 -- the operand, as its right one is read
 abbrev with_right : BinaryOperator → Place → Expression × List SourceToken → Read Operand
@@ -102,26 +102,26 @@ with_right operator at e = Some (record { operator = operator; at = at; right = 
 
 -- an operator in front, and its right operand
 operand_found : (table : Shorter) (least most : ℕ) (operator : BinaryOperator) (source : SourceToken) (tail : List SourceToken)
-    → source ≡ with_text Punctuator (binary_text operator) source → least ≤ level_of operator → level_of operator ≤ most
-    → operand_rule table least most (source ∷ tail) ≡ (table (goal.binary (suc (level_of operator))) tail >>= with_right operator (place_of source))
+    → source ≡ with_text Punctuator (binary_text operator) source → least ≤ precedence_of operator → precedence_of operator ≤ most
+    → operand_rule table least most (source ∷ tail) ≡ (table (goal.binary (suc (precedence_of operator))) tail >>= with_right operator (place_of source))
 operand_found table least most operator source tail is low high =
-    let one : nat_le least (level_of operator) ≡ true = grind (arith, nat_tests) in
-    let other : nat_le (level_of operator) most ≡ true = grind (arith, nat_tests) in
+    let one : nat_le least (precedence_of operator) ≡ true = grind (arith, nat_tests) in
+    let other : nat_le (precedence_of operator) most ≡ true = grind (arith, nat_tests) in
     ap (λ found. operand_by table least most found (place_of source) tail) (ap binary_of is ∙ binary_found operator source) ∙ rw one (rw other refl)
 
 -- after the left operand
 binary_behind : {known : Known} {table : Shorter} → Whole known table
     → (left : Expression) (operator : BinaryOperator) (right : Expression) (source : SourceToken)
-    (tokens tail rest : List SourceToken) → source ≡ with_text Punctuator (binary_text operator) source → 2 + level_of operator ≤ rank left
-    → AllRead known table left tokens (source ∷ tail) → (least : ℕ) → 1 ≤ least → least ≤ level_of operator
+    (tokens tail rest : List SourceToken) → source ≡ with_text Punctuator (binary_text operator) source → 2 + precedence_of operator ≤ rank left
+    → AllRead known table left tokens (source ∷ tail) → (least : ℕ) → 1 ≤ least → least ≤ precedence_of operator
     → binary_rule known table least tokens
-    ≡ going_on (table (goal.binary (suc (level_of operator))) tail >>= with_right operator (place_of source)) (climbing table least left)
+    ≡ going_on (table (goal.binary (suc (precedence_of operator))) tail >>= with_right operator (place_of source)) (climbing table least left)
     (Some (left, source ∷ tail))
 binary_behind {known = known} {table = table} whole left operator right source tokens tail rest is tight all least some low =
-    let most = level_most operator in
-    let enough = tight_enough left (level_of operator) (level_least operator) most tight in
-    let at : joins source ≡ Some (2 + level_of operator) = ap joins is ∙ binary_joins operator source in
-    let under : is_below (3 + tightest left) (Some (2 + level_of operator)) ≡ true = grind (arith, nat_tests) in
+    let most = precedence_most operator in
+    let enough = tight_enough left (precedence_of operator) (precedence_least operator) most tight in
+    let at : joins source ≡ Some (2 + precedence_of operator) = ap joins is ∙ binary_joins operator source in
+    let under : is_below (3 + tightest left) (Some (2 + precedence_of operator)) ≡ true = grind (arith, nat_tests) in
     let stopped : stops (3 + tightest left) (source ∷ tail) ≡ true = ap (is_below (3 + tightest left)) at ∙ under in
     all.climbs least some (omega (arith, low, most)) (omega (arith, low, tight)) stopped
     ∙ ap (λ found. going_on found (climbing table least left) (Some (left, source ∷ tail)))
@@ -129,60 +129,60 @@ binary_behind {known = known} {table = table} whole left operator right source t
 
 -- the same if the right operand is read
 binary_by : {known : Known} {table : Shorter} → Whole known table → (left : Expression) (operator : BinaryOperator) (right : Expression) (source : SourceToken)
-    (tokens tail rest : List SourceToken) → source ≡ with_text Punctuator (binary_text operator) source → 2 + level_of operator ≤ rank left
+    (tokens tail rest : List SourceToken) → source ≡ with_text Punctuator (binary_text operator) source → 2 + precedence_of operator ≤ rank left
     → AllRead known table left tokens (source ∷ tail)
-    → Reads (binary_rule known table (suc (level_of operator)) tail) right rest (stops (3 + level_of operator) rest)
+    → Reads (binary_rule known table (suc (precedence_of operator)) tail) right rest (stops (3 + precedence_of operator) rest)
     → AllRead known table (tree.binary left operator (place_of source) right) tokens rest
 binary_by {known = known} {table = table} whole left operator right source tokens tail rest is tight all reads =
-    let most = level_most operator in
-    let some_level = level_least operator in
+    let most = precedence_most operator in
+    let some_precedence = precedence_least operator in
     let at = place_of source in
-    let asked : Reads (table (goal.binary (suc (level_of operator))) tail) right rest (stops (3 + level_of operator) rest) =
-    reads_along (whole.plain (goal.binary (suc (level_of operator))) tail) reads in
+    let asked : Reads (table (goal.binary (suc (precedence_of operator))) tail) right rest (stops (3 + precedence_of operator) rest) =
+    reads_along (whole.plain (goal.binary (suc (precedence_of operator))) tail) reads in
     let back : (least : ℕ) → Expression × List SourceToken → Read Expression =
-    λ least e. climb_rule table least (level_of operator) (tree.binary left operator at e.0) e.1 in
+    λ least e. climb_rule table least (precedence_of operator) (tree.binary left operator at e.0) e.1 in
     let on : (least : ℕ) → Read Expression → Read Expression =
     λ least found. going_on (found >>= with_right operator at) (climbing table least left) (Some (left, source ∷ tail)) in
     let goes : (least : ℕ) (e : Expression) (others : List SourceToken) → on least (Some (e, others)) ≡ back least (e, others) =
-    λ least e others. whole.plain (goal.climb least (level_of operator) (tree.binary left operator at e)) others in
-    let climbs : (least : ℕ) → 1 ≤ least → least ≤ level_of operator → stops (3 + level_of operator) rest ≡ true
-    → binary_rule known table least tokens ≡ climb_rule table least (level_of operator) (tree.binary left operator at right) rest =
+    λ least e others. whole.plain (goal.climb least (precedence_of operator) (tree.binary left operator at e)) others in
+    let climbs : (least : ℕ) → 1 ≤ least → least ≤ precedence_of operator → stops (3 + precedence_of operator) rest ≡ true
+    → binary_rule known table least tokens ≡ climb_rule table least (precedence_of operator) (tree.binary left operator at right) rest =
     λ least some low stopped.
     binary_behind whole left operator right source tokens tail rest is tight all least some low ∙ ap (on least) (asked.exact stopped) ∙ goes least right rest in
-    let longer : (least : ℕ) → 1 ≤ least → least ≤ level_of operator → Longer (binary_rule known table least tokens) rest =
+    let longer : (least : ℕ) → 1 ≤ least → least ≤ precedence_of operator → Longer (binary_rule known table least tokens) rest =
     λ least some low.
     longer_along (binary_behind whole left operator right source tokens tail rest is tight all least some low ∙ ap (on least) asked.longer.is
     ∙ goes least asked.longer.it asked.longer.left)
-    (longer_on asked.longer.less (climb_longer whole least (level_of operator) (tree.binary left operator at asked.longer.it) asked.longer.left)) in
-    binary_all whole (tree.binary left operator at right) tokens rest (omega (arith, some_level)) (omega (arith, most)) all.begins
+    (longer_on asked.longer.less (climb_longer whole least (precedence_of operator) (tree.binary left operator at asked.longer.it) asked.longer.left)) in
+    binary_all whole (tree.binary left operator at right) tokens rest (omega (arith, some_precedence)) (omega (arith, most)) all.begins
     (λ least some limit low stopped. climbs least some (omega (arith, low)) stopped)
     (λ least some limit low.
     record {
       longer = longer least some (omega (arith, low));
       exact = λ stopped.
-          climbs least some (omega (arith, low)) (looser (2 + least) (3 + level_of operator) rest (omega (arith, low)) stopped)
-          ∙ climb_stop table least (level_of operator) (tree.binary left operator at right) rest stopped;
+          climbs least some (omega (arith, low)) (looser (2 + least) (3 + precedence_of operator) rest (omega (arith, low)) stopped)
+          ∙ climb_stop table least (precedence_of operator) (tree.binary left operator at right) rest stopped;
     })
 
 pub binary_form_all : {known : Known} {table : Shorter} → Whole known table → (left : Expression) (operator : BinaryOperator) (at : Place) (right : Expression)
     → ReadsAll known table left → ReadsAll known table right → ReadsAll known table (tree.binary left operator at right)
 binary_form_all {known = known} {table = table} whole left operator at right reads others front rest fits =
-    let most = level_most operator in
-    let parts = behind (as_operand (level_of operator) left (expression_form known left))
-    (mark_form at (binary_text operator) ⨾ as_operand (suc (level_of operator)) right (expression_form known right)) front fits in
-    let low = ranked (2 + level_of operator) left (expression_form known left) parts.front parts.first in
-    let back = split (mark_form at (binary_text operator)) (as_operand (suc (level_of operator)) right (expression_form known right)) parts.back parts.second in
+    let most = precedence_most operator in
+    let parts = behind (as_operand (precedence_of operator) left (expression_form known left))
+    (mark_form at (binary_text operator) ⨾ as_operand (suc (precedence_of operator)) right (expression_form known right)) front fits in
+    let low = ranked (2 + precedence_of operator) left (expression_form known left) parts.front parts.first in
+    let back = split (mark_form at (binary_text operator)) (as_operand (suc (precedence_of operator)) right (expression_form known right)) parts.back parts.second in
     let one = one_token Punctuator (binary_text operator) (Some at) back.front back.first in
-    let high = ranked (2 + suc (level_of operator)) right (expression_form known right) back.back back.second in
+    let high = ranked (2 + suc (precedence_of operator)) right (expression_form known right) back.back back.second in
     let tail : List SourceToken = back.back ++ rest in
     let tokens : List SourceToken = parts.front ++ (one.source ∷ tail) in
     let same : front ++ rest ≡ tokens = parts.whole rest ∙ ap (λ it. parts.front ++ (it ++ rest)) (back.whole ∙ ap (λ it. it ++ back.back) one.alone) in
-    let right_read = (others back.back rest high.1).binary (suc (level_of operator)) (omega arith) (omega (arith, most)) (omega (arith, high.0)) in
+    let right_read = (others back.back rest high.1).binary (suc (precedence_of operator)) (omega arith) (omega (arith, most)) (omega (arith, high.0)) in
     let all = binary_by whole left operator right one.source tokens tail rest one.is low.0 (reads parts.front (one.source ∷ tail) low.1)
     (record {
       longer = right_read.longer;
       exact =
-          λ stopped. right_read.exact (looser (3 + level_of operator) (2 + suc (level_of operator)) rest (omega arith) stopped);
+          λ stopped. right_read.exact (looser (3 + precedence_of operator) (2 + suc (precedence_of operator)) rest (omega arith) stopped);
     }) in
     all_along same (subst (λ (place : Place). AllRead known table (tree.binary left operator place right) tokens rest) one.at all)
 

@@ -17,7 +17,7 @@ use Rattle.hs_expr_parser.specs.Reading.{Known, reading}
 use Rattle.hs_expr_parser.specs.Steps.{expression_at, assignment_at, conditional_at, some_specifiers_at, declarator_at}
 use Rattle.hs_expr_parser.specs.Laws.Bound.{Alike, alike_self}
 use Rattle.hs_expr_parser.specs.Laws.Complete.{all_expression, all_specification, all_declarator}
-use Rattle.hs_expr_parser.specs.Laws.Gives.{Gives}
+use Rattle.hs_expr_parser.specs.Laws.Yields.{Yields}
 use Rattle.hs_expr_parser.specs.Laws.Plain as plain
 use Rattle.hs_expr_parser.specs.Laws.Wholly.{whole}
 use Rattle.hs_expr_parser.specs.Laws.Primaries.{ranked}
@@ -55,7 +55,7 @@ declarator_short known inner tokens =
 -- ---- what is read
 
 pub expression_begins : (known : Known) (tokens : List SourceToken)
-    → Gives (λ (e : Expression) rest. Begins (expression_form known e) tokens rest) (expression_at known tokens)
+    → Yields (λ (e : Expression) rest. Begins (expression_form known e) tokens rest) (expression_at known tokens)
 unfolding expression_at
 expression_begins known tokens = record {
   holds = λ e rest is.
@@ -64,7 +64,7 @@ expression_begins known tokens = record {
 }
 
 pub assignment_begins : (known : Known) (tokens : List SourceToken)
-    → Gives (λ (e : Expression) rest. Begins (as_assignment e (expression_form known e)) tokens rest) (assignment_at known tokens)
+    → Yields (λ (e : Expression) rest. Begins (as_assignment e (expression_form known e)) tokens rest) (assignment_at known tokens)
 unfolding assignment_at
 assignment_begins known tokens = record {
   holds = λ e rest is.
@@ -73,7 +73,7 @@ assignment_begins known tokens = record {
 }
 
 pub conditional_begins : (known : Known) (tokens : List SourceToken)
-    → Gives (λ (e : Expression) rest. Begins (as_conditional e (expression_form known e)) tokens rest) (conditional_at known tokens)
+    → Yields (λ (e : Expression) rest. Begins (as_conditional e (expression_form known e)) tokens rest) (conditional_at known tokens)
 unfolding conditional_at
 conditional_begins known tokens = record {
   holds = λ e rest is.
@@ -82,12 +82,12 @@ conditional_begins known tokens = record {
 }
 
 pub specifiers_begin : (known : Known) (tokens : List SourceToken)
-    → Gives (λ (its : List Specified) rest. SomeSpecified known its tokens rest) (some_specifiers_at known tokens)
+    → Yields (λ (its : List Specified) rest. SomeSpecified known its tokens rest) (some_specifiers_at known tokens)
 unfolding some_specifiers_at
 specifiers_begin known tokens = some_found known (reading known) (reading_found known) tokens
 
 pub declarator_begins : (known : Known) (inner : Bool) (tokens : List SourceToken)
-    → Gives (λ (it : Declared) rest. Declares known inner it tokens rest) (declarator_at known inner tokens)
+    → Yields (λ (it : Declared) rest. Declares known inner it tokens rest) (declarator_at known inner tokens)
 unfolding declarator_at
 declarator_begins known inner tokens = record {
   holds = λ it rest is.

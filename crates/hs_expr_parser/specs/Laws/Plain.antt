@@ -7,7 +7,7 @@ use Rattle.std.proofs.lemmas.Bool.{cases_Bool}
 use Rattle.hs_tokens.specs.declared.token.SourceToken.{SourceToken}
 use Rattle.hs_tokens.specs.declared.token.TokenKind.{TokenKind}
 use Rattle.hs_tokens.specs.declared.token.TokenKind.TheVariants.{Identifier, Number, Character, Literal, Punctuator}
-use Rattle.hs_syntax.specs.Operators.{level_of}
+use Rattle.hs_syntax.specs.Operators.{precedence_of}
 use Rattle.hs_syntax.specs.Phrases.{is_type}
 use Rattle.hs_syntax.specs.RowViews.{OneLeft, one_left, OneMember, OneConstant, OneParameter}
 use Rattle.hs_syntax.specs.Trees as tree
@@ -170,7 +170,7 @@ module _ (known : Known) (limit : ℕ) (table : Shorter) (shorts : Short table) 
       → Alike (suc (length rest)) (operand_by (below limit table) least most operator at rest) (operand_by table least most operator at rest)
   operand_with least most None at rest low = alike_none
   operand_with least most (Some operator) at rest low =
-      alike_if _ (alike_bind (asks limit table shorts (goal.binary (suc (level_of operator))) rest low) λ right short. alike_some (omega arith)) alike_none
+      alike_if _ (alike_bind (asks limit table shorts (goal.binary (suc (precedence_of operator))) rest low) λ right short. alike_some (omega arith)) alike_none
 
   -- an operator with its right operand
   pub operand : (least most : ℕ) (tokens : List SourceToken) → length tokens ≤ limit
@@ -184,7 +184,7 @@ module _ (known : Known) (limit : ℕ) (table : Shorter) (shorts : Short table) 
   climb least most left tokens low =
       alike_going (operand least most tokens low)
       (λ it rest short.
-      let goes_on : Goal = goal.climb least (level_of it.operator) (tree.binary left it.operator it.at it.right) in
+      let goes_on : Goal = goal.climb least (precedence_of it.operator) (tree.binary left it.operator it.at it.right) in
       alike_more (omega arith) (asks limit table shorts goes_on rest (omega arith)))
       (alike_some (omega arith))
 

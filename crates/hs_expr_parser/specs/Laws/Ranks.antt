@@ -4,7 +4,7 @@
 use Rattle.std.proofs.Common.{◌≡◌, ℕ, ◌≤◌, Bool, true, false, List, [], ◌∷◌, Option, Some, None, refl, ap, sym, ◌∙◌, subst, arith}
 use Rattle.std.specs.Prelude.{◌||◌, ◌+◌, codes, is_some}
 use Rattle.hs_tokens.specs.declared.token.SourceToken.{SourceToken}
-use Rattle.hs_syntax.specs.Operators.{level_of}
+use Rattle.hs_syntax.specs.Operators.{precedence_of}
 use Rattle.hs_syntax.specs.Phrases.{rank}
 use Rattle.hs_syntax.specs.Trees as tree
 use Rattle.hs_syntax.specs.Trees.{Expression}
@@ -17,15 +17,15 @@ use Rattle.hs_expr_parser.specs.Reading.{Known, Shorter, suffixes_rule, postfix_
 use Rattle.hs_expr_parser.specs.Laws.Along.{Whole, Longer, Reads, longer_along, reads_along, up_binary, climbs_cast, up_conditional, up_assignment, up_expression, suffixes_longer, suffixes_stop}
 use Rattle.hs_expr_parser.specs.Laws.Stopping.{looser}
 
--- the level of its operator, or the tightest one
+-- the precedence of its operator, or the tightest one
 abbrev pub tightest : Expression → ℕ
-tightest (tree.binary left operator at right) = level_of operator
+tightest (tree.binary left operator at right) = precedence_of operator
 tightest _ = 10
 
--- no binary operator binds more tightly than those of level 10
-pub level_most : (it : BinaryOperator) → level_of it ≤ 10
-level_most binary.Multiply = omega arith
-level_most _ = omega arith
+-- no binary operator binds more tightly than those of precedence 10
+pub precedence_most : (it : BinaryOperator) → precedence_of it ≤ 10
+precedence_most binary.Multiply = omega arith
+precedence_most _ = omega arith
 
 -- the token begins a unary expression that is no postfix one
 abbrev pub is_unary_start : SourceToken → Bool

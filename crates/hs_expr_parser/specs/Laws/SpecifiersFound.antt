@@ -30,7 +30,7 @@ use Rattle.hs_syntax.specs.declared.word.Word.{Word}
 use Rattle.hs_expr_parser.specs.Ahead.{place_of, word_of, is_keyword, storage_of, dropped_of, basic_of, is_ahead, is_mark_ahead, begins_specifier}
 use Rattle.hs_expr_parser.specs.Reading.{Known, Shorter, tag_at, tagged, struct_by, enum_by, specifier_by, specifier_rule, specifiers_rule, some_specifiers_rule}
 use Rattle.hs_expr_parser.specs.Found.{IsFound}
-use Rattle.hs_expr_parser.specs.Laws.Gives.{Gives, none_gives, some_gives, then_gives, if_gives, so_gives}
+use Rattle.hs_expr_parser.specs.Laws.Yields.{Yields, none_gives, some_gives, then_gives, if_gives, so_gives}
 use Rattle.hs_expr_parser.specs.Laws.Spelled.{Begins, form_again, nothing_begins, nothing_ends, then_begins, when_begins, place_begins}
 use Rattle.hs_expr_parser.specs.Laws.Firsts.{token_is, token_of, mark_gives, tag_begins}
 use Rattle.hs_expr_parser.specs.Laws.Ends.{ends_there, named_free}
@@ -81,7 +81,7 @@ module _ (known : Known) (table : Shorter) (found : IsFound known table) where
   -- a struct
   struct_found : (typed : Bool) (source : SourceToken) (rest : List SourceToken) (tag : Option Word) (others : List SourceToken)
       → is_keyword (codes "struct") source ≡ true → Begins (tag_form tag) rest others
-      → Gives (λ it after. Begins (in_list known typed it) (source ∷ rest) after) (struct_by table (place_of source) tag others)
+      → Yields (λ it after. Begins (in_list known typed it) (source ∷ rest) after) (struct_by table (place_of source) tag others)
   struct_found typed source rest tag others is begins =
       let so = token_is Identifier (codes "struct") source is in
       if_gives (is_mark_ahead (codes "{") others) _ _
@@ -97,7 +97,7 @@ module _ (known : Known) (table : Shorter) (found : IsFound known table) where
       (λ bare. alone tag begins)
     where
       alone : (tag : Option Word) → Begins (tag_form tag) rest others
-          → Gives (λ (it : Specified) after. Begins (in_list known typed it) (source ∷ rest) after) (tagged (tree.struct_tag (place_of source)) tag others)
+          → Yields (λ (it : Specified) after. Begins (in_list known typed it) (source ∷ rest) after) (tagged (tree.struct_tag (place_of source)) tag others)
       alone None begins = none_gives
       alone (Some tag) begins =
           let so = token_is Identifier (codes "struct") source is in
@@ -107,7 +107,7 @@ module _ (known : Known) (table : Shorter) (found : IsFound known table) where
   -- an enumeration
   enum_found : (typed : Bool) (source : SourceToken) (rest : List SourceToken) (tag : Option Word) (others : List SourceToken)
       → is_keyword (codes "enum") source ≡ true → Begins (tag_form tag) rest others
-      → Gives (λ it after. Begins (in_list known typed it) (source ∷ rest) after) (enum_by table (place_of source) tag others)
+      → Yields (λ it after. Begins (in_list known typed it) (source ∷ rest) after) (enum_by table (place_of source) tag others)
   enum_found typed source rest tag others is begins =
       let so = token_is Identifier (codes "enum") source is in
       if_gives (is_mark_ahead (codes "{") others) _ _
@@ -128,7 +128,7 @@ module _ (known : Known) (table : Shorter) (found : IsFound known table) where
       (λ bare. alone tag begins)
     where
       alone : (tag : Option Word) → Begins (tag_form tag) rest others
-          → Gives (λ (it : Specified) after. Begins (in_list known typed it) (source ∷ rest) after) (tagged (tree.enum_tag (place_of source)) tag others)
+          → Yields (λ (it : Specified) after. Begins (in_list known typed it) (source ∷ rest) after) (tagged (tree.enum_tag (place_of source)) tag others)
       alone None begins = none_gives
       alone (Some tag) begins =
           let so = token_is Identifier (codes "enum") source is in
@@ -137,7 +137,7 @@ module _ (known : Known) (table : Shorter) (found : IsFound known table) where
 
   -- a specifier
   specifier_found : (typed : Bool) (source : SourceToken) (rest : List SourceToken) → begins_specifier known typed source ≡ true
-      → Gives (λ it after. Begins (in_list known typed it) (source ∷ rest) after) (specifier_rule known table source rest)
+      → Yields (λ it after. Begins (in_list known typed it) (source ∷ rest) after) (specifier_rule known table source rest)
   specifier_found typed source rest begins = by_first (storage_of source) (dropped_of source) (basic_of source) refl refl refl
     where
       -- a typedef name
@@ -157,7 +157,7 @@ module _ (known : Known) (table : Shorter) (found : IsFound known table) where
 
       by_first : (stored : Option Storage) (ignored : Option Dropped) (simple : Option Basic) → storage_of source ≡ stored → dropped_of source ≡ ignored
           → basic_of source ≡ simple
-          → Gives (λ (it : Specified) after. Begins (in_list known typed it) (source ∷ rest) after) (specifier_by known table stored ignored simple source rest)
+          → Yields (λ (it : Specified) after. Begins (in_list known typed it) (source ∷ rest) after) (specifier_by known table stored ignored simple source rest)
       by_first (Some it) ignored simple a b c =
           let so = token_of Identifier storage_text (storage.Typedef ∷ storage.Extern ∷ storage.Static ∷ []) source it a in
           some_gives (tree.storage it (place_of source)) rest
@@ -182,7 +182,7 @@ module _ (known : Known) (table : Shorter) (found : IsFound known table) where
 
   -- more specifiers
   pub specifiers_found : (typed : Bool) (earlier : List Specified) (tokens : List SourceToken)
-      → Gives (λ all rest. Specifies known typed earlier all tokens rest) (specifiers_rule known table typed earlier tokens)
+      → Yields (λ all rest. Specifies known typed earlier all tokens rest) (specifiers_rule known table typed earlier tokens)
   specifiers_found typed earlier [] =
       some_gives earlier [] (record { its = []; whole = sym (append-nil earlier); begins = nothing_begins []; ends = refl })
   specifiers_found typed earlier (source ∷ rest) =
@@ -203,7 +203,7 @@ module _ (known : Known) (table : Shorter) (found : IsFound known table) where
       }))
 
   -- at least one specifier
-  pub some_found : (tokens : List SourceToken) → Gives (λ its rest. SomeSpecified known its tokens rest) (some_specifiers_rule known table tokens)
+  pub some_found : (tokens : List SourceToken) → Yields (λ its rest. SomeSpecified known its tokens rest) (some_specifiers_rule known table tokens)
   some_found tokens =
       if_gives (is_ahead (begins_specifier known false) tokens) _ _
       (λ is. so_gives _ (specifiers_found false [] tokens) (λ all rest them.

@@ -10,7 +10,7 @@ use Rattle.hs_tokens.specs.declared.token.SourceToken.{SourceToken}
 use Rattle.hs_tokens.specs.declared.token.TokenKind.{TokenKind}
 use Rattle.hs_tokens.specs.declared.token.TokenKind.TheVariants.{Punctuator}
 use Rattle.hs_tokens.specs.Marks.{is_same_kind}
-use Rattle.hs_syntax.specs.Operators.{level_of, binary_text, assign_text, access_text, postfix_text}
+use Rattle.hs_syntax.specs.Operators.{precedence_of, binary_text, assign_text, access_text, postfix_text}
 use Rattle.hs_syntax.specs.Trees.{Expression}
 use Rattle.hs_syntax.specs.declared.operators.Access.{Access}
 use Rattle.hs_syntax.specs.declared.operators.Access.TheVariants as access
@@ -98,8 +98,8 @@ suffix_none table e (source ∷ rest) is =
     ap (λ found. member_rule e found (postfix_of source) (place_of source) rest) (no_access source (access_of source) refl is)
     ∙ ap (λ found. member_rule e None found (place_of source) rest) (no_postfix source (postfix_of source) refl is)))
 
--- a binary operator joins at its level
-pub binary_joins : (it : BinaryOperator) (source : SourceToken) → joins (with_text Punctuator (binary_text it) source) ≡ Some (2 + level_of it)
+-- a binary operator joins at its precedence
+pub binary_joins : (it : BinaryOperator) (source : SourceToken) → joins (with_text Punctuator (binary_text it) source) ≡ Some (2 + precedence_of it)
 binary_joins binary.Multiply source = refl
 binary_joins binary.Divide source = refl
 binary_joins binary.Remainder source = refl
@@ -119,14 +119,14 @@ binary_joins binary.BitOr source = refl
 binary_joins binary.And source = refl
 binary_joins binary.Or source = refl
 
--- no operator of that level
+-- no operator of that precedence
 operand_by_none : (table : Shorter) (least most : ℕ) (found : Option BinaryOperator) (source : SourceToken) (rest : List SourceToken)
     → binary_of source ≡ found → is_below (2 + least) (joins source) ≡ true → operand_by table least most found (place_of source) rest ≡ None
 operand_by_none table least most None source rest is stops = refl
 operand_by_none table least most (Some it) source rest is stops =
-    let same : joins source ≡ Some (2 + level_of it) = ap joins (operator_is Punctuator binary_text binary_operators source it is) ∙ binary_joins it source in
-    let low : is_below (2 + least) (Some (2 + level_of it)) ≡ true = ap (is_below (2 + least)) (sym same) ∙ stops in
-    let loose : nat_le least (level_of it) ≡ false = grind (arith, nat_tests) in
+    let same : joins source ≡ Some (2 + precedence_of it) = ap joins (operator_is Punctuator binary_text binary_operators source it is) ∙ binary_joins it source in
+    let low : is_below (2 + least) (Some (2 + precedence_of it)) ≡ true = ap (is_below (2 + least)) (sym same) ∙ stops in
+    let loose : nat_le least (precedence_of it) ≡ false = grind (arith, nat_tests) in
     rw loose refl
 
 pub operand_none : (table : Shorter) (least most : ℕ) (tokens : List SourceToken) → stops (2 + least) tokens ≡ true

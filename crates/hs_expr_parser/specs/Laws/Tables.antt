@@ -14,7 +14,7 @@ use Rattle.hs_expr_parser.specs.Goals as goal
 use Rattle.hs_expr_parser.specs.Goals.{Goal, Tree}
 use Rattle.hs_expr_parser.specs.Reading.{Known, Shorter}
 use Rattle.hs_expr_parser.specs.Found.{Takes, IsFound}
-use Rattle.hs_expr_parser.specs.Laws.Gives.{Gives, so_gives, always_gives}
+use Rattle.hs_expr_parser.specs.Laws.Yields.{Yields, so_gives, always_gives}
 use Rattle.hs_expr_parser.specs.Laws.Spelled.{Begins, Goes}
 
 -- more entries after the earlier ones, at least one, and the tokens have a front that is of their form
@@ -62,44 +62,44 @@ pub record Directs (known : Known) (base direct : Directly) (tokens rest : List 
 
 module _ (known : Known) (table : Shorter) (found : IsFound known table) where
   pub expression_gives : (tokens : List SourceToken)
-      → Gives (λ (e : Expression) rest. Begins (expression_form known e) tokens rest) (table goal.expression tokens)
+      → Yields (λ (e : Expression) rest. Begins (expression_form known e) tokens rest) (table goal.expression tokens)
   expression_gives tokens = so_gives (table goal.expression tokens) (always_gives (Takes known) table found goal.expression tokens)
       (λ e rest it. record { front = it.0; whole = it.1; is = it.2 })
 
   pub assignment_gives : (tokens : List SourceToken)
-      → Gives (λ (e : Expression) rest. Begins (as_assignment e (expression_form known e)) tokens rest) (table goal.assignment tokens)
+      → Yields (λ (e : Expression) rest. Begins (as_assignment e (expression_form known e)) tokens rest) (table goal.assignment tokens)
   assignment_gives tokens = so_gives (table goal.assignment tokens) (always_gives (Takes known) table found goal.assignment tokens)
       (λ e rest it. record { front = it.0; whole = it.1; is = it.2 })
 
   pub conditional_gives : (tokens : List SourceToken)
-      → Gives (λ (e : Expression) rest. Begins (as_conditional e (expression_form known e)) tokens rest) (table goal.conditional tokens)
+      → Yields (λ (e : Expression) rest. Begins (as_conditional e (expression_form known e)) tokens rest) (table goal.conditional tokens)
   conditional_gives tokens = so_gives (table goal.conditional tokens) (always_gives (Takes known) table found goal.conditional tokens)
       (λ e rest it. record { front = it.0; whole = it.1; is = it.2 })
 
   pub binary_gives : (least : ℕ) (tokens : List SourceToken) → least ≤ 11
-      → Gives (λ (e : Expression) rest. Begins (as_operand least e (expression_form known e)) tokens rest) (table (goal.binary least) tokens)
+      → Yields (λ (e : Expression) rest. Begins (as_operand least e (expression_form known e)) tokens rest) (table (goal.binary least) tokens)
   binary_gives least tokens most = so_gives (table (goal.binary least) tokens) (always_gives (Takes known) table found (goal.binary least) tokens)
       (λ e rest it. record { front = it.0; whole = it.1; is = it.2 most })
 
   pub cast_gives : (tokens : List SourceToken)
-      → Gives (λ (e : Expression) rest. Begins (as_cast e (expression_form known e)) tokens rest) (table goal.cast tokens)
+      → Yields (λ (e : Expression) rest. Begins (as_cast e (expression_form known e)) tokens rest) (table goal.cast tokens)
   cast_gives tokens = so_gives (table goal.cast tokens) (always_gives (Takes known) table found goal.cast tokens)
       (λ e rest it. record { front = it.0; whole = it.1; is = it.2 })
 
   pub unary_gives : (tokens : List SourceToken)
-      → Gives (λ (e : Expression) rest. Begins (as_unary e (expression_form known e)) tokens rest) (table goal.unary tokens)
+      → Yields (λ (e : Expression) rest. Begins (as_unary e (expression_form known e)) tokens rest) (table goal.unary tokens)
   unary_gives tokens = so_gives (table goal.unary tokens) (always_gives (Takes known) table found goal.unary tokens)
       (λ e rest it. record { front = it.0; whole = it.1; is = it.2 })
 
   pub commas_gives : (lefts : List OneLeft) (right : Expression) (tokens : List SourceToken)
-      → Gives (λ (e : Expression) rest. Goes (lefts_form known (lefts_from lefts) ⨾ as_assignment right (expression_form known right))
+      → Yields (λ (e : Expression) rest. Goes (lefts_form known (lefts_from lefts) ⨾ as_assignment right (expression_form known right))
       (expression_form known e) tokens rest)
       (table (goal.commas lefts right) tokens)
   commas_gives lefts right tokens = so_gives (table (goal.commas lefts right) tokens) (always_gives (Takes known) table found (goal.commas lefts right) tokens)
       (λ e rest it. record { front = it.0; whole = it.1; is = it.2 })
 
   pub climb_gives : (least most : ℕ) (left : Expression) (tokens : List SourceToken) → least ≤ 11
-      → Gives (λ (e : Expression) rest. Goes (as_operand most left (as_operand least left (expression_form known left)))
+      → Yields (λ (e : Expression) rest. Goes (as_operand most left (as_operand least left (expression_form known left)))
       (as_operand least e (expression_form known e)) tokens rest)
       (table (goal.climb least most left) tokens)
   climb_gives least most left tokens within =
@@ -107,13 +107,13 @@ module _ (known : Known) (table : Shorter) (found : IsFound known table) where
       (λ e rest it. record { front = it.0; whole = it.1; is = λ before is. it.2 before within is })
 
   pub suffixes_gives : (base : Expression) (tokens : List SourceToken)
-      → Gives (λ (e : Expression) rest. Goes (as_postfix base (expression_form known base)) (as_postfix e (expression_form known e)) tokens rest)
+      → Yields (λ (e : Expression) rest. Goes (as_postfix base (expression_form known base)) (as_postfix e (expression_form known e)) tokens rest)
       (table (goal.suffixes base) tokens)
   suffixes_gives base tokens = so_gives (table (goal.suffixes base) tokens) (always_gives (Takes known) table found (goal.suffixes base) tokens)
       (λ e rest it. record { front = it.0; whole = it.1; is = it.2 })
 
   pub arguments_gives : (earlier : List Expression) (tokens : List SourceToken)
-      → Gives (λ (all : List Expression) rest. Grows earlier all (λ its. arguments_form known (expressions_from its)) tokens rest)
+      → Yields (λ (all : List Expression) rest. Grows earlier all (λ its. arguments_form known (expressions_from its)) tokens rest)
       (table (goal.arguments earlier) tokens)
   arguments_gives earlier tokens = so_gives (table (goal.arguments earlier) tokens) (always_gives (Takes known) table found (goal.arguments earlier) tokens)
       (λ all rest it. record {
@@ -123,12 +123,12 @@ module _ (known : Known) (table : Shorter) (found : IsFound known table) where
         begins = record { front = it.0; whole = it.1; is = it.2.3 };
       })
 
-  pub type_gives : (tokens : List SourceToken) → Gives (λ (type : NamedType) rest. Begins (type_form known type) tokens rest) (table goal.type_name tokens)
+  pub type_gives : (tokens : List SourceToken) → Yields (λ (type : NamedType) rest. Begins (type_form known type) tokens rest) (table goal.type_name tokens)
   type_gives tokens = so_gives (table goal.type_name tokens) (always_gives (Takes known) table found goal.type_name tokens)
       (λ type rest it. record { front = it.0; whole = it.1; is = it.2 })
 
   pub specifiers_gives : (typed : Bool) (earlier : List Specified) (tokens : List SourceToken)
-      → Gives (λ (all : List Specified) rest. Specifies known typed earlier all tokens rest) (table (goal.specifiers typed earlier) tokens)
+      → Yields (λ (all : List Specified) rest. Specifies known typed earlier all tokens rest) (table (goal.specifiers typed earlier) tokens)
   specifiers_gives typed earlier tokens = so_gives (table (goal.specifiers typed earlier) tokens)
       (always_gives (Takes known) table found (goal.specifiers typed earlier) tokens)
       (λ all rest it. record {
@@ -139,7 +139,7 @@ module _ (known : Known) (table : Shorter) (found : IsFound known table) where
       })
 
   pub members_gives : (earlier : List OneMember) (tokens : List SourceToken)
-      → Gives (λ (all : List OneMember) rest. Grows earlier all (λ its. members_form known (members_from its)) tokens rest)
+      → Yields (λ (all : List OneMember) rest. Grows earlier all (λ its. members_form known (members_from its)) tokens rest)
       (table (goal.members earlier) tokens)
   members_gives earlier tokens = so_gives (table (goal.members earlier) tokens) (always_gives (Takes known) table found (goal.members earlier) tokens)
       (λ all rest it. record {
@@ -150,7 +150,7 @@ module _ (known : Known) (table : Shorter) (found : IsFound known table) where
       })
 
   pub constants_gives : (earlier : List OneConstant) (tokens : List SourceToken)
-      → Gives (λ (all : List OneConstant × Bool) rest. Grows earlier all.0 (λ its. constants_form known (constants_from its) ⨾ comma_form all.1) tokens rest)
+      → Yields (λ (all : List OneConstant × Bool) rest. Grows earlier all.0 (λ its. constants_form known (constants_from its) ⨾ comma_form all.1) tokens rest)
       (table (goal.constants earlier) tokens)
   constants_gives earlier tokens = so_gives (table (goal.constants earlier) tokens) (always_gives (Takes known) table found (goal.constants earlier) tokens)
       (λ all rest it. record {
@@ -161,12 +161,12 @@ module _ (known : Known) (table : Shorter) (found : IsFound known table) where
       })
 
   pub declarator_gives : (inner : Bool) (tokens : List SourceToken)
-      → Gives (λ (it : Declared) rest. Declares known inner it tokens rest) (table (goal.declarator inner) tokens)
+      → Yields (λ (it : Declared) rest. Declares known inner it tokens rest) (table (goal.declarator inner) tokens)
   declarator_gives inner tokens = so_gives (table (goal.declarator inner) tokens) (always_gives (Takes known) table found (goal.declarator inner) tokens)
       (λ declared rest it. record { begins = record { front = it.0; whole = it.1; is = it.2.0 }; named = it.2.1 })
 
   pub declarators_gives : (earlier : List Declared) (tokens : List SourceToken)
-      → Gives (λ (all : List Declared) rest. Grows earlier all (λ its. declarators_form known (declarators_from its)) tokens rest)
+      → Yields (λ (all : List Declared) rest. Grows earlier all (λ its. declarators_form known (declarators_from its)) tokens rest)
       (table (goal.declarators earlier) tokens)
   declarators_gives earlier tokens = so_gives (table (goal.declarators earlier) tokens)
       (always_gives (Takes known) table found (goal.declarators earlier) tokens)
@@ -178,12 +178,12 @@ module _ (known : Known) (table : Shorter) (found : IsFound known table) where
       })
 
   pub directs_gives : (base : Directly) (tokens : List SourceToken)
-      → Gives (λ (direct : Directly) rest. Directs known base direct tokens rest) (table (goal.directs base) tokens)
+      → Yields (λ (direct : Directly) rest. Directs known base direct tokens rest) (table (goal.directs base) tokens)
   directs_gives base tokens = so_gives (table (goal.directs base) tokens) (always_gives (Takes known) table found (goal.directs base) tokens)
       (λ direct rest it. record { same = it.2.0; front = it.0; whole = it.1; is = it.2.1 })
 
   pub parameters_gives : (earlier : List OneParameter) (tokens : List SourceToken)
-      → Gives (λ (all : List OneParameter) rest. Grows earlier all (λ its. parameters_form known (parameters_from its)) tokens rest)
+      → Yields (λ (all : List OneParameter) rest. Grows earlier all (λ its. parameters_form known (parameters_from its)) tokens rest)
       (table (goal.parameters earlier) tokens)
   parameters_gives earlier tokens = so_gives (table (goal.parameters earlier) tokens) (always_gives (Takes known) table found (goal.parameters earlier) tokens)
       (λ all rest it. record {

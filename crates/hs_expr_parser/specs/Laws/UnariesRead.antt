@@ -28,7 +28,7 @@ use Rattle.hs_expr_parser.specs.Laws.Along.{Whole, Reads, reads_along}
 use Rattle.hs_expr_parser.specs.Laws.Apart.{with_text, split, one_token}
 use Rattle.hs_expr_parser.specs.Expected.{ReadsType}
 use Rattle.hs_expr_parser.specs.Laws.Primaries.{ReadsAll, mark_reads, closing, closes, ranked, bracketed, behind}
-use Rattle.hs_expr_parser.specs.Laws.Ranks.{AllRead, level_most, unary_all, cast_all as from_cast, all_along, tightest}
+use Rattle.hs_expr_parser.specs.Laws.Ranks.{AllRead, precedence_most, unary_all, cast_all as from_cast, all_along, tightest}
 use Rattle.hs_expr_parser.specs.Laws.Stopping.{looser}
 
 -- what is made of an expression that is read
@@ -105,7 +105,7 @@ joins_apart : (among : Bool) (found : Option BinaryOperator) (assigned : Option 
     → is_below 14 (joins_by among found assigned source) ≡ true → is_below 13 (joins_by among found assigned source) ≡ true
 joins_apart true found assigned source is = absurd cc
 joins_apart false (Some it) assigned source is =
-    let most = level_most it in
+    let most = precedence_most it in
     grind (arith, nat_tests)
 joins_apart false None (Some it) source is = refl
 joins_apart false None None source is =

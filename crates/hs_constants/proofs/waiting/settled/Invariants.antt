@@ -4,7 +4,7 @@ use Rattle.hs_constants.proofs.waiting.settled.Given as goal
 
 -- what is left comes to what all comes to
 abbrev pub invariant-waiting : goal.invariant-waiting
-invariant-waiting l = settled l.level (reverse l.waiting.items) l.value ≡ settled l.level (reverse l.initial.waiting.items) l.initial.value
+invariant-waiting l = settled l.precedence (reverse l.waiting.items) l.value ≡ settled l.precedence (reverse l.initial.waiting.items) l.initial.value
 
 abbrev pub decreases-waiting : goal.decreases-waiting
 decreases-waiting l = vec_len l.waiting

@@ -8,12 +8,12 @@ use Rattle.hs_cut.proofs.augment.arc_down.Goals as goal
 -- the arc does not lead down
 pub loop-arc-preserved : goal.loop-arc-preserved
 loop-arc-preserved c =
-    All-more (λ (arc : Arc). LeadsDown c.args.gates.now c.args.levels.now c.args.level arc → ⊥) c.args.row.now c.loop-arc.arc-index
+    All-more (λ (arc : Arc). LeadsDown c.args.gates.now c.args.distances.now c.args.distance arc → ⊥) c.args.row.now c.loop-arc.arc-index
     (record { to = 0; edge = 0; along = false }) c.loop-arc-test.true c.loop-arc.invariant
     (λ leads. let no_ : false ≡ true = c.if-leads_down.ensures.1 leads in cc)
 
 -- nor does any
 pub returns-clause-none : goal.returns-clause-none
 returns-clause-none c =
-    All-same (λ (arc : Arc). LeadsDown c.args.gates.now c.args.levels.now c.args.level arc → ⊥) c.args.row.now _
+    All-same (λ (arc : Arc). LeadsDown c.args.gates.now c.args.distances.now c.args.distance arc → ⊥) c.args.row.now _
     (sym (take_all c.loop-arc.arc-index c.args.row.now c.loop-arc-test.false)) c.loop-arc.invariant

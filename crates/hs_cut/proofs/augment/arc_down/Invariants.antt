@@ -4,4 +4,4 @@ use Rattle.hs_cut.proofs.augment.arc_down.Given as goal
 
 -- the arcs so far do not lead down
 abbrev pub invariant-loop-arc : goal.invariant-loop-arc
-invariant-loop-arc l = All (λ arc. LeadsDown l.gates l.levels l.level arc → ⊥) (take l.arc-index l.row)
+invariant-loop-arc l = All (λ arc. LeadsDown l.gates l.distances l.distance arc → ⊥) (take l.arc-index l.row)

@@ -1,6 +1,6 @@
 use Rattle.std.proofs.Common.{◌≡◌, ◌<◌, ◌≤◌, ◌-◌, List, suc, true, length, nat_abs, ap, sym, ◌∙◌, arith, replicate, pos}
 use Rattle.hs_cut.specs.Flows.{net_out}
-use Rattle.hs_cut.specs.Levels.{AreInside}
+use Rattle.hs_cut.specs.Distances.{AreInside}
 use Rattle.hs_cut.specs.Networks.{among}
 use Rattle.hs_cut.specs.Pushes.{IsPartial, IsPushed, IsSized}
 use Rattle.hs_cut.specs.declared.network.CutEdge.{CutEdge}
@@ -18,8 +18,8 @@ rounds-init c = (
 )
 
 -- the arcs are those of the edges
-pub levels_from-requires-clause-inside : goal.levels_from-requires-clause-inside
-levels_from-requires-clause-inside c =
+pub distances_from-requires-clause-inside : goal.distances_from-requires-clause-inside
+distances_from-requires-clause-inside c =
     let long : length c.as_slice.result.now ≡ length c.items-edges.result.now =
     ap length c.as_slice.ensures.value ∙ c.rounds.invariant.1.long ∙ ap length (sym c.items-edges.ensures) in
     let many : length c.as_slice-in-rounds.result.now ≡ length c.args.network.now.edges =
@@ -48,12 +48,12 @@ pushed-flow-requires-clause-inside c =
     c.requires.numbered.edges) in
     inside
 
--- each level has an arc to the one below
+-- each distance has an arc to the one below
 pub pushed-flow-requires-clause-below : goal.pushed-flow-requires-clause-below
 pushed-flow-requires-clause-below c =
     rw (c.as_slice-in-rounds-4.ensures.value, c.as_slice-in-rounds-3.ensures.value ∙ sym c.as_slice-in-rounds.ensures.value)
-    (leads_down c.args.network.now.edges c.as_slice-in-rounds.result.now c.args.rows.now c.items.result.now c.in_ok-levels.levels.items
-    c.requires.graph c.in_ok-levels.ensures)
+    (leads_down c.args.network.now.edges c.as_slice-in-rounds.result.now c.args.rows.now c.items.result.now c.in_ok-distances.distances.items
+    c.requires.graph c.in_ok-distances.ensures)
 
 -- the flow has one unit more
 grows : (c : goal.After-drop-gates-in-rounds) → IsPartial c.args.network.now (suc c.rounds.invariant.0) c.pushed-flow.result.items
@@ -63,7 +63,7 @@ grows c =
     let pushes : IsPushed c.args.network.now.edges from c.in-Some.end.vertex c.rounds.flow.items c.pushed-flow.result.items =
     rw c.items-edges.ensures at pushed in
     let first = rw c.as_slice-in-rounds-4.ensures.value at c.pushed-flow.ensures.1 in
-    let begins : among c.args.network.now.inside from ≡ true = rw c.items.ensures at (c.in_ok-levels.ensures.origin from first) in
+    let begins : among c.args.network.now.inside from ≡ true = rw c.items.ensures at (c.in_ok-distances.ensures.origin from first) in
     let ends : among c.args.network.now.outside c.in-Some.end.vertex ≡ true = rw c.items-in-rounds.ensures at c.in-Some.ensures.some.0 in
     IsPartial-push c.args.network.now c.rounds.invariant.0 c.rounds.flow.items c.pushed-flow.result.items from c.in-Some.end.vertex
     c.requires.open.0 c.rounds.invariant.1 pushes c.requires.open.1 begins ends

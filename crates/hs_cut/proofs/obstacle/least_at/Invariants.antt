@@ -4,4 +4,4 @@ use Rattle.hs_cut.proofs.obstacle.least_at.Given as goal
 
 -- the least so far
 abbrev pub invariant-loop-vertex : goal.invariant-loop-vertex
-invariant-loop-vertex l = IsLeastAt l.levels l.level (take l.vertex-index l.vertices) l.least
+invariant-loop-vertex l = IsLeastAt l.distances l.distance (take l.vertex-index l.vertices) l.least

@@ -2,7 +2,7 @@ use Rattle.std.proofs.Common.{◌≡◌, [], List, length, sym, ap, ◌∙◌, i
 use Rattle.std.proofs.lemmas.List.{nil_from_length}
 use Rattle.std.proofs.lemmas.Result.{err_from_is_err_and}
 use Rattle.hs_macros.specs.Stacks.{done}
-use Rattle.hs_macros.specs.Levels.{call_outcome, resumed, weights}
+use Rattle.hs_macros.specs.Frames.{call_outcome, resumed, weights}
 use Rattle.hs_macros.specs.declared.call.Call.{Call}
 use Rattle.hs_macros.specs.declared.expansion.Suspended.{Suspended}
 use Rattle.hs_macros.proofs.Steps.{begins, begins_falls, places, places_falls, refuses, same_waiting}

@@ -2,7 +2,7 @@ use Rattle.std.proofs.Common.{◌≡◌, ◌≤◌, length}
 use Rattle.hs_macros.specs.Definitions.{Definitions}
 use Rattle.hs_macros.specs.Loads.{load}
 use Rattle.hs_macros.specs.Stacks.{done, waiting}
-use Rattle.hs_macros.specs.Levels.{call_outcome}
+use Rattle.hs_macros.specs.Frames.{call_outcome}
 use Rattle.hs_macros.proofs.expansion.proceed.Given as goal
 
 -- arguments that are not used change nothing of what comes of the invocation

@@ -1,7 +1,7 @@
 use Rattle.std.proofs.Common.{◌≡◌, [], sym, ap, ◌∙◌, arith}
 use Rattle.std.proofs.lemmas.List.{nil_from_length}
 use Rattle.std.proofs.lemmas.Result.{err_from_is_err_and}
-use Rattle.hs_macros.specs.Levels.{weights}
+use Rattle.hs_macros.specs.Frames.{weights}
 use Rattle.hs_macros.proofs.Steps.{weights-push, all_done, next_ahead, refused_all}
 use Rattle.hs_macros.proofs.expansion.replaced_run.Goals as goal
 
@@ -10,31 +10,31 @@ pub steps-smaller : goal.steps-smaller
 steps-smaller c =
     omega (
       arith,
-      c.in_ok-level-2.ensures.falls,
+      c.in_ok-frame-2.ensures.falls,
       c.in_ok-give_done.ensures.weight,
       ap weights c.in-Some-pop.ensures.items,
       weights-push c.pop-in_default.new.self.items c.in-Some-pop.suspended,
       c.pop.new.self.ok.0,
-      c.give_done.new.level.tokens.ok.0,
+      c.give_done.new.frame.tokens.ok.0,
       c.in_default.ensures.cases.0,
       c.in_default.ensures.cases.1,
     )
 
 -- the next token is refused
-pub returns-in_err-level-clause-refused : goal.returns-in_err-level-clause-refused
-returns-in_err-level-clause-refused c =
-    let exit = err_from_is_err_and c.from_residual-in_err-level.result c.from_residual-in_err-level.ensures.1 in
+pub returns-in_err-frame-clause-refused : goal.returns-in_err-frame-clause-refused
+returns-in_err-frame-clause-refused c =
+    let exit = err_from_is_err_and c.from_residual-in_err-frame.result c.from_residual-in_err-frame.ensures.1 in
     let same = rw c.deref.ensures.value at (c.in_ok-give_done.ensures.same c.args.macros.now) in
-    let next = next_ahead c.args.macros.now c.give_done.new.sources.items c.steps.calls.items c.give_done.new.level
+    let next = next_ahead c.args.macros.now c.give_done.new.sources.items c.steps.calls.items c.give_done.new.frame
     c.pop.new.self.items c.in-Some.token c.in-Some.ensures.items in
-    rw (exit.1, exit.2) (refused_all c.give_done.new.sources.items _ _ _ (next ∙ same ∙ c.steps.invariant) c.in_err-level.ensures.step)
+    rw (exit.1, exit.2) (refused_all c.give_done.new.sources.items _ _ _ (next ∙ same ∙ c.steps.invariant) c.in_err-frame.ensures.step)
 
 -- nothing waits and nothing is ahead, so all is given
 pub returns-in_default-pop-clause-replaced : goal.returns-in_default-pop-clause-replaced
 returns-in_default-pop-clause-replaced c =
     let none : c.steps.calls.items ≡ [] = nil_from_length _ (omega (arith, c.steps.calls.ok.0, c.in_default-pop.ensures.cases.0)) in
-    let empty : c.give_done.new.level.tokens.items ≡ [] = nil_from_length _ (omega (arith, c.give_done.new.level.tokens.ok.0, c.in_default.ensures.cases.0)) in
-    let given : c.give_done.new.level.before.items ≡ [] = c.in_ok-give_done.ensures.given (c.deref.ensures.value ∙ none) in
+    let empty : c.give_done.new.frame.tokens.items ≡ [] = nil_from_length _ (omega (arith, c.give_done.new.frame.tokens.ok.0, c.in_default.ensures.cases.0)) in
+    let given : c.give_done.new.frame.before.items ≡ [] = c.in_ok-give_done.ensures.given (c.deref.ensures.value ∙ none) in
     let same = rw c.deref.ensures.value at (c.in_ok-give_done.ensures.same c.args.macros.now) in
     sym (same ∙ c.steps.invariant)
-    ∙ all_done c.args.macros.now c.give_done.new.sources.items c.steps.calls.items c.give_done.new.level none given empty
+    ∙ all_done c.args.macros.now c.give_done.new.sources.items c.steps.calls.items c.give_done.new.frame none given empty

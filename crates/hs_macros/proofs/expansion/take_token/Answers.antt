@@ -1,7 +1,7 @@
 use Rattle.std.proofs.Common.{ap, ◌∙◌, arith}
 use Rattle.std.proofs.lemmas.Result.{err_from_is_err_and, IfOk-weaker}
 use Rattle.hs_macros.specs.Stacks.{done, ahead}
-use Rattle.hs_macros.specs.Levels.{resumed}
+use Rattle.hs_macros.specs.Frames.{resumed}
 use Rattle.hs_macros.proofs.Steps.{stays_done, whole_stays, step_of, whole_invoked, whole_refused, held_behind}
 use Rattle.hs_macros.proofs.expansion.take_token.Goals as goal
 
@@ -9,32 +9,32 @@ use Rattle.hs_macros.proofs.expansion.take_token.Goals as goal
 pub returns-in_err-tokens-clause-step : goal.returns-in_err-tokens-clause-step
 returns-in_err-tokens-clause-step c =
     let exit = err_from_is_err_and c.from_residual.result c.from_residual.ensures.1 in
-    rw (exit.1, exit.2) (whole_refused c.args.macros.now c.args.calls.now.items (done c.args.level.before.items) c.args.token (ahead c.args.level.tokens.items)
-    c.args.level.left _ c.in_err-tokens.ensures)
+    rw (exit.1, exit.2) (whole_refused c.args.macros.now c.args.calls.now.items (done c.args.frame.before.items) c.args.token (ahead c.args.frame.tokens.items)
+    c.args.frame.left _ c.in_err-tokens.ensures)
 
 -- the token stays
 pub returns-in-Stays-clause-step : goal.returns-in-Stays-clause-step
 returns-in-Stays-clause-step c =
     let found' = rw c.in-Stays.is at c.in_ok-tokens.ensures in
     ap (resumed c.args.macros.now c.args.calls.now.items) (
-    stays_done c.args.macros.now c.args.level.before.items c.push.new.self.items c.args.token (ahead c.in-Stays.tokens.items) c.args.level.left
+    stays_done c.args.macros.now c.args.frame.before.items c.push.new.self.items c.args.token (ahead c.in-Stays.tokens.items) c.args.frame.left
     c.in_ok-push-in-Stays.ensures.items
-    ∙ whole_stays c.args.macros.now (done c.args.level.before.items) c.args.token (ahead c.in-Stays.tokens.items) (ahead c.args.level.tokens.items)
-    c.args.level.left found')
+    ∙ whole_stays c.args.macros.now (done c.args.frame.before.items) c.args.token (ahead c.in-Stays.tokens.items) (ahead c.args.frame.tokens.items)
+    c.args.frame.left found')
 
 -- an invocation is begun
 pub returns-clause-step : goal.returns-clause-step
 returns-clause-step c =
     let found' = rw c.in-Invoked.is at c.in_ok-tokens.ensures in
-    step_of _ _ _ _ (whole_invoked c.args.macros.now c.args.calls.now.items (done c.args.level.before.items) c.args.token (ahead c.args.level.tokens.items)
-    c.args.level.left c.in-Invoked.call found') (c.proceed.ensures.step c.args.macros.now)
+    step_of _ _ _ _ (whole_invoked c.args.macros.now c.args.calls.now.items (done c.args.frame.before.items) c.args.token (ahead c.args.frame.tokens.items)
+    c.args.frame.left c.in-Invoked.call found') (c.proceed.ensures.step c.args.macros.now)
 
--- and holds less than the level
+-- and holds less than the frame
 pub returns-clause-falls : goal.returns-clause-falls
 returns-clause-falls c =
     let found' = rw c.in-Invoked.is at c.in_ok-tokens.ensures in
     IfOk-weaker c.proceed.result _ _ (λ next falls. omega (
       arith,
       falls,
-      held_behind c.args.macros.now c.args.token c.args.level.tokens.items c.in-Invoked.call found',
+      held_behind c.args.macros.now c.args.token c.args.frame.tokens.items c.in-Invoked.call found',
     )) c.proceed.ensures.falls

@@ -1,10 +1,10 @@
 use Rattle.std.proofs.Common.{[], ◌∷◌, ◌++◌, refl, ◌∙◌}
-use Rattle.hs_macros.proofs.Steps.{step_of, ends, level_done}
+use Rattle.hs_macros.proofs.Steps.{step_of, ends, frame_done}
 use Rattle.hs_macros.proofs.expansion.take_up.Goals as goal
 
 -- the argument is ready
 pub returns-clause-step : goal.returns-clause-step
 returns-clause-step c macros =
-    step_of _ _ _ _ (ends macros c.args.calls.now.items (c.args.calls.now.items ++ c.args.suspended ∷ []) c.args.suspended.before c.args.level.before
-    c.args.suspended.call c.push.new.self c.args.suspended.parameter c.args.level.left refl c.in_ok-push.ensures.items
-    ∙ level_done macros (c.args.calls.now.items ++ c.args.suspended ∷ []) c.args.level c.requires) (c.proceed.ensures.step macros)
+    step_of _ _ _ _ (ends macros c.args.calls.now.items (c.args.calls.now.items ++ c.args.suspended ∷ []) c.args.suspended.before c.args.frame.before
+    c.args.suspended.call c.push.new.self c.args.suspended.parameter c.args.frame.left refl c.in_ok-push.ensures.items
+    ∙ frame_done macros (c.args.calls.now.items ++ c.args.suspended ∷ []) c.args.frame c.requires) (c.proceed.ensures.step macros)

@@ -11,11 +11,11 @@ use std::marker::Model;
 
 /// The conditional sections that are open. Contracts see the innermost first.
 #[derive(Drop)]
-pub(crate) struct Sections {
+pub(crate) struct OpenSections {
     vec: Vec<Section>,
 }
 
-impl Model for Sections {
+impl Model for OpenSections {
     ghost use Rattle.std.specs.Prelude.{List, reverse};
     ghost use Rattle.hs_directives.specs.declared.section.Section.{Section};
 
@@ -24,12 +24,12 @@ impl Model for Sections {
     ghost view = { λ sections. reverse sections.vec.items };
 }
 
-impl Sections {
+impl OpenSections {
     /// None.
-    pub(crate) fn new(alloc: Global) -> Sections
+    pub(crate) fn new(alloc: Global) -> OpenSections
         ensures { result ≡ [] }
     {
-        Sections {
+        OpenSections {
             vec: Vec::new(alloc),
         }
     }

@@ -1,11 +1,11 @@
 -- Where the code stands, in the words of the definition. It keeps its own stack: an invocation waits there while one of its
 -- arguments is expanded.
---     level_outcome macros level          what comes of the tokens done and those ahead
+--     frame_outcome macros frame          what comes of the tokens done and those ahead
 --     call_outcome macros before call left    what comes of an invocation after those
 --     resumed macros calls outcome        what comes of all, if that comes of the innermost
 --     with_sources front replaced         what comes after the tokens that all gave already
 --     IsStep whole later result           the result decides what the whole comes to
---     weights calls, weight level         how many steps are left at most
+--     weights calls, weight frame         how many steps are left at most
 use Rattle.std.specs.Prelude.{◌≡◌, ℕ, ◌+◌, List, [], ◌∷◌, ◌++◌, length, Result, Ok, Err}
 use Rattle.hs_tokens.specs.declared.token.SourceToken.{SourceToken}
 use Rattle.hs_macros.specs.Arguments.{Hidden}
@@ -17,12 +17,12 @@ use Rattle.hs_macros.specs.Stacks.{done, ahead, ready, waiting, invocation}
 use Rattle.hs_macros.specs.declared.budget.Budget.{Budget}
 use Rattle.hs_macros.specs.declared.call.Call.{Call}
 use Rattle.hs_macros.specs.declared.error.MacroError.{MacroError}
-use Rattle.hs_macros.specs.declared.expansion.Level.{Level}
+use Rattle.hs_macros.specs.declared.expansion.Frame.{Frame}
 use Rattle.hs_macros.specs.declared.expansion.Suspended.{Suspended}
 
 -- the tokens that are done, and what comes of those ahead
-abbrev pub level_outcome : Definitions → Level → Outcome
-level_outcome macros level = with_front (done level.before.items) (expanded macros level.left (ahead level.tokens.items))
+abbrev pub frame_outcome : Definitions → Frame → Outcome
+frame_outcome macros frame = with_front (done frame.before.items) (expanded macros frame.left (ahead frame.tokens.items))
 
 -- the tokens before an invocation, and what comes of it
 abbrev pub call_outcome : Definitions → List Hidden → Call → Budget → Outcome
@@ -47,8 +47,8 @@ with_sources front (Err error) = Err error
 with_sources front (Ok later) = Ok (record { tokens = front ++ later.tokens; left = later.left })
 
 -- A step goes on to what comes to the same, or it gives the refusal that all comes to. Want of memory alone is free.
-abbrev pub IsStep : Outcome → (Level → Outcome) → Result Level MacroError → Type 0
-IsStep whole later (Ok level) = later level ≡ whole
+abbrev pub IsStep : Outcome → (Frame → Outcome) → Result Frame MacroError → Type 0
+IsStep whole later (Ok frame) = later frame ≡ whole
 IsStep whole later (Err error) = IsRefusal whole error
 
 -- what an invocation that waits holds, and itself
@@ -61,5 +61,5 @@ weights [] = 0
 weights (suspended ∷ calls) = weight_of suspended + weights calls
 
 -- the tokens ahead, and those that may still be put in place
-abbrev pub weight : Level → ℕ
-weight level = length level.tokens.items + level.left.tokens
+abbrev pub weight : Frame → ℕ
+weight frame = length frame.tokens.items + frame.left.tokens

@@ -6,12 +6,12 @@ ghost use Rattle.hs_directives.specs.Ahead.{seen_name, turn_of};
 ghost use Rattle.hs_directives.specs.declared.state.State.{State};
 ghost use Rattle.hs_directives.specs.Outcomes.{Gives};
 
-use crate::changing::lone_name;
 use crate::condition::{Answered, condition_of};
+use crate::define::lone_name;
 use crate::error::ReadError;
 use crate::keyword::Keyword;
+use crate::open_sections::OpenSections;
 use crate::section::Section;
-use crate::sections::Sections;
 use crate::state::State;
 use hs_base::Pos;
 use hs_tokens::Token;
@@ -65,7 +65,7 @@ pub(crate) fn if_done(
     keyword: Keyword,
     hash: &Token,
     line: &[Token],
-    sections: &mut Sections,
+    sections: &mut OpenSections,
     state: &mut State,
 ) -> Result<(), ReadError>
     ensures gives { Gives (λ _. turn_of sections.new state.new)
@@ -88,7 +88,7 @@ pub(crate) fn elif_done(
     alloc: Global,
     hash: &Token,
     line: &[Token],
-    sections: &mut Sections,
+    sections: &mut OpenSections,
     state: &mut State,
 ) -> Result<(), ReadError>
     ensures gives { Gives (λ _. turn_of sections.new state.new)
@@ -116,7 +116,7 @@ pub(crate) fn elif_done(
 }
 
 /// An `#else`, which has an `#if` before it, and no other `#else` (X3.159-1989 3.8.1).
-pub(crate) fn else_done(hash: &Token, sections: &mut Sections) -> Result<(), ReadError>
+pub(crate) fn else_done(hash: &Token, sections: &mut OpenSections) -> Result<(), ReadError>
     ensures { (state : State) → Gives (λ _. turn_of sections.new state) (else_done hash.now sections.old state) result }
 {
     let Some(section) = sections.pop() else {
@@ -134,7 +134,7 @@ pub(crate) fn else_done(hash: &Token, sections: &mut Sections) -> Result<(), Rea
 }
 
 /// The section ends (X3.159-1989 3.8.1).
-pub(crate) fn endif_done(hash: &Token, sections: &mut Sections) -> Result<(), ReadError>
+pub(crate) fn endif_done(hash: &Token, sections: &mut OpenSections) -> Result<(), ReadError>
     ensures { (state : State) → Gives (λ _. turn_of sections.new state) (endif_done hash.now sections.old state) result }
 {
     match sections.pop() {

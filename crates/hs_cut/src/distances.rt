@@ -1,7 +1,7 @@
 //! A search by breadth: how many steps away each vertex is.
 
 ghost use Rattle.std.specs.Prelude.{◌≡◌, ℕ, ◌<◌, ◌^◌, List, [], ◌∷◌, length, flat_map, All, IfOk, OnOk};
-ghost use Rattle.hs_cut.specs.Levels.{AreInside, AreLevels, IsInside, IsMarked, is_open, next_to, opens, targets};
+ghost use Rattle.hs_cut.specs.Distances.{AreInside, AreDistances, IsInside, IsMarked, is_open, next_to, opens, targets};
 
 use crate::graph::Arc;
 use hs_base::NoMemory;
@@ -33,8 +33,8 @@ pub(crate) fn is_open(gates: &[Gate], arc: Arc) -> bool
     gates[arc.edge].opens(arc.along)
 }
 
-/// The levels of all vertices in a search by breadth from the starts, over the arcs that can be traversed.
-pub(crate) fn levels_from(
+/// The distances of all vertices in a search by breadth from the starts, over the arcs that can be traversed.
+pub(crate) fn distances_from(
     alloc: Global,
     rows: &[Vec<Arc>],
     gates: &[Gate],
@@ -43,39 +43,39 @@ pub(crate) fn levels_from(
     requires inside { AreInside (length gates.now) rows.now }
     requires known { All (λ start. start < length rows.now) starts.now }
     requires few { length rows.now < 2 ^ 32 }
-    ensures { IfOk result (λ levels. AreLevels gates.now rows.now starts.now levels.items) }
+    ensures { IfOk result (λ distances. AreDistances gates.now rows.now starts.now distances.items) }
 {
-    let mut levels = Vec::from_elem(alloc, None, rows.len())?;
+    let mut distances = Vec::from_elem(alloc, None, rows.len())?;
     let mut frontier = Vec::new(alloc);
-    mark_starts(starts, levels.as_mut_slice(), &mut frontier)?;
-    let mut level = 0;
+    mark_starts(starts, distances.as_mut_slice(), &mut frontier)?;
+    let mut distance = 0;
     'rounds: while !frontier.is_empty() {
-        level += 1;
+        distance += 1;
         let mut next = Vec::new(alloc);
         mark_next(
             rows,
             gates,
             frontier.as_slice(),
-            level,
-            levels.as_mut_slice(),
+            distance,
+            distances.as_mut_slice(),
             &mut next,
         )?;
         frontier = next;
     }
-    Ok(levels)
+    Ok(distances)
 }
 
 /// Marks the starts.
 fn mark_starts(
     starts: &[u32],
-    levels: &mut [Option<u32>],
+    distances: &mut [Option<u32>],
     next: &mut Vec<u32>,
 ) -> Result<(), NoMemory>
-    requires known { All (λ start. start < length levels.old) starts.now }
-    ensures { OnOk result (IsMarked 0 starts.now levels.old next.old.items levels.new next.new.items) }
+    requires known { All (λ start. start < length distances.old) starts.now }
+    ensures { OnOk result (IsMarked 0 starts.now distances.old next.old.items distances.new next.new.items) }
 {
     for start in starts {
-        mark(*start, 0, levels, next)?;
+        mark(*start, 0, distances, next)?;
     }
     Ok(())
 }
@@ -85,18 +85,18 @@ fn mark_next(
     rows: &[Vec<Arc>],
     gates: &[Gate],
     frontier: &[u32],
-    level: u32,
-    levels: &mut [Option<u32>],
+    distance: u32,
+    distances: &mut [Option<u32>],
     next: &mut Vec<u32>,
 ) -> Result<(), NoMemory>
     requires inside { AreInside (length gates.now) rows.now }
-    requires long { length levels.old ≡ length rows.now }
+    requires long { length distances.old ≡ length rows.now }
     requires known { All (λ vertex. vertex < length rows.now) frontier.now }
-    ensures { OnOk result (IsMarked level (flat_map (next_to gates.now rows.now) frontier.now)
-        levels.old next.old.items levels.new next.new.items) }
+    ensures { OnOk result (IsMarked distance (flat_map (next_to gates.now rows.now) frontier.now)
+        distances.old next.old.items distances.new next.new.items) }
 {
     for vertex in frontier {
-        mark_row(&rows[*vertex as usize], gates, level, levels, next)?;
+        mark_row(&rows[*vertex as usize], gates, distance, distances, next)?;
     }
     Ok(())
 }
@@ -105,36 +105,36 @@ fn mark_next(
 fn mark_row(
     row: &[Arc],
     gates: &[Gate],
-    level: u32,
-    levels: &mut [Option<u32>],
+    distance: u32,
+    distances: &mut [Option<u32>],
     next: &mut Vec<u32>,
 ) -> Result<(), NoMemory>
-    requires inside { All (IsInside (length levels.old) (length gates.now)) row.now }
-    ensures { OnOk result (IsMarked level (targets gates.now row.now)
-        levels.old next.old.items levels.new next.new.items) }
+    requires inside { All (IsInside (length distances.old) (length gates.now)) row.now }
+    ensures { OnOk result (IsMarked distance (targets gates.now row.now)
+        distances.old next.old.items distances.new next.new.items) }
 {
     for arc in row {
         if is_open(gates, *arc) {
-            mark(arc.to, level, levels, next)?;
+            mark(arc.to, distance, distances, next)?;
         }
     }
     Ok(())
 }
 
-/// Gives the vertex this level and puts it to the next ones, if it has no level.
+/// Gives the vertex this distance and puts it to the next ones, if it has no distance.
 fn mark(
     vertex: u32,
-    level: u32,
-    levels: &mut [Option<u32>],
+    distance: u32,
+    distances: &mut [Option<u32>],
     next: &mut Vec<u32>,
 ) -> Result<(), NoMemory>
-    requires known { vertex < length levels.old }
-    ensures { OnOk result (IsMarked level (vertex ∷ [])
-        levels.old next.old.items levels.new next.new.items) }
+    requires known { vertex < length distances.old }
+    ensures { OnOk result (IsMarked distance (vertex ∷ [])
+        distances.old next.old.items distances.new next.new.items) }
 {
     let index = vertex as usize;
-    if levels[index].is_none() {
-        levels[index] = Some(level);
+    if distances[index].is_none() {
+        distances[index] = Some(distance);
         next.push(vertex)?;
     }
     Ok(())
