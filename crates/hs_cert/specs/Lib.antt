@@ -1,5 +1,5 @@
 pub mod CertificateLaws
 pub mod Certificates
-pub mod Marks
+pub mod Flags
 pub mod Reading
 pub mod Texts

@@ -5,9 +5,9 @@ ghost use Rattle.std.specs.List.{All, position, zip};
 ghost use Rattle.std.specs.Ordering.{int_eq};
 ghost use Rattle.hs_cut.specs.Networks.{among};
 ghost use Rattle.hs_cut.specs.Flows.{most, net_out, out_over};
-ghost use Rattle.hs_cert.specs.Marks.{marked};
+ghost use Rattle.hs_cert.specs.Flags.{flagged};
 
-use crate::marks::is_marked;
+use crate::flags::is_flagged;
 use hs_cut::CutEdge;
 
 /// The most that may flow over the edge, either way.
@@ -81,30 +81,34 @@ pub(crate) fn first_unequal(sums: &[i64], vertices: u32) -> Option<u32>
     Some(vertex as u32)
 }
 
-/// What the edge takes out of the marked vertices, less what it brings in.
-fn out_over(marks: &[i64], edge: &CutEdge, amount: i64) -> i64
+/// What the edge takes out of the flagged vertices, less what it brings in.
+fn out_over(flags: &[i64], edge: &CutEdge, amount: i64) -> i64
     requires small { nat_abs amount ≤ 2147483647 }
-    ensures { result ≡ out_over (marked marks.now) edge.now amount }
+    ensures { result ≡ out_over (flagged flags.now) edge.now amount }
 {
-    let out = if is_marked(marks, edge.from) {
+    let out = if is_flagged(flags, edge.from) {
         amount
     } else {
         0
     };
-    let brought = if is_marked(marks, edge.to) { amount } else { 0 };
+    let brought = if is_flagged(flags, edge.to) {
+        amount
+    } else {
+        0
+    };
     out - brought
 }
 
-/// What flows out of the marked vertices, less what flows in.
-pub(crate) fn net_out(marks: &[i64], edges: &[CutEdge], flow: &[i64]) -> i64
+/// What flows out of the flagged vertices, less what flows in.
+pub(crate) fn net_out(flags: &[i64], edges: &[CutEdge], flow: &[i64]) -> i64
     requires countable { length edges.now < 2 ^ 32 }
     requires each { length flow.now ≡ length edges.now }
     requires small { All (λ amount. nat_abs amount ≤ 2147483647) flow.now }
-    ensures { result ≡ net_out (marked marks.now) edges.now flow.now }
+    ensures { result ≡ net_out (flagged flags.now) edges.now flow.now }
 {
     let mut total = 0;
     for (at, edge) in edges.iter().enumerate() {
-        total += out_over(marks, edge, flow[at]);
+        total += out_over(flags, edge, flow[at]);
     }
     total
 }

@@ -3,9 +3,9 @@
 #![tactic(auto)]
 
 mod certificate;
+mod flags;
 mod flows;
 mod lines;
-mod marks;
 mod printer;
 mod reader;
 mod verifier;

@@ -8,7 +8,7 @@ ghost use Rattle.hs_cert.specs.Certificates.{IsCertificate};
 ghost use Rattle.hs_cert.specs.Texts.{flow_line, flow_lines, inside_line, text_of};
 
 use crate::certificate::Certificate;
-use crate::marks::{crossings, mark};
+use crate::flags::{crossings, flag};
 use hs_base::NoMemory;
 use hs_cut::Network;
 use itoa::Buffer;
@@ -59,9 +59,9 @@ fn count_crossings(alloc: Global, inside: &[u32], network: &Network) -> Result<u
     requires within { All (λ vertex. vertex < network.now.vertices) inside.now }
     ensures { IfOk result (λ count. count ≡ crossings (among inside.now) network.now.edges) }
 {
-    let mut marks = vec![in alloc; 0i64; network.vertices as usize]?;
-    mark(marks.as_mut_slice(), inside);
-    Ok(crossings(marks.as_slice(), network.edges.items()))
+    let mut flags = vec![in alloc; 0i64; network.vertices as usize]?;
+    flag(flags.as_mut_slice(), inside);
+    Ok(crossings(flags.as_slice(), network.edges.items()))
 }
 
 /// Writes the line of the crossings.

@@ -7,8 +7,8 @@ ghost use Rattle.hs_cut.specs.Networks.{Side, among, crossings, IsCut, IsNumbere
 ghost use Rattle.hs_cert.specs.Certificates.{IsInside, IsWrong, IsFirstUnequal};
 
 use crate::certificate::{Certificate, Wrong};
+use crate::flags::{all_flagged, any_flagged, crossings, first_slotless, flag};
 use crate::flows::{balance, clear, first_too_large, first_unequal, net_out};
-use crate::marks::{all_marked, any_marked, crossings, first_slotless, mark};
 use hs_cut::Network;
 
 /// How many edges cross, if the vertices inside are a cut.
@@ -22,11 +22,11 @@ fn check_cut(network: &Network, c: &Certificate, scratch: &mut [i64]) -> Result<
     ensures wrong { IfErr result (λ wrong. IsWrong network.now c.now.inside c.now.flow wrong) }
 {
     let edges = network.edges.items();
-    mark(scratch, c.inside.items());
-    if !all_marked(scratch, network.inside.items()) {
+    flag(scratch, c.inside.items());
+    if !all_flagged(scratch, network.inside.items()) {
         return Err(Wrong::Inside);
     }
-    if any_marked(scratch, network.outside.items()) {
+    if any_flagged(scratch, network.outside.items()) {
         return Err(Wrong::Outside);
     }
     if let Some(at) = first_slotless(scratch, edges) {
@@ -53,16 +53,16 @@ fn first_unbalanced(network: &Network, flow: &[i64], sums: &mut [i64]) -> Option
 }
 
 /// What flows out of the vertices that must be inside, less what flows in.
-fn value(network: &Network, flow: &[i64], marks: &mut [i64]) -> i64
+fn value(network: &Network, flow: &[i64], flags: &mut [i64]) -> i64
     requires numbered { IsNumbered network.now }
     requires countable { length network.now.edges < 2 ^ 32 }
     requires each { length flow.now ≡ length network.now.edges }
     requires small { All (λ amount. nat_abs amount ≤ 2147483647) flow.now }
-    requires marks { length marks.old ≡ network.now.vertices }
+    requires flags { length flags.old ≡ network.now.vertices }
     ensures { result ≡ net_out (among network.now.inside) network.now.edges flow.now }
 {
-    mark(marks, network.inside.items());
-    net_out(marks, network.edges.items(), flow)
+    flag(flags, network.inside.items());
+    net_out(flags, network.edges.items(), flow)
 }
 
 /// Whether the certificate fits the network: then no cut has fewer crossings. It takes no memory but the scratch, which has

@@ -10,7 +10,7 @@ use Rattle.hs_cut.specs.Descents.{IsAt, IsLeastAt, IsLeastDistance, LeadsTo, les
 use Rattle.hs_cut.specs.Distances.{is_open, distance_at, targets}
 use Rattle.hs_cut.specs.declared.graph.Arc.{Arc}
 use Rattle.hs_cut.specs.declared.distances.Gate.{Gate}
-use Rattle.hs_cut.proofs.Marks.{targets-append, targets-open, targets-shut}
+use Rattle.hs_cut.proofs.Reached.{targets-append, targets-open, targets-shut}
 use Rattle.hs_cut.specs.Networks.{among}
 
 -- one vertex more

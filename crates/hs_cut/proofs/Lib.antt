@@ -2,7 +2,7 @@ pub mod Among
 pub mod Descending
 pub mod Filling
 pub mod Leasts
-pub mod Marks
+pub mod Reached
 pub mod Obstacles
 pub mod Pushing
 pub mod Rows

@@ -3,7 +3,7 @@ use Rattle.std.proofs.Common.{◌≡◌, ℕ, zero, suc, ◌+◌, ◌<◌, ◌�
 use Rattle.std.specs.Bool.{IsTrue}
 use Rattle.std.specs.declared.vec.Vec.{Vec}
 use Rattle.std.specs.declared.alloc.Global.{Global}
-use Rattle.hs_cut.specs.Distances.{IsMarked, AreDistances, IsWithinDistance, distance_at, distance_after, next_to}
+use Rattle.hs_cut.specs.Distances.{IsReached, AreDistances, IsWithinDistance, distance_at, distance_after, next_to}
 use Rattle.hs_cut.specs.Networks.{among}
 use Rattle.hs_cut.specs.declared.graph.Arc.{Arc}
 use Rattle.hs_cut.specs.declared.distances.Gate.{Gate}
@@ -41,7 +41,7 @@ came distance own is_one (Some old) after is now = inl (sym is ∙ now)
 came distance own true None after is now = inr (refl, refl, cc)
 came distance own false None after is now = absurd cc
 
--- what is marked has a distance that is no higher
+-- what is reached has a distance that is no higher
 within : (distance : ℕ) (before after : Option ℕ) → after ≡ distance_after distance true before → ((own : ℕ) → before ≡ Some own → own ≤ distance)
     → IsWithinDistance distance after
 within distance None after is most = rw is (omega arith)
@@ -58,7 +58,7 @@ put_new : (before : Option ℕ) (is_one put : Bool) → put ≡ (false || (is_no
 put_new (Some own) is_one put is now = absurd cc
 put_new None is_one put is now = (refl, sym is ∙ now)
 
--- what had no distance and is marked is put
+-- what had no distance and is reached is put
 put_is : (before : Option ℕ) (is_one put : Bool) → put ≡ (false || (is_none before && is_one)) → before ≡ None → is_one ≡ true → put ≡ true
 put_is (Some own) is_one put is none one = absurd cc
 put_is None is_one put is none one = is ∙ one
@@ -70,36 +70,36 @@ new_distance distance is_one None after is none one = is ∙ ap (λ b. cond b (S
 
 -- the starts are the first frontier
 pub IsFrontier-starts : (gates : List Gate) (rows : List (Vec Arc Global)) (starts : List ℕ) (blank distances : List (Option ℕ)) (frontier : List ℕ)
-    → length blank ≡ length rows → ((vertex : ℕ) → distance_at blank vertex ≡ None) → IsMarked 0 starts blank [] distances frontier
+    → length blank ≡ length rows → ((vertex : ℕ) → distance_at blank vertex ≡ None) → IsReached 0 starts blank [] distances frontier
     → IsFrontier gates rows starts distances frontier 0
-IsFrontier-starts gates rows starts blank distances frontier long none marked = record {
-  long = marked.long ∙ long;
-  first = λ vertex is. new_distance 0 (among starts vertex) (distance_at blank vertex) (distance_at distances vertex) (marked.each vertex) (none vertex) is;
+IsFrontier-starts gates rows starts blank distances frontier long none reached = record {
+  long = reached.long ∙ long;
+  first = λ vertex is. new_distance 0 (among starts vertex) (distance_at blank vertex) (distance_at distances vertex) (reached.each vertex) (none vertex) is;
   origin = λ vertex is. (fresh vertex 0 is).1;
   below = λ vertex own is. absurd (let zero_is : suc own ≡ 0 = (fresh vertex (suc own) is).2 in omega arith);
   above = λ from vertex own below is step. absurd (omega arith);
   most = λ vertex own is. let zero_is : own ≡ 0 = (fresh vertex own is).2 in omega arith;
-  has = λ vertex is. put_is (distance_at blank vertex) (among starts vertex) (among frontier vertex) (marked.put vertex) (none vertex) (fresh vertex 0 is).1;
+  has = λ vertex is. put_is (distance_at blank vertex) (among starts vertex) (among frontier vertex) (reached.put vertex) (none vertex) (fresh vertex 0 is).1;
   only = λ vertex is.
-      let was = put_new (distance_at blank vertex) (among starts vertex) (among frontier vertex) (marked.put vertex) is in
-      new_distance 0 (among starts vertex) (distance_at blank vertex) (distance_at distances vertex) (marked.each vertex) was.0 was.1;
-  budget = let most : count_by is_none blank ≤ length blank = count_by-le-length is_none blank in let balance = marked.balance in omega arith;
+      let was = put_new (distance_at blank vertex) (among starts vertex) (among frontier vertex) (reached.put vertex) is in
+      new_distance 0 (among starts vertex) (distance_at blank vertex) (distance_at distances vertex) (reached.each vertex) was.0 was.1;
+  budget = let most : count_by is_none blank ≤ length blank = count_by-le-length is_none blank in let balance = reached.balance in omega arith;
 }
   where
     fresh : (vertex own : ℕ) → distance_at distances vertex ≡ Some own → (distance_at blank vertex ≡ None) × (among starts vertex ≡ true) × (own ≡ 0)
-    fresh vertex own is = elim (came 0 own (among starts vertex) (distance_at blank vertex) (distance_at distances vertex) (marked.each vertex) is) [
+    fresh vertex own is = elim (came 0 own (among starts vertex) (distance_at blank vertex) (distance_at distances vertex) (reached.each vertex) is) [
       | inl was ↦ absurd (let blank_is = none vertex in cc)
-      | inr marks ↦ marks
+      | inr reaches ↦ reaches
     ]
 
 -- what is a step from a frontier is the next one
 pub IsFrontier-next : (gates : List Gate) (rows : List (Vec Arc Global)) (starts : List ℕ) (distances : List (Option ℕ))
     (frontier : List ℕ) (distance : ℕ) (distances' : List (Option ℕ)) (next : List ℕ)
     → IsFrontier gates rows starts distances frontier distance → 0 < length frontier
-    → IsMarked (suc distance) (flat_map (next_to gates rows) frontier) distances [] distances' next
+    → IsReached (suc distance) (flat_map (next_to gates rows) frontier) distances [] distances' next
     → IsFrontier gates rows starts distances' next (suc distance)
-IsFrontier-next gates rows starts distances frontier distance distances' next old some marked = record {
-  long = marked.long ∙ old.long;
+IsFrontier-next gates rows starts distances frontier distance distances' next old some reached = record {
+  long = reached.long ∙ old.long;
   first = λ vertex is. keeps vertex 0 (old.first vertex is);
   origin = λ vertex is. elim (comes vertex 0 is) [
     | inl was ↦ old.origin vertex was
@@ -115,15 +115,15 @@ IsFrontier-next gates rows starts distances frontier distance distances' next ol
   above = λ from vertex own below is step. elim (comes from own is) [
     | inl was ↦ elim (cases_order own distance) [
       | inl same ↦ rw same (
-          let marks : among (flat_map (next_to gates rows) frontier) vertex ≡ true =
+          let reaches : among (flat_map (next_to gates rows) frontier) vertex ≡ true =
           flat_map-among (next_to gates rows) frontier from vertex (old.has from (was ∙ ap (λ n. Some n) same)) step in
           within (suc distance) (distance_at distances vertex) (distance_at distances' vertex)
-          (marked.each vertex ∙ ap (λ b. distance_after (suc distance) b (distance_at distances vertex)) marks)
+          (reached.each vertex ∙ ap (λ b. distance_after (suc distance) b (distance_at distances vertex)) reaches)
           (λ other other_is. let most = old.most vertex other other_is in omega arith))
       | inr apart ↦ elim apart [
         | inl less ↦
             still (suc distance) (suc own) (among (flat_map (next_to gates rows) frontier) vertex) (distance_at distances vertex)
-            (distance_at distances' vertex) (marked.each vertex) (old.above from vertex own less was step)
+            (distance_at distances' vertex) (reached.each vertex) (old.above from vertex own less was step)
         | inr greater ↦ absurd (let most = old.most from own was in omega arith)
       ]
     ]
@@ -135,26 +135,26 @@ IsFrontier-next gates rows starts distances frontier distance distances' next ol
   ];
   has = λ vertex is. elim (comes vertex (suc distance) is) [
     | inl was ↦ absurd (let most = old.most vertex (suc distance) was in omega arith)
-    | inr new ↦ put_is (distance_at distances vertex) (among (flat_map (next_to gates rows) frontier) vertex) (among next vertex) (marked.put vertex) new.0 new.1
+    | inr new ↦ put_is (distance_at distances vertex) (among (flat_map (next_to gates rows) frontier) vertex) (among next vertex) (reached.put vertex) new.0 new.1
   ];
   only = λ vertex is.
-      let was = put_new (distance_at distances vertex) (among (flat_map (next_to gates rows) frontier) vertex) (among next vertex) (marked.put vertex) is in
+      let was = put_new (distance_at distances vertex) (among (flat_map (next_to gates rows) frontier) vertex) (among next vertex) (reached.put vertex) is in
       new_distance (suc distance) (among (flat_map (next_to gates rows) frontier) vertex) (distance_at distances vertex) (distance_at distances' vertex)
-      (marked.each vertex) was.0 was.1;
-  budget = let balance = marked.balance in let budget = old.budget in omega arith;
+      (reached.each vertex) was.0 was.1;
+  budget = let balance = reached.balance in let budget = old.budget in omega arith;
 }
   where
     keeps : (vertex own : ℕ) → distance_at distances vertex ≡ Some own → distance_at distances' vertex ≡ Some own
     keeps vertex own is =
         kept (suc distance) own (among (flat_map (next_to gates rows) frontier) vertex) (distance_at distances vertex) (distance_at distances' vertex)
-        (marked.each vertex) is
+        (reached.each vertex) is
 
     comes : (vertex own : ℕ) → distance_at distances' vertex ≡ Some own
         → (distance_at distances vertex ≡ Some own)
         ⊎ ((distance_at distances vertex ≡ None) × (among (flat_map (next_to gates rows) frontier) vertex ≡ true) × (own ≡ suc distance))
     comes vertex own is =
         came (suc distance) own (among (flat_map (next_to gates rows) frontier) vertex) (distance_at distances vertex) (distance_at distances' vertex)
-        (marked.each vertex) is
+        (reached.each vertex) is
 
 -- if the frontier has no vertex, all distances are there
 pub AreDistances-done : (gates : List Gate) (rows : List (Vec Arc Global)) (starts : List ℕ) (distances : List (Option ℕ)) (distance : ℕ)

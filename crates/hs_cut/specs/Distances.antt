@@ -1,12 +1,12 @@
 -- The distances of a search: how few steps lead from a set of vertices to each vertex. A gate says of an edge which ways it
 -- can be traversed.
---     opens gate along                  the gate is open that way
---     is_open gates arc                 the gate of the arc's edge is open the arc's way
---     targets gates arcs                where the open ones of the arcs lead
---     next_to gates rows vertex         where one step from the vertex leads
---     distance_at distances vertex            the distance of the vertex, if it has one
---     HaveDistances distances vertices        the vertices are those that have a distance
---     IsMarked distance vertices ..        the vertices without a distance got this one
+--     opens gate along                            the gate is open that way
+--     is_open gates arc                           the gate of the arc's edge is open the arc's way
+--     targets gates arcs                          where the open ones of the arcs lead
+--     next_to gates rows vertex                   where one step from the vertex leads
+--     distance_at distances vertex                the distance of the vertex, if it has one
+--     HaveDistances distances vertices            the vertices are those that have a distance
+--     IsReached distance vertices ..              the vertices without a distance got this one
 --     AreDistances gates rows starts distances    each vertex has as its distance the fewest steps that lead to it
 use Rattle.std.specs.Prelude.{◌≡◌, ℕ, suc, ◌+◌, ◌<◌, ◌≤◌, Bool, false, cond, ◌&&◌, ◌||◌, List, length, map, filter, count_by, All, Option, None, Some, is_none, is_some, IsTrue, slice_index_or}
 use Rattle.std.specs.declared.vec.Vec.{Vec}
@@ -58,7 +58,7 @@ distance_after distance is_one (Some before) = Some before
 distance_after distance is_one None = cond is_one (Some distance) None
 
 -- Those of the vertices that had no distance have this one, and are put to the next vertices.
-pub record IsMarked (distance : ℕ) (vertices : List ℕ) (before : List (Option ℕ)) (next : List ℕ) (after : List (Option ℕ)) (next' : List ℕ) : Type 0 where
+pub record IsReached (distance : ℕ) (vertices : List ℕ) (before : List (Option ℕ)) (next : List ℕ) (after : List (Option ℕ)) (next' : List ℕ) : Type 0 where
   pub long : length after ≡ length before
   pub each : (vertex : ℕ) → distance_at after vertex ≡ distance_after distance (among vertices vertex) (distance_at before vertex)
   pub put : (vertex : ℕ) → among next' vertex ≡ (among next vertex || (is_none (distance_at before vertex) && among vertices vertex))

@@ -1,7 +1,7 @@
 //! A search by breadth: how many steps away each vertex is.
 
 ghost use Rattle.std.specs.Prelude.{◌≡◌, ℕ, ◌<◌, ◌^◌, List, [], ◌∷◌, length, flat_map, All, IfOk, OnOk};
-ghost use Rattle.hs_cut.specs.Distances.{AreInside, AreDistances, IsInside, IsMarked, is_open, next_to, opens, targets};
+ghost use Rattle.hs_cut.specs.Distances.{AreInside, AreDistances, IsInside, IsReached, is_open, next_to, opens, targets};
 
 use crate::graph::Arc;
 use hs_base::NoMemory;
@@ -47,12 +47,12 @@ pub(crate) fn distances_from(
 {
     let mut distances = Vec::from_elem(alloc, None, rows.len())?;
     let mut frontier = Vec::new(alloc);
-    mark_starts(starts, distances.as_mut_slice(), &mut frontier)?;
+    reach_starts(starts, distances.as_mut_slice(), &mut frontier)?;
     let mut distance = 0;
     'rounds: while !frontier.is_empty() {
         distance += 1;
         let mut next = Vec::new(alloc);
-        mark_next(
+        reach_next(
             rows,
             gates,
             frontier.as_slice(),
@@ -65,23 +65,23 @@ pub(crate) fn distances_from(
     Ok(distances)
 }
 
-/// Marks the starts.
-fn mark_starts(
+/// Reaches the starts.
+fn reach_starts(
     starts: &[u32],
     distances: &mut [Option<u32>],
     next: &mut Vec<u32>,
 ) -> Result<(), NoMemory>
     requires known { All (λ start. start < length distances.old) starts.now }
-    ensures { OnOk result (IsMarked 0 starts.now distances.old next.old.items distances.new next.new.items) }
+    ensures { OnOk result (IsReached 0 starts.now distances.old next.old.items distances.new next.new.items) }
 {
     for start in starts {
-        mark(*start, 0, distances, next)?;
+        reach(*start, 0, distances, next)?;
     }
     Ok(())
 }
 
-/// Marks what is a step from one of the frontier.
-fn mark_next(
+/// Reaches what is a step from one of the frontier.
+fn reach_next(
     rows: &[Vec<Arc>],
     gates: &[Gate],
     frontier: &[u32],
@@ -92,17 +92,17 @@ fn mark_next(
     requires inside { AreInside (length gates.now) rows.now }
     requires long { length distances.old ≡ length rows.now }
     requires known { All (λ vertex. vertex < length rows.now) frontier.now }
-    ensures { OnOk result (IsMarked distance (flat_map (next_to gates.now rows.now) frontier.now)
+    ensures { OnOk result (IsReached distance (flat_map (next_to gates.now rows.now) frontier.now)
         distances.old next.old.items distances.new next.new.items) }
 {
     for vertex in frontier {
-        mark_row(&rows[*vertex as usize], gates, distance, distances, next)?;
+        reach_row(&rows[*vertex as usize], gates, distance, distances, next)?;
     }
     Ok(())
 }
 
-/// Marks where the open arcs of the row lead.
-fn mark_row(
+/// Reaches where the open arcs of the row lead.
+fn reach_row(
     row: &[Arc],
     gates: &[Gate],
     distance: u32,
@@ -110,26 +110,26 @@ fn mark_row(
     next: &mut Vec<u32>,
 ) -> Result<(), NoMemory>
     requires inside { All (IsInside (length distances.old) (length gates.now)) row.now }
-    ensures { OnOk result (IsMarked distance (targets gates.now row.now)
+    ensures { OnOk result (IsReached distance (targets gates.now row.now)
         distances.old next.old.items distances.new next.new.items) }
 {
     for arc in row {
         if is_open(gates, *arc) {
-            mark(arc.to, distance, distances, next)?;
+            reach(arc.to, distance, distances, next)?;
         }
     }
     Ok(())
 }
 
 /// Gives the vertex this distance and puts it to the next ones, if it has no distance.
-fn mark(
+fn reach(
     vertex: u32,
     distance: u32,
     distances: &mut [Option<u32>],
     next: &mut Vec<u32>,
 ) -> Result<(), NoMemory>
     requires known { vertex < length distances.old }
-    ensures { OnOk result (IsMarked distance (vertex ∷ [])
+    ensures { OnOk result (IsReached distance (vertex ∷ [])
         distances.old next.old.items distances.new next.new.items) }
 {
     let index = vertex as usize;

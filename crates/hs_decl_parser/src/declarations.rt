@@ -7,9 +7,9 @@ ghost use Rattle.hs_decl_parser.specs.Steps.{item_from, item_at, items_at, decla
 
 use crate::initialisers::start;
 use hs_expr_parser::{
-    ParseEnd, TypeNames, begins_specifiers, declarator, mark, mark_ahead, specifiers, with,
+    ParseEnd, TypeNames, begins_specifiers, declarator, mark, mark_ahead, specifiers,
 };
-use hs_syntax::{Decl, Declarator, Item, Specifier};
+use hs_syntax::{Decl, Declarator, Item, Specifier, with};
 use hs_tokens::SourceToken;
 use std::alloc::Global;
 

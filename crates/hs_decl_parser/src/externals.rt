@@ -8,9 +8,9 @@ ghost use Rattle.hs_decl_parser.specs.Steps.{function_at, external_from, specifi
 use crate::declarations::declared;
 use crate::statements::block;
 use hs_expr_parser::{
-    ParseEnd, TypeNames, begins_specifiers, declarator, is_mark_ahead, mark_ahead, specifiers, with,
+    ParseEnd, TypeNames, begins_specifiers, declarator, is_mark_ahead, mark_ahead, specifiers,
 };
-use hs_syntax::{Decl, Declarator, External, Specifier};
+use hs_syntax::{Decl, Declarator, External, Specifier, with};
 use hs_tokens::SourceToken;
 use std::alloc::Global;
 

@@ -5,8 +5,8 @@ ghost use Rattle.hs_syntax.specs.Views.{view_initialiser};
 ghost use Rattle.hs_expr_parser.specs.Given.{Gives};
 ghost use Rattle.hs_decl_parser.specs.Steps.{braces_at, initialiser_at, initialisers_at, start_at};
 
-use hs_expr_parser::{ParseEnd, TypeNames, assignment, is_mark_ahead, mark, mark_ahead, with};
-use hs_syntax::{Initialiser, Place};
+use hs_expr_parser::{ParseEnd, TypeNames, assignment, is_mark_ahead, mark, mark_ahead};
+use hs_syntax::{Initialiser, Place, with};
 use hs_tokens::SourceToken;
 use std::alloc::Global;
 

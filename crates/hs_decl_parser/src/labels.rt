@@ -6,8 +6,8 @@ ghost use Rattle.hs_expr_parser.specs.Given.{Gives};
 ghost use Rattle.hs_decl_parser.specs.Steps.{label_at, labels_at};
 
 use crate::words::begins_label;
-use hs_expr_parser::{ParseEnd, TypeNames, conditional, first, is_keyword, mark, place_of, with};
-use hs_syntax::Label;
+use hs_expr_parser::{ParseEnd, TypeNames, conditional, first, is_keyword, mark, place_of};
+use hs_syntax::{Label, with};
 use hs_tokens::SourceToken;
 use std::alloc::Global;
 

@@ -5,8 +5,8 @@ ghost use Rattle.hs_syntax.specs.Views.{view};
 ghost use Rattle.hs_expr_parser.specs.Given.{Gives};
 ghost use Rattle.hs_decl_parser.specs.Steps.{test_at, optional_at, controls_at};
 
-use hs_expr_parser::{ParseEnd, TypeNames, expression, mark, mark_ahead, with};
-use hs_syntax::Expr;
+use hs_expr_parser::{ParseEnd, TypeNames, expression, mark, mark_ahead};
+use hs_syntax::{Expr, with};
 use hs_tokens::SourceToken;
 use std::alloc::Global;
 

@@ -12,9 +12,9 @@ use crate::labels::labels;
 use crate::parts::{for_controls, optional, test};
 use crate::words::{StatementWord, statement_word_of};
 use hs_expr_parser::{
-    ParseEnd, TypeNames, expression, first, is_mark_ahead, is_punctuator, mark, place_of, with,
+    ParseEnd, TypeNames, expression, first, is_mark_ahead, is_punctuator, mark, place_of,
 };
-use hs_syntax::{Block, Labelled, Place, Stmt};
+use hs_syntax::{Block, Labelled, Place, Stmt, with};
 use hs_tokens::SourceToken;
 use std::alloc::Global;
 

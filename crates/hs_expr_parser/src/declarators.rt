@@ -12,13 +12,12 @@ use crate::ahead::{
     word_of,
 };
 use crate::conditionals::conditional_by;
-use crate::held::with;
 use crate::named::is_empty;
 use crate::parse_end::ParseEnd;
 use crate::type_names::TypeNames;
 use crate::types::specifiers;
 use crate::words::is_name;
-use hs_syntax::{Declarator, Direct, Expr, Parameter};
+use hs_syntax::{Declarator, Direct, Expr, Parameter, with};
 use hs_tokens::{SourceToken, is_identifier};
 use std::alloc::Global;
 

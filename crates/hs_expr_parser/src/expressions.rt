@@ -8,14 +8,13 @@ ghost use Rattle.hs_expr_parser.specs.Reading.{joined};
 ghost use Rattle.hs_expr_parser.specs.Steps.{expression_at, another_at, assignment_at, value_at, conditional_at, branches_at, binary_at, infix_at};
 
 use crate::ahead::{first, found, mark, place_of};
-use crate::held::{boxed_three, boxed_two, with};
 use crate::operators::{assign_of, binary_of};
 use crate::parse_end::ParseEnd;
 use crate::rank::is_unary;
 use crate::type_names::TypeNames;
 use crate::unaries::cast;
 use hs_base::NoMemory;
-use hs_syntax::{AssignOperator, BinaryOperator, Expr, Left, Place};
+use hs_syntax::{AssignOperator, BinaryOperator, Expr, Left, Place, boxed_three, boxed_two, with};
 use hs_tokens::SourceToken;
 use std::alloc::Global;
 

@@ -6,7 +6,6 @@ mod ahead;
 mod conditionals;
 mod declarators;
 mod expressions;
-mod held;
 mod laws;
 mod longest;
 mod named;
@@ -24,7 +23,6 @@ pub use ahead::{
     begins_specifiers, first, is_keyword, is_mark_ahead, is_punctuator, mark, mark_ahead, place_of,
 };
 pub use expressions::{assignment, conditional, expression};
-pub use held::with;
 pub use laws::{
     expressions_are_unambiguous, nothing_is_read_where_none_starts, reading_is_the_longest,
     what_is_read_is_an_expression,

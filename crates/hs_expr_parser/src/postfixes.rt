@@ -13,14 +13,13 @@ use crate::ahead::{
     first, is_mark_ahead, is_punctuator, literals, mark, mark_ahead, name, place_of, word_of,
 };
 use crate::expressions::{assignment, expression};
-use crate::held::with;
 use crate::operators::{access_of, postfix_of};
 use crate::parse_end::ParseEnd;
 use crate::type_names::TypeNames;
 use crate::words::is_name;
 use hs_base::NoMemory;
 use hs_constants::{character_value, has_string_value, number_value};
-use hs_syntax::{Access, Expr, Place, PostfixOperator, Word};
+use hs_syntax::{Access, Expr, Place, PostfixOperator, Word, with};
 use hs_tokens::{SourceToken, TokenKind};
 use std::alloc::Global;
 

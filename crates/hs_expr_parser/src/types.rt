@@ -13,13 +13,12 @@ use crate::ahead::{
 };
 use crate::conditionals::conditional_by;
 use crate::declarators::{declarator, declarators};
-use crate::held::with;
 use crate::named::is_named;
 use crate::operators::{basic_of, dropped_of, storage_of};
 use crate::parse_end::ParseEnd;
 use crate::type_names::TypeNames;
 use crate::words::{begins_specifier, is_type_name};
-use hs_syntax::{Constant, Expr, Member, Place, Specifier, TypeName, Word};
+use hs_syntax::{Constant, Expr, Member, Place, Specifier, TypeName, Word, with};
 use hs_tokens::SourceToken;
 use std::alloc::Global;
 

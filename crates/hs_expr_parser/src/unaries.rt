@@ -8,13 +8,12 @@ ghost use Rattle.hs_expr_parser.specs.Steps.{conditional_at, cast_at, type_in_pa
 
 use crate::ahead::{begins_type, first, is_keyword, mark, place_of};
 use crate::expressions::conditional_taken;
-use crate::held::{boxed_two, with};
 use crate::operators::prefix_of;
 use crate::parse_end::ParseEnd;
 use crate::postfixes::postfix;
 use crate::type_names::TypeNames;
 use crate::types::type_name;
-use hs_syntax::{Expr, Place, PrefixOperator, TypeName};
+use hs_syntax::{Expr, Place, PrefixOperator, TypeName, boxed_two, with};
 use hs_tokens::SourceToken;
 use std::alloc::Global;
 

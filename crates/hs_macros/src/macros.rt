@@ -34,7 +34,7 @@ impl Model for Macros {
 
     ghost Value = { map.FinMap (slice_cmp nat_cmp) Definition };
 
-    ghost coded = { map.code (coded_list coded_ℕ) (Prim.hframe codes) };
+    ghost coded = { map.code (coded_list coded_ℕ) (Prim.hlevel codes) };
 
     ghost view = { λ m. map.from_entries (map_list (λ e. (e.0.items, e.1)) m.definitions.entries) };
 }

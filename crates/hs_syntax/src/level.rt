@@ -1,14 +1,14 @@
-//! The marks on one level of nesting.
+//! The deepeners on one level of nesting.
 
 ghost use Rattle.std.specs.Prelude.{◌≡◌, ◌≤◌, List, ◌∷◌, []};
 ghost use Rattle.std.specs.List.{filter};
-ghost use Rattle.hs_syntax.specs.Counts.{counts, marks_on, with_mark, meaning, Turns};
-ghost use Rattle.hs_syntax.specs.Nesting.{Mark as Meant, goes_on, ended, stays_at_comma};
+ghost use Rattle.hs_syntax.specs.Counts.{counts, deepeners_on, with_deepener, meaning, Turns};
+ghost use Rattle.hs_syntax.specs.Nesting.{Deepener as Meant, goes_on, ended, stays_at_comma};
 
-use crate::mark::{Mark, is_word};
+use crate::deepener::{Deepener, is_word};
 use hs_tokens::SourceToken;
 
-/// How many marks of each kind stand on a level. No rule asks in which order.
+/// How many deepeners of each kind stand on a level. No rule asks in which order.
 #[derive(Clone, Copy)]
 pub(crate) struct Level {
     pub(crate) dos: u16,
@@ -19,7 +19,7 @@ pub(crate) struct Level {
 }
 
 impl Level {
-    /// A level with no marks.
+    /// A level with no deepeners.
     pub(crate) fn bare() -> Level
         ensures { result ≡ counts [] }
     {
@@ -31,9 +31,9 @@ impl Level {
         }
     }
 
-    /// The number of its marks.
-    pub(crate) fn marks(self) -> u64
-        ensures { result ≡ marks_on self }
+    /// The number of its deepeners.
+    pub(crate) fn deepeners(self) -> u64
+        ensures { result ≡ deepeners_on self }
     {
         u64::from(self.dos)
             + u64::from(self.keywords)
@@ -41,25 +41,25 @@ impl Level {
             + u64::from(self.others)
     }
 
-    /// The level with one more mark.
-    pub(crate) fn with(self, mark: Mark) -> Level
-        requires { marks_on self ≤ 256 }
-        ensures { result ≡ with_mark (meaning mark) self }
+    /// The level with one more deepener.
+    pub(crate) fn with(self, deepener: Deepener) -> Level
+        requires { deepeners_on self ≤ 256 }
+        ensures { result ≡ with_deepener (meaning deepener) self }
     {
-        match mark {
-            Mark::Do => Level {
+        match deepener {
+            Deepener::Do => Level {
                 dos: self.dos + 1,
                 ..self
             },
-            Mark::Keyword => Level {
+            Deepener::Keyword => Level {
                 keywords: self.keywords + 1,
                 ..self
             },
-            Mark::Query => Level {
+            Deepener::Query => Level {
                 queries: self.queries + 1,
                 ..self
             },
-            Mark::Other => Level {
+            Deepener::Other => Level {
                 others: self.others + 1,
                 ..self
             },
@@ -70,7 +70,7 @@ impl Level {
     #[tactic(auto, using(crate::proofs::Counting::stays_turns))]
     pub(crate) fn behind_comma(self) -> Level
         ensures turns { Turns self result (filter stays_at_comma) }
-        ensures fewer { marks_on result ≤ marks_on self }
+        ensures fewer { deepeners_on result ≤ deepeners_on self }
     {
         Level { others: 0, ..self }
     }
@@ -78,7 +78,7 @@ impl Level {
     /// Whether the statement that ends there goes on.
     #[tactic(auto, using(crate::proofs::Counting::list_any_dos))]
     fn goes_on(self, rest: &[SourceToken]) -> bool
-        ensures { (marks : List Meant) → self ≡ counts marks → result ≡ goes_on marks rest.now }
+        ensures { (deepeners : List Meant) → self ≡ counts deepeners → result ≡ goes_on deepeners rest.now }
     {
         match rest.first() {
             None => false,
@@ -89,8 +89,8 @@ impl Level {
     /// The level after a statement's end, if these tokens follow.
     #[tactic(auto, using(crate::proofs::Counting::going_turns, crate::proofs::Counting::over_turns))]
     pub(crate) fn ended(self, rest: &[SourceToken]) -> Level
-        ensures turns { Turns self result (λ marks. ended marks rest.now) }
-        ensures fewer { marks_on result ≤ marks_on self }
+        ensures turns { Turns self result (λ deepeners. ended deepeners rest.now) }
+        ensures fewer { deepeners_on result ≤ deepeners_on self }
     {
         if self.goes_on(rest) {
             Level {

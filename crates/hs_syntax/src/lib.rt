@@ -3,10 +3,11 @@
 #![tactic(auto)]
 
 mod decl;
+mod deepener;
 mod expr;
+mod held;
 mod laws;
 mod level;
-mod mark;
 mod nesting;
 mod operators;
 mod positions;
@@ -16,6 +17,7 @@ mod word;
 
 pub use decl::{Decl, Initialiser, Item};
 pub use expr::{Constant, Declarator, Direct, Expr, Left, Member, Parameter, Specifier, TypeName};
+pub use held::{boxed_three, boxed_two, with};
 pub use laws::{
     binary_operators_group_to_the_left, else_belongs_to_the_nearest_if, first_tokens_are_first,
     specifiers_take_what_they_can, typedef_names_begin_parameter_lists,

@@ -2,20 +2,20 @@
 
 ghost use Rattle.std.specs.Prelude.{◌≡◌, ◌↔◌, ◌≤◌, ◌<◌, ◌∷◌, [], length, IsTrue};
 ghost use Rattle.std.specs.List.{filter};
-ghost use Rattle.hs_syntax.specs.Counts.{counts, all_marks, meaning, Follows};
-ghost use Rattle.hs_syntax.specs.Nesting.{IsShallow, Levels, after, closed, closed_block, ended, marked, on_level, stays_at_comma};
-ghost use Rattle.hs_syntax.specs.Nesting.Mark.{other};
+ghost use Rattle.hs_syntax.specs.Counts.{counts, all_deepeners, meaning, Follows};
+ghost use Rattle.hs_syntax.specs.Nesting.{IsShallow, Levels, after, closed, closed_block, ended, deepened, on_level, stays_at_comma};
+ghost use Rattle.hs_syntax.specs.Nesting.Deepener.{other};
 
+use crate::deepener::{Deepener, closes, deepener_of, is_punctuator, opens};
 use crate::level::Level;
-use crate::mark::{Mark, closes, is_punctuator, mark_of, opens};
 use hs_base::LimitKind;
 use hs_tokens::SourceToken;
 use std::marker::Model;
 
-/// The most levels around the innermost one. Each has the mark of a bracket, and there is one mark too many at most.
+/// The most levels around the innermost one. Each has the deepener of a bracket, and there is one deepener too many at most.
 const AROUND: usize = 257;
 
-/// The marks on the open levels.
+/// The deepeners on the open levels.
 #[derive(Drop)]
 struct Nesting {
     /// The innermost level.
@@ -23,25 +23,25 @@ struct Nesting {
     /// The levels around it, the innermost first, after the entries that are free.
     around: [Level; AROUND],
     free: usize,
-    /// The number of marks on the levels around.
+    /// The number of deepeners on the levels around.
     outside: u64,
 }
 
 impl Model for Nesting {
     ghost use Rattle.std.specs.Prelude.{◌≡◌, ◌+◌, ◌≤◌, ◌∷◌, List, drop};
-    ghost use Rattle.hs_syntax.specs.Counts.{AllMarked, all_marks, marks_on};
+    ghost use Rattle.hs_syntax.specs.Counts.{AllDeepened, all_deepeners, deepeners_on};
     ghost use Rattle.hs_syntax.specs.declared.level.Level.{Level};
 
     ghost Value = { List Level };
 
     ghost view = { λ n. n.level ∷ drop n.free n.around };
 
-    ghost invariant = { λ n. (n.free ≤ 257) × AllMarked (drop n.free n.around)
-        × (n.outside ≡ all_marks (drop n.free n.around)) × (marks_on n.level + n.outside ≤ 257) };
+    ghost invariant = { λ n. (n.free ≤ 257) × AllDeepened (drop n.free n.around)
+        × (n.outside ≡ all_deepeners (drop n.free n.around)) × (deepeners_on n.level + n.outside ≤ 257) };
 }
 
 impl Nesting {
-    /// The outermost level, with no marks.
+    /// The outermost level, with no deepeners.
     fn new() -> Nesting
         ensures { result ≡ counts [] ∷ [] }
     {
@@ -53,30 +53,30 @@ impl Nesting {
         }
     }
 
-    /// The number of marks on all levels.
-    fn marks(&self) -> u64
-        ensures { result ≡ all_marks self.now }
+    /// The number of deepeners on all levels.
+    fn deepeners(&self) -> u64
+        ensures { result ≡ all_deepeners self.now }
     {
-        self.level.marks() + self.outside
+        self.level.deepeners() + self.outside
     }
 
-    /// A mark on the innermost level.
-    fn mark(&mut self, mark: Mark)
-        requires { all_marks self.old ≤ 256 }
-        ensures { Follows self.old self.new (marked (Some (meaning mark))) }
+    /// A deepener on the innermost level.
+    fn deepen(&mut self, deepener: Deepener)
+        requires { all_deepeners self.old ≤ 256 }
+        ensures { Follows self.old self.new (deepened (Some (meaning deepener))) }
     {
-        self.level = self.level.with(mark);
+        self.level = self.level.with(deepener);
     }
 
     /// An opening bracket, and the level that it begins.
     fn open(&mut self)
-        requires { all_marks self.old ≤ 256 }
-        ensures { Follows self.old self.new (λ levels. [] ∷ marked (Some other) levels) }
+        requires { all_deepeners self.old ≤ 256 }
+        ensures { Follows self.old self.new (λ levels. [] ∷ deepened (Some other) levels) }
     {
-        let level = self.level.with(Mark::Other);
+        let level = self.level.with(Deepener::Other);
         self.free -= 1;
         self.around[self.free] = level;
-        self.outside += level.marks();
+        self.outside += level.deepeners();
         self.level = Level::bare();
     }
 
@@ -90,7 +90,7 @@ impl Nesting {
         }
         self.level = self.around[self.free];
         self.free += 1;
-        self.outside -= self.level.marks();
+        self.outside -= self.level.deepeners();
         true
     }
 
@@ -103,7 +103,7 @@ impl Nesting {
 
     /// The end of a statement on the innermost level.
     fn end(&mut self, rest: &[SourceToken])
-        ensures { Follows self.old self.new (on_level (λ marks. ended marks rest.now)) }
+        ensures { Follows self.old self.new (on_level (λ deepeners. ended deepeners rest.now)) }
     {
         self.level = self.level.ended(rest);
     }
@@ -118,9 +118,9 @@ impl Nesting {
     }
 
     /// A token, if these follow it.
-    #[tactic(auto, using(crate::proofs::Opening::mark_of_open))]
+    #[tactic(auto, using(crate::proofs::Opening::deepener_of_open))]
     fn pass(&mut self, source: &SourceToken, rest: &[SourceToken])
-        requires { all_marks self.old ≤ 256 }
+        requires { all_deepeners self.old ≤ 256 }
         ensures { Follows self.old self.new (λ levels. after levels source.now rest.now) }
     {
         if is_punctuator(b",", source) {
@@ -133,8 +133,8 @@ impl Nesting {
             self.close();
         } else if opens(source) {
             self.open();
-        } else if let Some(mark) = mark_of(source) {
-            self.mark(mark);
+        } else if let Some(deepener) = deepener_of(source) {
+            self.deepen(deepener);
         }
     }
 }
@@ -149,7 +149,7 @@ pub fn shallow(tokens: &[SourceToken]) -> bool
     let mut left = tokens;
     'tokens: while let Some((source, rest)) = left.split_first() {
         nesting.pass(source, rest);
-        if nesting.marks() > LimitKind::Depth.number() {
+        if nesting.deepeners() > LimitKind::Depth.number() {
             return false;
         }
         left = rest;

@@ -6,31 +6,31 @@ use Rattle.hs_cut.proofs.Search.{IsFrontier-starts, IsFrontier-next, IsFrontier-
 use Rattle.hs_cut.proofs.distances.distances_from.Goals as goal
 
 -- the frontier has vertices alone
-pub mark_next-requires-clause-known : goal.mark_next-requires-clause-known
-mark_next-requires-clause-known c =
+pub reach_next-requires-clause-known : goal.reach_next-requires-clause-known
+reach_next-requires-clause-known c =
     rw c.as_slice.ensures.value
     (IsFrontier-within c.args.gates.now c.args.rows.now c.args.starts.now c.rounds.distances.items c.rounds.frontier.items c.rounds.distance
     c.rounds.invariant)
 
--- the starts are marked
+-- the starts are reached
 pub rounds-init : goal.rounds-init
 rounds-init c =
-    let long : c.in_ok-distances.distances.len ≡ length c.mark_starts.new.distances = omega arith in
+    let long : c.in_ok-distances.distances.len ≡ length c.reach_starts.new.distances = omega arith in
     let blank = c.in_ok-distances.ensures.items_if_clones_equal (λ y h. search rules) in
-    let marked = rw (c.as_mut_slice.ensures.value, blank, c.new-frontier.ensures.items) at c.in_ok-mark_starts.ensures in
-    rw (written c.in_ok-distances.distances.items c.mark_starts.new.distances c.in_ok-distances.distances.len long) (
-    IsFrontier-starts c.args.gates.now c.args.rows.now c.args.starts.now (replicate (length c.args.rows.now) None) c.mark_starts.new.distances
-    c.mark_starts.new.next.items (length-replicate (length c.args.rows.now) None) (distance-blank (length c.args.rows.now)) marked)
+    let reached = rw (c.as_mut_slice.ensures.value, blank, c.new-frontier.ensures.items) at c.in_ok-reach_starts.ensures in
+    rw (written c.in_ok-distances.distances.items c.reach_starts.new.distances c.in_ok-distances.distances.len long) (
+    IsFrontier-starts c.args.gates.now c.args.rows.now c.args.starts.now (replicate (length c.args.rows.now) None) c.reach_starts.new.distances
+    c.reach_starts.new.next.items (length-replicate (length c.args.rows.now) None) (distance-blank (length c.args.rows.now)) reached)
 
 -- one round more
 pub rounds-preserved : goal.rounds-preserved
 rounds-preserved c =
-    let long : c.rounds.distances.len ≡ length c.mark_next.new.distances = omega arith in
+    let long : c.rounds.distances.len ≡ length c.reach_next.new.distances = omega arith in
     let some : 0 < length c.rounds.frontier.items = grind (arith, nat_tests) in
-    let marked = rw (c.as_slice.ensures.value, c.as_mut_slice-in-rounds.ensures.value, c.new-next.ensures.items, add-one) at c.in_ok-mark_next.ensures in
-    rw (written c.rounds.distances.items c.mark_next.new.distances c.rounds.distances.len long, add-one) (
+    let reached = rw (c.as_slice.ensures.value, c.as_mut_slice-in-rounds.ensures.value, c.new-next.ensures.items, add-one) at c.in_ok-reach_next.ensures in
+    rw (written c.rounds.distances.items c.reach_next.new.distances c.rounds.distances.len long, add-one) (
     IsFrontier-next c.args.gates.now c.args.rows.now c.args.starts.now c.rounds.distances.items c.rounds.frontier.items c.rounds.distance
-    c.mark_next.new.distances c.mark_next.new.next.items c.rounds.invariant some marked)
+    c.reach_next.new.distances c.reach_next.new.next.items c.rounds.invariant some reached)
 
 -- no vertex was found in the last round
 pub returns : goal.returns

@@ -1,11 +1,11 @@
--- Marking one list of vertices and then another is marking both.
+-- Reaching one list of vertices and then another is reaching both.
 use Rattle.std.proofs.Common.{◌≡◌, ℕ, ◌+◌, ◌<◌, List, [], ◌∷◌, ◌++◌, length, take, get_or, refl, ap, sym, ◌∙◌, map, Option, None, Some, Bool, true, false, ◌||◌, ◌&&◌, is_none, filter, flat_map, cond}
 use Rattle.std.proofs.lemmas.List.Folds.{list_any-append}
 use Rattle.std.proofs.Common.{append-nil}
 use Rattle.std.proofs.lemmas.List.Concat.{flat_map-cons}
 use Rattle.std.proofs.lemmas.List.{take_more}
 use Rattle.std.proofs.lemmas.Grind.{flat_map-append}
-use Rattle.hs_cut.specs.Distances.{IsMarked, distance_at, distance_after, targets, is_open}
+use Rattle.hs_cut.specs.Distances.{IsReached, distance_at, distance_after, targets, is_open}
 use Rattle.hs_cut.specs.Networks.{among}
 use Rattle.hs_cut.specs.declared.graph.Arc.{Arc}
 use Rattle.hs_cut.specs.declared.distances.Gate.{Gate}
@@ -25,12 +25,12 @@ put_twice distance false one other (Some own) = refl
 put_twice distance false true other None = refl
 put_twice distance false false other None = refl
 
--- marking some and then others is marking all of them
-IsMarked-append : (distance : ℕ) (some others : List ℕ) (first : List (Option ℕ)) (next : List ℕ) (mid : List (Option ℕ)) (next' : List ℕ)
+-- reaching some and then others is reaching all of them
+IsReached-append : (distance : ℕ) (some others : List ℕ) (first : List (Option ℕ)) (next : List ℕ) (mid : List (Option ℕ)) (next' : List ℕ)
     (last : List (Option ℕ)) (next'' : List ℕ)
-    → IsMarked distance some first next mid next' → IsMarked distance others mid next' last next''
-    → IsMarked distance (some ++ others) first next last next''
-IsMarked-append distance some others first next mid next' last next'' one other = record {
+    → IsReached distance some first next mid next' → IsReached distance others mid next' last next''
+    → IsReached distance (some ++ others) first next last next''
+IsReached-append distance some others first next mid next' last next'' one other = record {
   long = other.long ∙ one.long;
   each = λ vertex.
       other.each vertex
@@ -65,16 +65,16 @@ targets-open gates arc is = ap (λ b. map (λ arc. arc.to) (cond b (arc ∷ []) 
 pub targets-shut : (gates : List Gate) (arc : Arc) → is_open gates arc ≡ false → targets gates (arc ∷ []) ≡ []
 targets-shut gates arc is = ap (λ b. map (λ arc. arc.to) (cond b (arc ∷ []) [])) is
 
--- what one vertex more leads to is marked too
-pub IsMarked-next : (f : ℕ → List ℕ) (distance : ℕ) (vertices : List ℕ) (index : ℕ) (found : List ℕ) (first : List (Option ℕ))
+-- what one vertex more leads to is reached too
+pub IsReached-next : (f : ℕ → List ℕ) (distance : ℕ) (vertices : List ℕ) (index : ℕ) (found : List ℕ) (first : List (Option ℕ))
     (next : List ℕ) (mid : List (Option ℕ)) (next' : List ℕ) (last : List (Option ℕ)) (next'' : List ℕ)
     → index < length vertices → f (get_or vertices index 0) ≡ found
-    → IsMarked distance (flat_map f (take index vertices)) first next mid next' → IsMarked distance found mid next' last next''
-    → IsMarked distance (flat_map f (take (index + 1) vertices)) first next last next''
-IsMarked-next f distance vertices index found first next mid next' last next'' below is one other =
+    → IsReached distance (flat_map f (take index vertices)) first next mid next' → IsReached distance found mid next' last next''
+    → IsReached distance (flat_map f (take (index + 1) vertices)) first next last next''
+IsReached-next f distance vertices index found first next mid next' last next'' below is one other =
     let grown : flat_map f (take (index + 1) vertices) ≡ flat_map f (take index vertices) ++ found =
     ap (flat_map f) (take_more vertices index 0 below)
     ∙ flat_map-append f (take index vertices) (get_or vertices index 0 ∷ [])
     ∙ ap (λ (found : List ℕ). flat_map f (take index vertices) ++ found)
     (flat_map-cons f (get_or vertices index 0) [] ∙ append-nil (f (get_or vertices index 0)) ∙ is) in
-    rw grown (IsMarked-append distance (flat_map f (take index vertices)) found first next mid next' last next'' one other)
+    rw grown (IsReached-append distance (flat_map f (take index vertices)) found first next mid next' last next'' one other)

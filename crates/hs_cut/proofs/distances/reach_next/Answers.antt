@@ -1,12 +1,12 @@
 use Rattle.std.proofs.Common.{sym, ◌∙◌, ap, get_or, length, ◌<◌, ◌≡◌, arith}
 use Rattle.hs_cut.specs.Distances.{next_to, targets}
-use Rattle.hs_cut.proofs.Marks.{IsMarked-next}
+use Rattle.hs_cut.proofs.Reached.{IsReached-next}
 use Rattle.hs_cut.proofs.Rows.{arcs_from-row, inside-row}
-use Rattle.hs_cut.proofs.distances.mark_next.Goals as goal
+use Rattle.hs_cut.proofs.distances.reach_next.Goals as goal
 
 -- the row is the one of the vertex
-pub mark_row-requires : goal.mark_row-requires
-mark_row-requires c =
+pub reach_row-requires : goal.reach_row-requires
+reach_row-requires c =
     let vertex = get_or c.args.frontier.now c.loop-vertex.vertex-index 0 in
     let known : vertex < length c.args.rows.now = c.requires.known c.loop-vertex.vertex-index 0 c.loop-vertex-test.true in
     let long : length c.args.rows.now ≡ length c.loop-vertex.distances = omega (arith, c.requires.long, c.loop-vertex.invariant.long) in
@@ -22,7 +22,7 @@ loop-vertex-preserved c =
     let known : vertex < length c.args.rows.now = c.requires.known c.loop-vertex.vertex-index 0 c.loop-vertex-test.true in
     let found : next_to c.args.gates.now c.args.rows.now vertex ≡ targets c.args.gates.now c.deref.result.now =
     ap (targets c.args.gates.now) (arcs_from-row c.args.rows.now vertex c.index-rows-vertex.result known c.index-rows-vertex.is ∙ sym c.deref.ensures.value) in
-    IsMarked-next (next_to c.args.gates.now c.args.rows.now) c.args.distance c.args.frontier.now c.loop-vertex.vertex-index
+    IsReached-next (next_to c.args.gates.now c.args.rows.now) c.args.distance c.args.frontier.now c.loop-vertex.vertex-index
     (targets c.args.gates.now c.deref.result.now)
-    c.args.distances.now c.args.next.now.items c.loop-vertex.distances c.loop-vertex.next.items c.mark_row.new.distances c.mark_row.new.next.items
-    c.loop-vertex-test.true found c.loop-vertex.invariant c.in_ok-mark_row.ensures
+    c.args.distances.now c.args.next.now.items c.loop-vertex.distances c.loop-vertex.next.items c.reach_row.new.distances c.reach_row.new.next.items
+    c.loop-vertex-test.true found c.loop-vertex.invariant c.in_ok-reach_row.ensures

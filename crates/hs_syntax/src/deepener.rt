@@ -2,13 +2,13 @@
 
 ghost use Rattle.std.specs.Prelude.{◌≡◌};
 ghost use Rattle.hs_syntax.specs.Counts.{meanings};
-ghost use Rattle.hs_syntax.specs.Nesting.{is_word, is_punctuator, opens, closes, is_marking_word, is_unmarked, punctuator_mark, mark_of};
+ghost use Rattle.hs_syntax.specs.Nesting.{is_word, is_punctuator, opens, closes, is_deepening_word, is_neutral, punctuator_deepener, deepener_of};
 
 use hs_tokens::{SourceToken, TokenKind, is_identifier, is_mark, is_same_kind};
 
 /// What counts for the nesting.
 #[derive(Clone, Copy)]
-pub(crate) enum Mark {
+pub(crate) enum Deepener {
     Do,
     /// Another keyword.
     Keyword,
@@ -45,9 +45,9 @@ pub(crate) fn closes(source: &SourceToken) -> bool
     is_punctuator(b")", source) || is_punctuator(b"]", source) || is_punctuator(b"}", source)
 }
 
-/// Whether the token is a keyword that is a mark, but for `do`.
-fn is_marking_word(source: &SourceToken) -> bool
-    ensures { result ≡ is_marking_word source.now }
+/// Whether the token is a keyword that is a deepener, but for `do`.
+fn is_deepening_word(source: &SourceToken) -> bool
+    ensures { result ≡ is_deepening_word source.now }
 {
     is_word(b"if", source)
         || is_word(b"while", source)
@@ -56,9 +56,9 @@ fn is_marking_word(source: &SourceToken) -> bool
         || is_word(b"sizeof", source)
 }
 
-/// Whether the token is a punctuator that is no mark.
-fn is_unmarked(source: &SourceToken) -> bool
-    ensures { result ≡ is_unmarked source.now }
+/// Whether the token is a punctuator that is no deepener.
+fn is_neutral(source: &SourceToken) -> bool
+    ensures { result ≡ is_neutral source.now }
 {
     is_punctuator(b",", source)
         || is_punctuator(b";", source)
@@ -66,29 +66,29 @@ fn is_unmarked(source: &SourceToken) -> bool
         || closes(source)
 }
 
-/// The mark of a punctuator.
-fn punctuator_mark(source: &SourceToken) -> Option<Mark>
-    ensures { meanings result ≡ punctuator_mark source.now }
+/// The deepener of a punctuator.
+fn punctuator_deepener(source: &SourceToken) -> Option<Deepener>
+    ensures { meanings result ≡ punctuator_deepener source.now }
 {
-    if is_unmarked(source) {
+    if is_neutral(source) {
         None
     } else if is_punctuator(b"?", source) {
-        Some(Mark::Query)
+        Some(Deepener::Query)
     } else {
-        Some(Mark::Other)
+        Some(Deepener::Other)
     }
 }
 
-/// The mark that the token is.
-pub(crate) fn mark_of(source: &SourceToken) -> Option<Mark>
-    ensures { meanings result ≡ mark_of source.now }
+/// The deepener that the token is.
+pub(crate) fn deepener_of(source: &SourceToken) -> Option<Deepener>
+    ensures { meanings result ≡ deepener_of source.now }
 {
     if is_word(b"do", source) {
-        Some(Mark::Do)
-    } else if is_marking_word(source) {
-        Some(Mark::Keyword)
+        Some(Deepener::Do)
+    } else if is_deepening_word(source) {
+        Some(Deepener::Keyword)
     } else if is_same_kind(source.token.kind, TokenKind::Punctuator) {
-        punctuator_mark(source)
+        punctuator_deepener(source)
     } else {
         None
     }

@@ -19,7 +19,7 @@ pub fn with<A: Drop, B: Drop, E: Drop>(held: A, next: Result<B, E>) -> Result<(A
 }
 
 /// Puts each of two values into a box.
-pub(crate) fn boxed_two<A: Drop, B: Drop>(
+pub fn boxed_two<A: Drop, B: Drop>(
     alloc: Global,
     one: A,
     two: B,
@@ -30,7 +30,7 @@ pub(crate) fn boxed_two<A: Drop, B: Drop>(
 }
 
 /// Puts each of three values into a box.
-pub(crate) fn boxed_three<A: Drop, B: Drop, C: Drop>(
+pub fn boxed_three<A: Drop, B: Drop, C: Drop>(
     alloc: Global,
     one: A,
     two: B,
