@@ -1,18 +1,17 @@
 -- The reads of all units: what a reader of sources answers is the definition's, of what its reads gave.
 --     fitting             there are files that reads in turn fit
 --     read_through, read_partly     all files were read, or up to a refusal
-use Rattle.std.proofs.Common.{◌≡◌, ℕ, ◌<◌, suc, List, [], ◌∷◌, ◌++◌, length, map, Some, None, Result, Ok, Err, IsErr, IsErrAnd, refl, sym, ap, subst, ◌∙◌, append_assoc, append-nil, arith}
+use Rattle.std.proofs.Common.{◌≡◌, ℕ, ◌<◌, suc, List, [], ◌∷◌, ◌++◌, length, map, None, Result, Ok, Err, IsErr, IsErrAnd, refl, sym, ap, subst, ◌∙◌, append_assoc, append-nil, arith}
 use Rattle.std.specs.Prelude.{replicate}
-use Rattle.std.specs.Str.{bytes_eq}
 use Rattle.std.proofs.lemmas.List.{map-append, length-replicate}
 use Rattle.std.proofs.lemmas.Slice.Eq.{bytes_eq-Decides}
 use Rattle.hs_base.specs.Files.{Listing, Read, file_of}
 use Rattle.hs_base.specs.Reads.{OnLast, Fits, FitsAnswer, given, with_file}
 use Rattle.hs_base.specs.declared.errors.FileEnd.{FileEnd}
 use Rattle.hs_base.specs.declared.errors.FileEnd.TheVariants as ends
-use Rattle.hs_directives.specs.Preprocessing.{Units, units_of, start, source_of, source_by, preprocessed}
+use Rattle.hs_directives.specs.Preprocessing.{units_of, start, source_of, source_by, preprocessed}
 use Rattle.hs_directives.specs.Readings.{Agrees, AreListed, Grows, listing_of, units_by}
-use Rattle.hs_directives.specs.Reads.{IsNext, AreReads, AreBegun, EndsAs, IsLast, Lacks, WasRead, WasRefused, IsReadAs, IsRefusedAs, IsReadThrough}
+use Rattle.hs_directives.specs.Reads.{IsNext, AreReads, AreBegun, EndsAs, IsLast, Lacks, WasRead, WasRefused, IsReadThrough}
 use Rattle.hs_directives.specs.declared.error.ReadError.{ReadError}
 use Rattle.hs_directives.specs.declared.error.ReadError.TheVariants.{Scan, Macro, BadDirective, OpenIf, IncludeDepth, BadCondition, Missing, ReadFault, Limit, NoMemory}
 use Rattle.hs_directives.specs.declared.source.Source.{Source}

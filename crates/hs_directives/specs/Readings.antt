@@ -5,7 +5,7 @@
 --     IsReading ..               what each result says
 --     AnswersText ..             what the bytes of a file are, or why there are none
 --     entry levels listing ..    the file of an `#include`, and the state after it
-use Rattle.std.specs.Prelude.{◌≡◌, List, [], ◌∷◌, ◌++◌, map, Option, Some, Result, Ok, Err, ℕ, zero, suc, Vec}
+use Rattle.std.specs.Prelude.{◌≡◌, List, [], ◌∷◌, ◌++◌, map, Some, Result, Ok, Err, ℕ, zero, suc, Vec}
 use Rattle.std.specs.declared.alloc.Global.{Global}
 use Rattle.hs_base.specs.Files.{Listing, Counts, Read, file_of}
 use Rattle.hs_base.specs.Limit.{number_of}

@@ -9,7 +9,7 @@
 --     AreFirstReads names reads              the reads of the named files: what the numbers of files count
 --     IsOutcome reads names result           what each answer of a reader of sources says of its reads
 --     IsReadThrough ..                       the reads of a reader of sources, with what it answers
-use Rattle.std.specs.Prelude.{◌≡◌, ℕ, List, [], ◌∷◌, ◌++◌, map, Option, None, Some, Result, Ok, Err}
+use Rattle.std.specs.Prelude.{◌≡◌, ℕ, List, [], ◌∷◌, ◌++◌, map, None, Result, Ok, Err}
 use Rattle.hs_base.specs.Files.{Listing, Read, file_of}
 use Rattle.hs_base.specs.Limit.{number_of}
 use Rattle.hs_base.specs.Reads.{Leads, OnLast, Fits, given}

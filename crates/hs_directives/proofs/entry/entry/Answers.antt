@@ -1,6 +1,6 @@
-use Rattle.std.proofs.Common.{refl, inl, inr, ap, ◌∙◌}
+use Rattle.std.proofs.Common.{inr}
 use Rattle.hs_directives.specs.Ahead.{named_of}
-use Rattle.hs_directives.specs.Readings.{entry, entry_by}
+use Rattle.hs_directives.specs.Readings.{entry}
 use Rattle.hs_directives.proofs.InTurn.{read_none, read_refused, read_without_memory, read_on, read_refused_on, passed_on, entry_step, entry_unnamed, entry_deep}
 use Rattle.hs_directives.proofs.entry.entry.Goals as goal
 
