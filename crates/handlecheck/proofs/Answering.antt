@@ -3,7 +3,7 @@ use Rattle.std.proofs.Common.{◌≡◌, ℕ, List, [], ◌∷◌, ◌++◌, Opt
 use Rattle.std.specs.Prelude.{codes}
 use Rattle.std.specs.String.{string_bytes}
 use Rattle.hs_base.specs.Files.{Listing, Counts, Read}
-use Rattle.hs_base.specs.Reads.{Makes, Leads, MadeReads, AreRight}
+use Rattle.hs_base.specs.Reads.{Makes, MadeReads, AreRight}
 use Rattle.hs_directives.specs.Reads.{AreFirstReads}
 use Rattle.hs_words.specs.Words.{IsCheck, IsCommand}
 use Rattle.hs_words.specs.declared.command.Command.{Command}

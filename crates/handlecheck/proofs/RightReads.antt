@@ -1,6 +1,5 @@
 -- What reads with right answers show: of the counts, and of the listing if one is known.
-use Rattle.std.proofs.Common.{◌≡◌, ℕ, ◌≤◌, List, [], ◌∷◌, Option, Some, None, Result, Ok, Err, refl, sym, subst, arith}
-use Rattle.std.specs.Prelude.{IfSome}
+use Rattle.std.proofs.Common.{◌≡◌, ℕ, ◌≤◌, List, [], ◌∷◌, Option, Some, Result, Ok, Err, refl, sym, subst, arith}
 use Rattle.hs_base.specs.Count.{HasRisen, IsSteady}
 use Rattle.hs_base.specs.Files.{Listing, Counts, NeverFall, Read, IsRead, IsAnswer}
 use Rattle.hs_base.specs.Reads.{Makes, Leads, OnLast, AreRight, Fits, FitsAnswer}
