@@ -13,7 +13,6 @@ pub mod LabelsRead
 pub mod Naming
 pub mod NotAhead
 pub mod Plain
-pub mod Seen
 pub mod Sound
 pub mod StatementsFound
 pub mod StatementsRead

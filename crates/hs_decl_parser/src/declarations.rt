@@ -79,7 +79,7 @@ fn items<'a>(
 /// Reads the rest of a declaration after its first declarator (X3.159-1989 3.5).
 ///
 /// `[ "=" initialiser ] { "," item } ";"`
-#[tactic(auto, using(crate::proofs::Stepping::declared_step, crate::proofs::Seen::specification_seen))]
+#[tactic(auto, using(crate::proofs::Stepping::declared_step, hs_syntax::specs::RowLaws::specification_seen))]
 pub(crate) fn declared<'a>(
     alloc: Global,
     known: &TypeNames,
@@ -103,7 +103,7 @@ pub(crate) fn declared<'a>(
 /// Reads a declaration (X3.159-1989 3.5).
 ///
 /// `declaration = specifiers [ item { "," item } ] ";"`
-#[tactic(auto, using(crate::proofs::Stepping::declaration_step, crate::proofs::Stepping::declaration_bare, crate::proofs::Stepping::declaration_declares, crate::proofs::Seen::specification_seen))]
+#[tactic(auto, using(crate::proofs::Stepping::declaration_step, crate::proofs::Stepping::declaration_bare, crate::proofs::Stepping::declaration_declares, hs_syntax::specs::RowLaws::specification_seen))]
 fn declaration<'a>(
     alloc: Global,
     known: &TypeNames,

@@ -17,7 +17,7 @@ use std::alloc::Global;
 /// Reads a function after its declarator (X3.159-1989 3.7.1).
 ///
 /// `block`
-#[tactic(auto, using(crate::proofs::Stepping::function_step, crate::proofs::Seen::specification_seen))]
+#[tactic(auto, using(crate::proofs::Stepping::function_step, hs_syntax::specs::RowLaws::specification_seen))]
 fn function<'a>(
     alloc: Global,
     known: &TypeNames,
@@ -68,7 +68,7 @@ fn external_from<'a>(
 /// Reads an external declaration that begins with specifiers (X3.159-1989 3.7).
 ///
 /// `specifiers ( ";" | declarator ( block | [ "=" initialiser ] { "," item } ";" ) )`
-#[tactic(auto, using(crate::proofs::Stepping::specified_step, crate::proofs::Stepping::specified_bare, crate::proofs::Stepping::specified_declares, crate::proofs::Seen::specification_seen))]
+#[tactic(auto, using(crate::proofs::Stepping::specified_step, crate::proofs::Stepping::specified_bare, crate::proofs::Stepping::specified_declares, hs_syntax::specs::RowLaws::specification_seen))]
 fn specified<'a>(
     alloc: Global,
     known: &TypeNames,

@@ -41,7 +41,7 @@ pub(crate) fn initialiser<'a>(
 ///
 /// `initialiser { "," initialiser } [","] "}"`
 #[cycle(initialiser)]
-#[tactic(auto, using(crate::proofs::Stepping::braces_step, crate::proofs::Seen::initialisers_seen))]
+#[tactic(auto, using(crate::proofs::Stepping::braces_step, hs_syntax::specs::StatementLaws::initialisers_seen))]
 fn braces<'a>(
     alloc: Global,
     known: &TypeNames,

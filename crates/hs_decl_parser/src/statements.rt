@@ -252,7 +252,7 @@ pub(crate) fn block<'a>(
 ///
 /// `{ declaration } { labelled } "}"`
 #[cycle(statement)]
-#[tactic(auto, using(crate::proofs::Stepping::inner_step, crate::proofs::Seen::block_seen))]
+#[tactic(auto, using(crate::proofs::Stepping::inner_step, hs_syntax::specs::StatementLaws::block_seen))]
 fn inner<'a>(
     alloc: Global,
     known: &TypeNames,

@@ -168,7 +168,7 @@ fn array_length<'a, F: Fn(&[SourceToken]) -> Result<(Expr, usize), ParseEnd>>(
 ///
 /// `[ "void" | parameters ] ")"`
 #[cycle(types)]
-#[tactic(auto, using(crate::proofs::Stepping::list_step, crate::proofs::Seen::parameters_seen))]
+#[tactic(auto, using(crate::proofs::Stepping::list_step, hs_syntax::specs::RowLaws::parameters_seen))]
 fn parameter_list<'a, F: Fn(&[SourceToken]) -> Result<(Expr, usize), ParseEnd>>(
     alloc: Global,
     known: &TypeNames,
@@ -265,7 +265,7 @@ fn parameters<'a, F: Fn(&[SourceToken]) -> Result<(Expr, usize), ParseEnd>>(
 ///
 /// `parameter = specifiers [ declarator | abstract ]`
 #[cycle(types)]
-#[tactic(auto, using(crate::proofs::Stepping::parameter_step, crate::proofs::Seen::specification_seen))]
+#[tactic(auto, using(crate::proofs::Stepping::parameter_step, hs_syntax::specs::RowLaws::specification_seen))]
 fn parameter<'a, F: Fn(&[SourceToken]) -> Result<(Expr, usize), ParseEnd>>(
     alloc: Global,
     known: &TypeNames,

@@ -72,7 +72,7 @@ pub fn expression<'a>(
 }
 
 /// The expression of left operands and the last right one: that alone, if there are none.
-#[tactic(auto, using(crate::proofs::Seen::lefts_seen))]
+#[tactic(auto, using(hs_syntax::specs::RowLaws::lefts_seen))]
 fn sequence(alloc: Global, lefts: Vec<Left>, right: Expr) -> Result<Expr, NoMemory>
     ensures { IfOk result (λ e. view e ≡ joined (map view_left lefts.items) (view right)) }
 {

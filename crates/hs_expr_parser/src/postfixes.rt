@@ -71,7 +71,7 @@ pub(crate) fn postfix<'a>(
 }
 
 /// The expression that the suffix makes of its base.
-#[tactic(auto, using(crate::proofs::Seen::expressions_seen))]
+#[tactic(auto, using(hs_syntax::specs::RowLaws::expressions_seen))]
 fn with_suffix(alloc: Global, base: Expr, suffix: Suffix) -> Result<Expr, NoMemory>
     ensures { IfOk result (λ e. view e ≡ applied suffix (view base)) }
 {

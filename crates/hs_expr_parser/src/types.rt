@@ -25,7 +25,7 @@ use std::alloc::Global;
 /// Reads a type name (X3.159-1989 3.5.5).
 ///
 /// `type-name = specifiers [ abstract ]`
-#[tactic(auto, using(crate::proofs::Stepping::type_step, crate::proofs::Seen::specification_seen))]
+#[tactic(auto, using(crate::proofs::Stepping::type_step, hs_syntax::specs::RowLaws::specification_seen))]
 pub(crate) fn type_name<'a, F: Fn(&[SourceToken]) -> Result<(Expr, usize), ParseEnd>>(
     alloc: Global,
     known: &TypeNames,
@@ -147,7 +147,7 @@ fn specifier<'a, F: Fn(&[SourceToken]) -> Result<(Expr, usize), ParseEnd>>(
 ///
 /// `struct = "struct" [identifier] "{" member { member } "}" | "struct" identifier`
 #[cycle(types)]
-#[tactic(auto, using(crate::proofs::Stepping::struct_body, crate::proofs::Stepping::struct_tag, crate::proofs::Seen::members_seen))]
+#[tactic(auto, using(crate::proofs::Stepping::struct_body, crate::proofs::Stepping::struct_tag, hs_syntax::specs::RowLaws::members_seen))]
 fn struct_specifier<'a, F: Fn(&[SourceToken]) -> Result<(Expr, usize), ParseEnd>>(
     alloc: Global,
     known: &TypeNames,
@@ -243,7 +243,7 @@ fn member<'a, F: Fn(&[SourceToken]) -> Result<(Expr, usize), ParseEnd>>(
 /// 3.5.2.3).
 ///
 /// `enum = "enum" [identifier] "{" constant { "," constant } [","] "}" | "enum" identifier`
-#[tactic(auto, using(crate::proofs::Stepping::enum_body, crate::proofs::Stepping::enum_tag, crate::proofs::Seen::constants_seen))]
+#[tactic(auto, using(crate::proofs::Stepping::enum_body, crate::proofs::Stepping::enum_tag, hs_syntax::specs::RowLaws::constants_seen))]
 fn enum_specifier<'a, F: Fn(&[SourceToken]) -> Result<(Expr, usize), ParseEnd>>(
     alloc: Global,
     known: &TypeNames,

@@ -21,7 +21,7 @@ use std::alloc::Global;
 ///
 /// `cast = unary | "(" type-name ")" cast`
 #[cycle(read)]
-#[tactic(auto, using(crate::proofs::Stepping::cast_step, crate::proofs::Seen::boxed_type_seen))]
+#[tactic(auto, using(crate::proofs::Stepping::cast_step, hs_syntax::specs::RowLaws::boxed_type_seen))]
 pub(crate) fn cast<'a>(
     alloc: Global,
     known: &TypeNames,
@@ -136,7 +136,7 @@ fn operand<'a>(
 ///
 /// `sizeof-operand = unary | "(" type-name ")"`
 #[cycle(read)]
-#[tactic(auto, using(crate::proofs::Stepping::sizeof_step, crate::proofs::Seen::boxed_type_seen))]
+#[tactic(auto, using(crate::proofs::Stepping::sizeof_step, hs_syntax::specs::RowLaws::boxed_type_seen))]
 fn sizeof_operand<'a>(
     alloc: Global,
     known: &TypeNames,

@@ -7,7 +7,7 @@ use Rattle.std.specs.Global.{Global}
 use Rattle.std.proofs.lemmas.List.{map-append}
 use Rattle.hs_syntax.specs.Positions.{position_of, last_comma, first_of, first_of_lefts}
 use Rattle.hs_syntax.specs.RowViews.{OneLeft, one_left, view_left, lefts_from}
-use Rattle.hs_syntax.specs.RowLaws.{view_lefts-row}
+use Rattle.hs_syntax.specs.RowLaws.{lefts_seen}
 use Rattle.hs_syntax.specs.Trees as tree
 use Rattle.hs_syntax.specs.Trees.{Expression}
 use Rattle.hs_syntax.specs.Views.{view_lefts}
@@ -31,7 +31,7 @@ last_comma-split lefts front left other is =
 module _ (v : Vec Left Global) (its : List Left) (right : Expression) (is : its ≡ v.items) where
   -- the row of the operands is the list of them
   row : view_lefts (hidden-the_row-Left-3 v) ≡ lefts_from (map view_left its)
-  row = view_lefts-row v ∙ ap (λ its. lefts_from (map view_left its)) (sym is)
+  row = lefts_seen v ∙ ap (λ its. lefts_from (map view_left its)) (sym is)
 
   pub position_of-comma : position_of (tree.comma (view_lefts (hidden-the_row-Left-3 v)) right)
       ≡ last_comma (position_of right) (lefts_from (map view_left its))

@@ -1,7 +1,7 @@
 -- The view of a row of a list is made of the views of the list's entries.
---     views-row, view_specifiers-row, ..     the row of a list
---     views-same, view_members-same, ..      lists with the same views
---     view_member-out, boxed_type            a struct after a row or a pointer
+--     expressions_seen, specifiers_seen, ..    the row of a list
+--     views-same, view_members-same, ..        lists with the same views
+--     view_member-out, boxed_type_seen         a struct after a row or a pointer
 use Rattle.std.proofs.Common.{◌≡◌, List, [], ◌∷◌, ◌++◌, map, drop, length, ◌≤◌, refl, ap, sym, ◌∙◌, Vec, ℕ, arith}
 use Rattle.std.specs.Global.{Global}
 use Rattle.std.proofs.lemmas.Grind.{common_steps}
@@ -25,6 +25,10 @@ pub specification_of-from : (its : List Specifier) → specification_of its ≡ 
 specification_of-from [] = refl
 specification_of-from (it ∷ rest) = ap (tree.more_specifiers (view_specifier it)) (specification_of-from rest)
 
+-- the same of the specifiers of a vector
+pub specification_seen : (v : Vec Specifier Global) → specification_of v.items ≡ specification_from (map view_specifier v.items)
+specification_seen v = specification_of-from v.items
+
 -- Specifiers with the same views are the same list of specifiers.
 pub specification_of-same : (its others : List Specifier) → map view_specifier its ≡ map view_specifier others → specification_of its ≡ specification_of others
 specification_of-same its others same = specification_of-from its ∙ ap specification_from same ∙ sym (specification_of-from others)
@@ -35,8 +39,8 @@ expressions_row _ end_of-Expr = refl
 expressions_row _ (more_of-Expr e rest) = ap (tree.more_expressions (view e)) (expressions_row _ rest)
 
 -- the row of expressions
-pub views-row : (v : Vec Expr Global) → views (hidden-the_row-Expr-2 v) ≡ expressions_from (map view v.items)
-views-row v = expressions_row _ (hidden-the_row-Expr-2 v) ∙ ap (λ its. expressions_from (map view its)) (items_hidden-the_row-Expr-2 v)
+pub expressions_seen : (v : Vec Expr Global) → views (hidden-the_row-Expr-2 v) ≡ expressions_from (map view v.items)
+expressions_seen v = expressions_row _ (hidden-the_row-Expr-2 v) ∙ ap (λ its. expressions_from (map view its)) (items_hidden-the_row-Expr-2 v)
 
 -- each left operand of commas with its view
 lefts_row : (m : _) (row : Row_of-Left m) → view_lefts row ≡ lefts_from (map view_left (items-the_row-Left m row))
@@ -44,8 +48,8 @@ lefts_row _ end_of-Left = refl
 lefts_row _ (more_of-Left e at rest) = ap (tree.more_lefts (view e) at) (lefts_row _ rest)
 
 -- the row of left operands
-pub view_lefts-row : (v : Vec Left Global) → view_lefts (hidden-the_row-Left-3 v) ≡ lefts_from (map view_left v.items)
-view_lefts-row v = lefts_row _ (hidden-the_row-Left-3 v) ∙ ap (λ its. lefts_from (map view_left its)) (items_hidden-the_row-Left-3 v)
+pub lefts_seen : (v : Vec Left Global) → view_lefts (hidden-the_row-Left-3 v) ≡ lefts_from (map view_left v.items)
+lefts_seen v = lefts_row _ (hidden-the_row-Left-3 v) ∙ ap (λ its. lefts_from (map view_left its)) (items_hidden-the_row-Left-3 v)
 
 -- each specifier with its view
 specifiers_row : (m : _) (row : Row_of-Specifier m) → view_specifiers row ≡ specification_of (items-the_row-Specifier m row)
@@ -53,8 +57,8 @@ specifiers_row _ end_of-Specifier = refl
 specifiers_row _ (more_of-Specifier it rest) = ap (tree.more_specifiers (view_specifier it)) (specifiers_row _ rest)
 
 -- the row of specifiers
-pub view_specifiers-row : (v : Vec Specifier Global) → view_specifiers (hidden-the_row-Specifier-0 v) ≡ specification_of v.items
-view_specifiers-row v = specifiers_row _ (hidden-the_row-Specifier-0 v) ∙ ap specification_of (items_hidden-the_row-Specifier-0 v)
+pub specifiers_seen : (v : Vec Specifier Global) → view_specifiers (hidden-the_row-Specifier-0 v) ≡ specification_of v.items
+specifiers_seen v = specifiers_row _ (hidden-the_row-Specifier-0 v) ∙ ap specification_of (items_hidden-the_row-Specifier-0 v)
 
 -- each entry of members with its view
 members_row : (m : _) (row : Row_of-Member m) → view_members row ≡ members_from (map view_member (items-the_row-Member m row))
@@ -63,8 +67,8 @@ members_row _ (more_of-Member (Member' shape specifiers shape' declarators) rest
     ap (tree.more_members (view_specifiers specifiers) (view_declarators declarators)) (members_row _ rest)
 
 -- the row of members
-pub view_members-row : (v : Vec Member Global) → view_members (hidden-the_row-Member-4 v) ≡ members_from (map view_member v.items)
-view_members-row v = members_row _ (hidden-the_row-Member-4 v) ∙ ap (λ its. members_from (map view_member its)) (items_hidden-the_row-Member-4 v)
+pub members_seen : (v : Vec Member Global) → view_members (hidden-the_row-Member-4 v) ≡ members_from (map view_member v.items)
+members_seen v = members_row _ (hidden-the_row-Member-4 v) ∙ ap (λ its. members_from (map view_member its)) (items_hidden-the_row-Member-4 v)
 
 -- each constant with its view
 constants_row : (m : _) (row : Row_of-Constant m) → view_constants row ≡ constants_from (map view_constant (items-the_row-Constant m row))
@@ -73,8 +77,8 @@ constants_row _ (more_of-Constant (Plain name) rest) = ap (tree.constant name) (
 constants_row _ (more_of-Constant (Valued' name p value) rest) = ap (tree.valued_constant name (view value)) (constants_row _ rest)
 
 -- the row of constants
-pub view_constants-row : (v : Vec Constant Global) → view_constants (hidden-the_row-Constant-5 v) ≡ constants_from (map view_constant v.items)
-view_constants-row v = constants_row _ (hidden-the_row-Constant-5 v) ∙ ap (λ its. constants_from (map view_constant its)) (items_hidden-the_row-Constant-5 v)
+pub constants_seen : (v : Vec Constant Global) → view_constants (hidden-the_row-Constant-5 v) ≡ constants_from (map view_constant v.items)
+constants_seen v = constants_row _ (hidden-the_row-Constant-5 v) ∙ ap (λ its. constants_from (map view_constant its)) (items_hidden-the_row-Constant-5 v)
 
 -- each declarator with its view
 declarators_row : (m : _) (row : Row_of-Declarator m) → view_declarators row ≡ declarators_from (map view_declarator (items-the_row-Declarator m row))
@@ -83,8 +87,8 @@ declarators_row _ (more_of-Declarator pointers direct rest) =
     ap (tree.more_declarators (tree.pointing pointers.items (view_direct direct))) (declarators_row _ rest)
 
 -- the row of declarators
-pub view_declarators-row : (v : Vec Declarator Global) → view_declarators (hidden-the_row-Declarator-6 v) ≡ declarators_from (map view_declarator v.items)
-view_declarators-row v = declarators_row _ (hidden-the_row-Declarator-6 v)
+pub declarators_seen : (v : Vec Declarator Global) → view_declarators (hidden-the_row-Declarator-6 v) ≡ declarators_from (map view_declarator v.items)
+declarators_seen v = declarators_row _ (hidden-the_row-Declarator-6 v)
     ∙ ap (λ its. declarators_from (map view_declarator its)) (items_hidden-the_row-Declarator-6 v)
 
 -- each parameter with its view
@@ -98,13 +102,13 @@ parameters_row _ (more_of-Parameter shape specifiers pointers direct rest) =
     ∙ ap (tree.more_parameters (specification_of (shown-the_row-Specifier-0 shape specifiers).items) declared) (parameters_row _ rest)
 
 -- the row of parameters
-pub view_parameters-row : (v : Vec Parameter Global) → view_parameters (hidden-the_row-Parameter-1 v) ≡ parameters_from (map view_parameter v.items)
-view_parameters-row v = parameters_row _ (hidden-the_row-Parameter-1 v)
+pub parameters_seen : (v : Vec Parameter Global) → view_parameters (hidden-the_row-Parameter-1 v) ≡ parameters_from (map view_parameter v.items)
+parameters_seen v = parameters_row _ (hidden-the_row-Parameter-1 v)
     ∙ ap (λ its. parameters_from (map view_parameter its)) (items_hidden-the_row-Parameter-1 v)
 
 -- A type name after a pointer has the view of the type name.
-pub boxed_type : (it : TypeName) → tree.typed_as (view_specifiers (hidden-the_row-Specifier-0 it.specifiers)) (view_declarator it.declarator) ≡ view_type it
-boxed_type it = ap (λ specification. tree.typed_as specification (view_declarator it.declarator)) (view_specifiers-row it.specifiers)
+pub boxed_type_seen : (it : TypeName) → tree.typed_as (view_specifiers (hidden-the_row-Specifier-0 it.specifiers)) (view_declarator it.declarator) ≡ view_type it
+boxed_type_seen it = ap (λ specification. tree.typed_as specification (view_declarator it.declarator)) (specifiers_seen it.specifiers)
 
 -- The view of members is made of their two lists.
 pub view_member-out : (it : Member) → view_member it
@@ -124,32 +128,32 @@ pub view_member-rolled : (specifiers : Vec Specifier Global) (declarators : Vec 
     ≡ one_member (specification_of specifiers.items) (declarators_from (map view_declarator declarators.items))
 unfolding roll-Member denote.Hole.Carrier.roll
 view_member-rolled specifiers declarators =
-    ap (λ specification. one_member specification (view_declarators (hidden-the_row-Declarator-6 declarators))) (view_specifiers-row specifiers)
-    ∙ ap (one_member (specification_of specifiers.items)) (view_declarators-row declarators)
+    ap (λ specification. one_member specification (view_declarators (hidden-the_row-Declarator-6 declarators))) (specifiers_seen specifiers)
+    ∙ ap (one_member (specification_of specifiers.items)) (declarators_seen declarators)
 
 -- Lists with the same views have the same view in a row.
 pub views-same : (v w : Vec Expr Global) → map view v.items ≡ map view w.items → views (hidden-the_row-Expr-2 v) ≡ views (hidden-the_row-Expr-2 w)
-views-same v w same = views-row v ∙ ap expressions_from same ∙ sym (views-row w)
+views-same v w same = expressions_seen v ∙ ap expressions_from same ∙ sym (expressions_seen w)
 
 -- the same of left operands of commas
 pub view_lefts-same : (v w : Vec Left Global) → map view_left v.items ≡ map view_left w.items
     → view_lefts (hidden-the_row-Left-3 v) ≡ view_lefts (hidden-the_row-Left-3 w)
-view_lefts-same v w same = view_lefts-row v ∙ ap lefts_from same ∙ sym (view_lefts-row w)
+view_lefts-same v w same = lefts_seen v ∙ ap lefts_from same ∙ sym (lefts_seen w)
 
 -- the same of members
 pub view_members-same : (v w : Vec Member Global) → map view_member v.items ≡ map view_member w.items → view_members (hidden-the_row-Member-4 v)
     ≡ view_members (hidden-the_row-Member-4 w)
-view_members-same v w same = view_members-row v ∙ ap members_from same ∙ sym (view_members-row w)
+view_members-same v w same = members_seen v ∙ ap members_from same ∙ sym (members_seen w)
 
 -- the same of constants
 pub view_constants-same : (v w : Vec Constant Global) → map view_constant v.items ≡ map view_constant w.items
     → view_constants (hidden-the_row-Constant-5 v) ≡ view_constants (hidden-the_row-Constant-5 w)
-view_constants-same v w same = view_constants-row v ∙ ap constants_from same ∙ sym (view_constants-row w)
+view_constants-same v w same = constants_seen v ∙ ap constants_from same ∙ sym (constants_seen w)
 
 -- the same of parameters
 pub view_parameters-same : (v w : Vec Parameter Global) → map view_parameter v.items ≡ map view_parameter w.items
     → view_parameters (hidden-the_row-Parameter-1 v) ≡ view_parameters (hidden-the_row-Parameter-1 w)
-view_parameters-same v w same = view_parameters-row v ∙ ap parameters_from same ∙ sym (view_parameters-row w)
+view_parameters-same v w same = parameters_seen v ∙ ap parameters_from same ∙ sym (parameters_seen w)
 
 -- If no entry is left, the views of the copies are all.
 pub views-done : {X Y : Type 0} (f : X → Y) (copies all : List X) (n : ℕ) → length all ≤ n → map f copies ++ map f (drop n all) ≡ map f all

@@ -18,8 +18,8 @@ initialisers_row _ end_of-Initialiser = refl
 initialisers_row _ (more_of-Initialiser it rest) = ap (tree.more_initialisers (view_initialiser it)) (initialisers_row _ rest)
 
 -- the row of initialisers
-pub view_initialisers-row : (v : Vec Initialiser Global) → view_initialisers (hidden-the_row-Initialiser-0 v) ≡ initialisers_from (map view_initialiser v.items)
-view_initialisers-row v = initialisers_row _ (hidden-the_row-Initialiser-0 v)
+pub initialisers_seen : (v : Vec Initialiser Global) → view_initialisers (hidden-the_row-Initialiser-0 v) ≡ initialisers_from (map view_initialiser v.items)
+initialisers_seen v = initialisers_row _ (hidden-the_row-Initialiser-0 v)
     ∙ ap (λ its. initialisers_from (map view_initialiser its)) (items_hidden-the_row-Initialiser-0 v)
 
 -- each labelled statement with its view
@@ -28,8 +28,8 @@ statements_row _ end_of-Labelled = refl
 statements_row _ (more_of-Labelled labels it rest) = ap (tree.more_statements (map view_label labels.items) (view_statement it)) (statements_row _ rest)
 
 -- the row of labelled statements
-pub view_statements-row : (v : Vec Labelled Global) → view_statements (hidden-the_row-Labelled-0 v) ≡ statements_from (map view_labelled v.items)
-view_statements-row v = statements_row _ (hidden-the_row-Labelled-0 v) ∙ ap (λ its. statements_from (map view_labelled its)) (items_hidden-the_row-Labelled-0 v)
+pub statements_seen : (v : Vec Labelled Global) → view_statements (hidden-the_row-Labelled-0 v) ≡ statements_from (map view_labelled v.items)
+statements_seen v = statements_row _ (hidden-the_row-Labelled-0 v) ∙ ap (λ its. statements_from (map view_labelled its)) (items_hidden-the_row-Labelled-0 v)
 
 -- The view of a block is made of its lists.
 pub view_block-out : (it : Block) → view_block it
@@ -42,14 +42,14 @@ view_block-out (Block' opening declarations shape its closing) =
     ap (λ statements. tree.compound opening (map view_declaration declarations.items) statements closing) stated
 
 -- A block that is put together has the views of its lists.
-pub view_block-rolled : (opening closing : Place) (declarations : Vec Decl Global) (statements : Vec Labelled Global)
+pub block_seen : (opening closing : Place) (declarations : Vec Decl Global) (statements : Vec Labelled Global)
     → view_block (roll-Block record { opening = opening; declarations = declarations; statements = statements; closing = closing })
     ≡ tree.compound opening (map view_declaration declarations.items) (statements_from (map view_labelled statements.items)) closing
 unfolding roll-Block denote.Hole.Carrier.roll
-view_block-rolled opening closing declarations statements =
-    ap (λ its. tree.compound opening (map view_declaration declarations.items) its closing) (view_statements-row statements)
+block_seen opening closing declarations statements =
+    ap (λ its. tree.compound opening (map view_declaration declarations.items) its closing) (statements_seen statements)
 
 -- Lists with the same views have the same view in a row.
 pub view_initialisers-same : (v w : Vec Initialiser Global) → map view_initialiser v.items ≡ map view_initialiser w.items
     → view_initialisers (hidden-the_row-Initialiser-0 v) ≡ view_initialisers (hidden-the_row-Initialiser-0 w)
-view_initialisers-same v w same = view_initialisers-row v ∙ ap initialisers_from same ∙ sym (view_initialisers-row w)
+view_initialisers-same v w same = initialisers_seen v ∙ ap initialisers_from same ∙ sym (initialisers_seen w)

@@ -7,7 +7,7 @@ use Rattle.hs_syntax.specs.Views.{view_specifier, view_declarator}
 use Rattle.hs_expr_parser.specs.Steps.{struct_at, specifiers_at, declarator_at, declarators_at, parameters_at, parameter_at, members_at, member_at, some_specifiers_at, specifier_at}
 use Rattle.hs_expr_parser.specs.Laws.Fails.{fails_along}
 use Rattle.hs_expr_parser.proofs.Stepping.{declarators_on, declarators_goes, declarators_fails, parameters_on, parameters_goes, parameters_fails, members_on, members_goes, members_fails, specifiers_none, specifiers_more, specifier_dropped, specifier_basic, struct_list_none, struct_close_none, struct_whole}
-use Rattle.hs_expr_parser.proofs.Seen.{members_seen}
+use Rattle.hs_syntax.specs.RowLaws.{members_seen}
 use Rattle.hs_expr_parser.specs.Ahead.{mark_at, is_mark_ahead, storage_of, dropped_of, basic_of, begins_specifier}
 use Rattle.std.specs.Prelude.{codes, suc, ◌||◌, Some, None}
 use Rattle.hs_syntax.specs.Phrases.{is_type}

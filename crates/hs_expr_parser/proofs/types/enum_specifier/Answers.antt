@@ -5,7 +5,7 @@ use Rattle.hs_syntax.specs.Trees as tree
 use Rattle.hs_expr_parser.specs.Steps.{enum_at, constants_at}
 use Rattle.hs_expr_parser.specs.Laws.Fails.{fails_along}
 use Rattle.hs_expr_parser.proofs.Stepping.{enum_list_none, enum_close_none, enum_whole}
-use Rattle.hs_expr_parser.proofs.Seen.{constants_seen}
+use Rattle.hs_syntax.specs.RowLaws.{constants_seen}
 use Rattle.hs_expr_parser.specs.Ahead.{mark_at}
 use Rattle.std.specs.Prelude.{codes, Some}
 use Rattle.hs_expr_parser.proofs.types.enum_specifier.Goals as goal

@@ -6,7 +6,7 @@ use Rattle.hs_syntax.specs.Parts.{comma_form}
 use Rattle.hs_syntax.specs.StatementViews.{initialisers_from}
 use Rattle.hs_syntax.specs.Views.{view_initialiser}
 use Rattle.hs_syntax.specs.declared.decl.Initialiser.{Initialiser}
-use Rattle.hs_syntax.specs.StatementLaws.{view_initialisers-row}
+use Rattle.hs_syntax.specs.StatementLaws.{initialisers_seen}
 use Rattle.hs_spell.proofs.Written.{after, comma_on}
 use Rattle.hs_spell.proofs.WrittenDeclarations.{initialisers_on}
 use Rattle.hs_spell.proofs.declarations.+spell_initialiser.Goals as goal
@@ -25,7 +25,7 @@ initialisers-loop-it-preserved t c = (
 -- the initialisers of a list in braces are the list
 pub initialiser-returns-in_ok-comma-in-List : goal.initialiser-returns-in_ok-comma-in-List
 initialiser-returns-in_ok-comma-in-List t c known =
-    rw (c.in-List.is, view_initialisers-row c.in-List.values, ← c.deref.ensures.value)
+    rw (c.in-List.is, initialisers_seen c.in-List.values, ← c.deref.ensures.value)
     (after _ _ c.mark_at.new.tokens.items _ (mark_at c.in-List.at (codes "{")).pieces _ c.in_ok-mark_at-in-List.ensures
     (after _ _ c.initialisers.new.tokens.items _ (initialisers_form known (initialisers_from (map view_initialiser c.deref.result.now))).pieces _
     (c.in_ok-initialisers-in-List.ensures known)

@@ -13,7 +13,7 @@ use Rattle.hs_syntax.specs.declared.expr.Left.{Left}
 use Rattle.hs_syntax.specs.declared.expr.Member.{Member, out-Member}
 use Rattle.hs_syntax.specs.declared.expr.Parameter.{Parameter}
 use Rattle.hs_syntax.specs.declared.expr.Specifier.{Specifier}
-use Rattle.hs_syntax.specs.RowLaws.{views-row, view_lefts-row, view_specifiers-row, view_members-row, view_constants-row, view_parameters-row}
+use Rattle.hs_syntax.specs.RowLaws.{expressions_seen, lefts_seen, specifiers_seen, members_seen, constants_seen, parameters_seen}
 use Rattle.hs_spell.proofs.Written.{behind, after, untyped, one_on, comma_on, arguments_on, lefts_on, members_on, constants_on, declarators_on, parameters_on}
 use Rattle.hs_spell.proofs.expressions.+spell_expression.Goals as goal
 
@@ -114,7 +114,7 @@ lefts-loop-it-preserved t c known =
 -- the left operands of a comma are the list
 pub expression-returns-in_ok-expression-in-Comma : goal.expression-returns-in_ok-expression-in-Comma
 expression-returns-in_ok-expression-in-Comma t c known =
-    rw (c.in-Comma.is, view_lefts-row c.in-Comma.its, ← c.deref-in-Comma.ensures.value, ← c.deref-in-Comma-2.ensures)
+    rw (c.in-Comma.is, lefts_seen c.in-Comma.its, ← c.deref-in-Comma.ensures.value, ← c.deref-in-Comma-2.ensures)
     (behind _ c.lefts.new.tokens.items _ (lefts_form known (lefts_from (map view_left c.deref-in-Comma.result.now))).pieces
     (expression_form known (view c.deref-in-Comma-2.result.now)).pieces
     (c.in_ok-lefts-in-Comma.ensures known) (c.in_ok-expression-in-Comma.ensures known))
@@ -122,7 +122,7 @@ expression-returns-in_ok-expression-in-Comma t c known =
 -- the arguments of a call are the list
 pub expression-returns-in_ok-expressions-in-Call : goal.expression-returns-in_ok-expressions-in-Call
 expression-returns-in_ok-expressions-in-Call t c known =
-    rw (c.in-Call.is, views-row c.in-Call.arguments, ← c.deref-in-Call-2.ensures.value, ← c.deref-in-Call.ensures)
+    rw (c.in-Call.is, expressions_seen c.in-Call.arguments, ← c.deref-in-Call-2.ensures.value, ← c.deref-in-Call.ensures)
     (after _ _ c.expression-in-Call.new.tokens.items _ (expression_form known (view c.deref-in-Call.result.now)).pieces _
     (c.in_ok-expression-in-Call.ensures known)
     (after _ _ c.mark-in-Call.new.tokens.items _ (mark (codes "(")).pieces _ c.in_ok-mark-in-Call.ensures
@@ -133,7 +133,7 @@ expression-returns-in_ok-expressions-in-Call t c known =
 -- the specifiers of a type's name are the list
 pub expression-returns-in_ok-named_type-in-SizeofType : goal.expression-returns-in_ok-named_type-in-SizeofType
 expression-returns-in_ok-named_type-in-SizeofType t c known =
-    rw (c.in-SizeofType.is, view_specifiers-row c.in-SizeofType.type_name.value.specifiers, ← c.deref-in-SizeofType.ensures)
+    rw (c.in-SizeofType.is, specifiers_seen c.in-SizeofType.type_name.value.specifiers, ← c.deref-in-SizeofType.ensures)
     (after _ _ c.keyword_at-in-SizeofType.new.tokens.items _ (keyword_at c.in-SizeofType.at (codes "sizeof")).pieces
     ((mark (codes "(")).pieces ++ ((type_form known (view_type c.deref-in-SizeofType.result.now)).pieces ++ (mark (codes ")")).pieces))
     c.in_ok-keyword_at-in-SizeofType.ensures
@@ -143,7 +143,7 @@ expression-returns-in_ok-named_type-in-SizeofType t c known =
 
 pub expression-returns-in_ok-expression-in-Cast : goal.expression-returns-in_ok-expression-in-Cast
 expression-returns-in_ok-expression-in-Cast t c known =
-    rw (c.in-Cast.is, view_specifiers-row c.in-Cast.type_name.value.specifiers, ← c.deref-in-Cast.ensures, ← c.deref-in-Cast-2.ensures)
+    rw (c.in-Cast.is, specifiers_seen c.in-Cast.type_name.value.specifiers, ← c.deref-in-Cast.ensures, ← c.deref-in-Cast-2.ensures)
     (behind _ c.mark_at-in-Cast.new.tokens.items _ (mark_at c.in-Cast.at (codes "(")).pieces _ c.in_ok-mark_at-in-Cast.ensures
     (behind _ c.named_type-in-Cast.new.tokens.items _ (type_form known (view_type c.deref-in-Cast.result.now)).pieces _
     (c.in_ok-named_type-in-Cast.ensures known)
@@ -153,7 +153,7 @@ expression-returns-in_ok-expression-in-Cast t c known =
 -- the members of a struct are the list
 pub specifier-returns-in_ok-members-in-Struct : goal.specifier-returns-in_ok-members-in-Struct
 specifier-returns-in_ok-members-in-Struct t c known =
-    rw (c.in-Struct.is, view_members-row c.in-Struct.its, ← c.deref.ensures.value)
+    rw (c.in-Struct.is, members_seen c.in-Struct.its, ← c.deref.ensures.value)
     (after _ _ c.keyword_at-in-Struct.new.tokens.items _ (keyword_at c.in-Struct.at (codes "struct")).pieces _ c.in_ok-keyword_at-in-Struct.ensures
     (after _ _ c.tag.new.tokens.items _ (tag_form c.in-Struct.name).pieces _ c.in_ok-tag-in-Struct.ensures
     (after _ _ c.mark_at.new.tokens.items _ (mark_at c.in-Struct.brace (codes "{")).pieces _ c.in_ok-mark_at-in-Struct.ensures
@@ -163,7 +163,7 @@ specifier-returns-in_ok-members-in-Struct t c known =
 -- the constants of an enumeration are the list
 pub specifier-returns-in_ok-comma-in-Enum : goal.specifier-returns-in_ok-comma-in-Enum
 specifier-returns-in_ok-comma-in-Enum t c known =
-    rw (c.in-Enum.is, view_constants-row c.in-Enum.its, ← c.deref-in-Enum.ensures.value)
+    rw (c.in-Enum.is, constants_seen c.in-Enum.its, ← c.deref-in-Enum.ensures.value)
     (after _ _ c.keyword_at-in-Enum.new.tokens.items _ (keyword_at c.in-Enum.at (codes "enum")).pieces _ c.in_ok-keyword_at-in-Enum.ensures
     (after _ _ c.tag-in-Enum.new.tokens.items _ (tag_form c.in-Enum.name).pieces _ c.in_ok-tag-in-Enum.ensures
     (after _ _ c.mark_at-in-Enum.new.tokens.items _ (mark_at c.in-Enum.brace (codes "{")).pieces _ c.in_ok-mark_at-in-Enum.ensures
@@ -175,7 +175,7 @@ specifier-returns-in_ok-comma-in-Enum t c known =
 -- the parameters of a function are the list
 pub direct-returns-in_ok-parameters-in-Function : goal.direct-returns-in_ok-parameters-in-Function
 direct-returns-in_ok-parameters-in-Function t c known inner =
-    rw (c.in-Function.is, view_parameters-row c.in-Function.its, ← c.deref-in-Function-2.ensures.value, ← c.deref-in-Function.ensures)
+    rw (c.in-Function.is, parameters_seen c.in-Function.its, ← c.deref-in-Function-2.ensures.value, ← c.deref-in-Function.ensures)
     (after _ _ c.direct-in-Function.new.tokens.items _ (direct_form known inner (view_direct c.deref-in-Function.result.now)).pieces _
     (c.in_ok-direct-in-Function.ensures known inner)
     (after _ _ c.mark-in-Function.new.tokens.items _ (mark (codes "(")).pieces _ c.in_ok-mark-in-Function.ensures
