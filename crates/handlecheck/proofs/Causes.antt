@@ -273,11 +273,18 @@ module _ (call : Call) (answer : Status) (right : AreRight call.told call.before
       → answer ≡ status_of report → Checks call (AreUnread call)
   unread_only (Missing name) (names, is_check, is) came is_status =
       (names, is_check, (name, inl (is, miss_rose call.told call.before call.now call.reads name right is.ends)))
-  unread_only (Unread name) (names, is_check, is) came is_status = (names, is_check, (name, inr (
-    is,
-    fault_rose_last call.told call.before call.now call.reads name right is.ends,
-    fault_rose call.told call.before call.now call.reads name right is.ends,
-  )))
+  unread_only (Unread name) (names, is_check, is) came is_status = (
+    names,
+    is_check,
+    (
+      name,
+      inr (
+        is,
+        fault_rose_last call.told call.before call.now call.reads name right is.ends,
+        fault_rose call.told call.before call.now call.reads name right is.ends,
+      ),
+    ),
+  )
   unread_only Accepted is_report came is_status = absurd (cc)
   unread_only (Hazards count) is_report came is_status = absurd (cc)
   unread_only (Refused refusal) is_report came is_status = absurd (cc)

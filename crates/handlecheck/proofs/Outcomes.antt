@@ -92,8 +92,12 @@ module _ (call : Call) (outcome : Result Source ReadError) (asks : Asks call out
   agrees Accepted (names, is_check, is) = (is.0, read_as names is.0 is_check is.1, is.2, is.3)
   agrees (Hazards count) (names, is_check, is) = (is.0, (is.1.0, read_as names is.1.0 is_check is.1.1, is.1.2, is.1.3))
   agrees (Refused refusal) (names, is_check, inl is) =
-      inl (is.0, refused_as names is.0 is_check is.2
-      (placed_refusal (λ listing. preprocessed listing names) asks.files is.0 (refusal.fault, refusal.pos) is.1), ((refusal.fault, refusal.pos), is.1))
+      inl (
+        is.0,
+        refused_as names is.0 is_check is.2
+            (placed_refusal (λ listing. preprocessed listing names) asks.files is.0 (refusal.fault, refusal.pos) is.1),
+        ((refusal.fault, refusal.pos), is.1),
+      )
   agrees (Refused refusal) (names, is_check, inr is) = inr (is.1.0, read_as names is.1.0 is_check is.1.1, is.1.2)
   agrees Unbuilt (names, is_check, is) = (is.0, read_as names is.0 is_check is.1, is.2, is.3)
   agrees Usage is = no_usage is
