@@ -1,0 +1,182 @@
+-- Layouts: the fields of a struct lie apart, inside it and aligned.
+use Rattle.std.proofs.Common.{◌≡◌, ◌≤◌, ◌<◌, ◌+◌, ◌*◌, ◌%◌, ℕ, zero, suc, Bool, true, false, List, [], ◌∷◌, map, Option, Some, None, refl, ap, sym, if◌then◌else◌, arith}
+use Rattle.std.proofs.lemmas.Bool.Decides.{nat_tests}
+use Rattle.std.specs.Prelude.{slice_get, nat_le}
+use Rattle.hs_types.specs.Layouts.{array_layout, most_bytes, rounded_up, placed, offsets_from, end_from, hold_characters, struct_size, struct_layout}
+use Rattle.hs_types.specs.TypeTables.{TypeTable, IsBody, AreApart, AreInside, AreAligned, HaveLayouts, fields_from, layouts_of, layout_of, body_from, laid, measured, measured_first}
+use Rattle.std.specs.Prelude.{Ok, Err}
+use Rattle.hs_types.specs.declared.body.Measured.{Measured}
+use Rattle.hs_types.specs.declared.body.Member.{Member}
+use Rattle.hs_types.specs.declared.types.TypeEnd.TheVariants as end
+use Rattle.hs_types.specs.declared.body.Body.{Body}
+use Rattle.hs_types.specs.declared.body.Field.{Field}
+use Rattle.hs_types.specs.declared.layout.Layout.{Layout}
+
+size-if : (b : Bool) (size : ℕ) (its layout : Layout) → its.size ≡ size → nat_le size most_bytes ≡ b
+    → (if b then Some its else None) ≡ Some layout → layout.size ≤ most_bytes
+size-if true size its layout is within given = let same : its ≡ layout = cc in rw (← same, is) (grind (arith, nat_tests, within))
+size-if false size its layout is within given = absurd cc
+
+-- the size of an array that is made
+pub array_layout-size : (length : ℕ) (element layout : Layout) → array_layout length element ≡ Some layout → layout.size ≤ most_bytes
+array_layout-size length element layout given =
+    size-if (nat_le (element.size * length) most_bytes) (element.size * length) _ layout refl refl given
+
+pub placed-after : (at : ℕ) (layout : Layout) → at ≤ placed at layout
+placed-after at layout = by-even layout.even where
+  by-even : (b : Bool) → at ≤ (if b then rounded_up at else at)
+  by-even true = omega arith
+  by-even false = omega arith
+
+placed-even : (at : ℕ) (layout : Layout) → layout.even ≡ true → placed at layout % 2 ≡ 0
+placed-even at layout even = rw even (omega arith)
+
+pub end_from-after : (free : ℕ) (members : List Layout) → free ≤ end_from free members
+end_from-after free [] = omega arith
+end_from-after free (member ∷ members) =
+    omega (arith, placed-after free member, end_from-after (placed free member + member.size) members)
+
+-- the offsets of fields that are laid out from there on
+abbrev Laid : ℕ → List Field → Type 0
+Laid free fields = map (λ field. field.offset) fields ≡ offsets_from free (map (λ field. field.layout) fields)
+
+laid-first : (free : ℕ) (field : Field) (fields : List Field) → Laid free (field ∷ fields) → field.offset ≡ placed free field.layout
+laid-first free field fields laid = search laid
+
+laid-rest : (free : ℕ) (field : Field) (fields : List Field) → Laid free (field ∷ fields)
+    → Laid (placed free field.layout + field.layout.size) fields
+laid-rest free field fields laid = search laid
+
+-- each field lies at the first place that is free or after it
+after : (free : ℕ) (fields : List Field) → Laid free fields → (place : ℕ) (field : Field) → slice_get fields place ≡ Some field → free ≤ field.offset
+after free [] laid place field at = absurd cc
+after free (it ∷ fields) laid zero field at =
+    let same : it ≡ field = cc in
+    rw (← same, laid-first free it fields laid) (placed-after free it.layout)
+after free (it ∷ fields) laid (suc place) field at =
+    omega (arith, placed-after free it.layout, after (placed free it.layout + it.layout.size) fields (laid-rest free it fields laid) place field at)
+
+pub apart : (free : ℕ) (fields : List Field) → Laid free fields → AreApart fields
+apart free [] laid place later field other before at at' = absurd cc
+apart free (it ∷ fields) laid zero zero field other before at at' = absurd (omega (arith, before))
+apart free (it ∷ fields) laid zero (suc later) field other before at at' =
+    let same : it ≡ field = cc in
+    rw (← same, laid-first free it fields laid)
+    (after (placed free it.layout + it.layout.size) fields (laid-rest free it fields laid) later other at')
+apart free (it ∷ fields) laid (suc place) zero field other before at at' = absurd (omega (arith, before))
+apart free (it ∷ fields) laid (suc place) (suc later) field other before at at' =
+    apart (placed free it.layout + it.layout.size) fields (laid-rest free it fields laid) place later field other (omega (arith, before)) at at'
+
+aligned : (free : ℕ) (fields : List Field) → Laid free fields → AreAligned fields
+aligned free [] laid place field at even = absurd cc
+aligned free (it ∷ fields) laid zero field at even =
+    let same : it ≡ field = cc in
+    rw (← same, laid-first free it fields laid) (placed-even free it.layout (rw same even))
+aligned free (it ∷ fields) laid (suc place) field at even =
+    aligned (placed free it.layout + it.layout.size) fields (laid-rest free it fields laid) place field at even
+
+inside : (free : ℕ) (fields : List Field) → Laid free fields → (place : ℕ) (field : Field) → slice_get fields place ≡ Some field
+    → field.offset + field.layout.size ≤ end_from free (map (λ it. it.layout) fields)
+inside free [] laid place field at = absurd cc
+inside free (it ∷ fields) laid zero field at =
+    let same : it ≡ field = cc in
+    rw (← same, laid-first free it fields laid)
+    (end_from-after (placed free it.layout + it.layout.size) (map (λ it. it.layout) fields))
+inside free (it ∷ fields) laid (suc place) field at =
+    inside (placed free it.layout + it.layout.size) fields (laid-rest free it fields laid) place field at
+
+-- rounding up only adds
+pub end_from-size : (members : List Layout) → end_from 0 members ≤ struct_size members
+end_from-size members = by-characters (hold_characters members) where
+  by-characters : (b : Bool) → end_from 0 members ≤ (if b then end_from 0 members else rounded_up (end_from 0 members))
+  by-characters true = omega arith
+  by-characters false = omega arith
+
+-- the three laws of the body of a struct
+pub body_apart : (types : TypeTable) (body : Body) → IsBody types body → AreApart body.fields
+body_apart types body is = apart 0 body.fields is.offsets
+
+pub body_inside : (types : TypeTable) (body : Body) → IsBody types body → AreInside body.fields body.layout.size
+body_inside types body is place field at =
+    let whole : body.layout.size ≡ struct_size (map (λ it. it.layout) body.fields) = ap (λ it. it.size) is.layout in
+    rw whole (omega (arith, inside 0 body.fields is.offsets place field at, end_from-size (map (λ it. it.layout) body.fields)))
+
+pub body_aligned : (types : TypeTable) (body : Body) → IsBody types body → AreAligned body.fields
+body_aligned types body is = aligned 0 body.fields is.offsets
+
+-- What is laid out so far, and what is left, are the fields of the struct.
+fields_from-laid : (free : ℕ) (members : List Measured)
+    → map (λ field. field.offset) (fields_from free members) ≡ offsets_from free (map (λ field. field.layout) (fields_from free members))
+fields_from-laid free [] = refl
+fields_from-laid free (member ∷ members) =
+    ap (λ its. placed free member.layout ∷ its) (fields_from-laid (placed free member.layout + member.layout.size) members)
+
+layouts-fields_from : (free : ℕ) (members : List Measured) → map (λ field. field.layout) (fields_from free members) ≡ layouts_of members
+layouts-fields_from free [] = refl
+layouts-fields_from free (member ∷ members) =
+    ap (λ its. member.layout ∷ its) (layouts-fields_from (placed free member.layout + member.layout.size) members)
+
+abbrev first_of_fields : ℕ → Measured → Field
+first_of_fields free member = record { name = member.name; type_id = member.type_id; layout = member.layout; offset = placed free member.layout }
+
+fields_from-types : (types : TypeTable) (free : ℕ) (members : List Measured) → HaveLayouts types members → (place : ℕ) (field : Field)
+    → slice_get (fields_from free members) place ≡ Some field → layout_of types field.type_id ≡ Some field.layout
+fields_from-types types free [] have place field at = absurd cc
+fields_from-types types free (member ∷ members) have zero field at =
+    let same : first_of_fields free member ≡ field = cc in
+    rw (← same) have.0
+fields_from-types types free (member ∷ members) have (suc place) field at =
+    fields_from-types types (placed free member.layout + member.layout.size) members have.1 place field at
+
+is-body : (types : TypeTable) (members : List Measured) → HaveLayouts types members → struct_size (layouts_of members) ≤ most_bytes
+    → IsBody types (body_from members)
+is-body types members have small =
+    record {
+      fields = fields_from-types types 0 members have;
+      offsets = fields_from-laid 0 members;
+      layout = ap struct_layout (sym (layouts-fields_from 0 members));
+      size = small;
+    }
+
+laid-if : (types : TypeTable) (members : List Measured) (body : Body) (b : Bool) → HaveLayouts types members
+    → nat_le (struct_size (layouts_of members)) most_bytes ≡ b → (if b then Ok (body_from members) else Err end.TooLarge) ≡ Ok body
+    → IsBody types body
+laid-if types members body true have small given =
+    let same : body_from members ≡ body = cc in rw (← same) (is-body types members have (grind (arith, nat_tests, small)))
+laid-if types members body false have small given = absurd cc
+
+-- the body of these members is right
+pub laid-is_body : (types : TypeTable) (members : List Measured) (body : Body) → HaveLayouts types members → laid members ≡ Ok body → IsBody types body
+laid-is_body types members body have given =
+    laid-if types members body (nat_le (struct_size (layouts_of members)) most_bytes) have refl given
+
+too-large-if : (members : List Measured) (b : Bool) → nat_le (struct_size (layouts_of members)) most_bytes ≡ b → most_bytes < struct_size (layouts_of members)
+    → (if b then Ok (body_from members) else Err end.TooLarge) ≡ Err end.TooLarge
+too-large-if members true small large = absurd (grind (arith, nat_tests, small, large))
+too-large-if members false small large = refl
+
+-- Members that end past the largest size are refused, whatever comes after them.
+pub laid_too_large : (free : ℕ) (member : Measured) (members all : List Measured)
+    → end_from free (layouts_of (member ∷ members)) ≡ end_from 0 (layouts_of all)
+    → most_bytes < placed free member.layout + member.layout.size → laid all ≡ Err end.TooLarge
+laid_too_large free member members all same past =
+    too-large-if all (nat_le (struct_size (layouts_of all)) most_bytes) refl
+    (omega
+    (arith, past, same, end_from-after (placed free member.layout + member.layout.size) (layouts_of members), end_from-size (layouts_of all)))
+
+abbrev first_measured : Member → Layout → Measured
+first_measured member layout = record { name = member.name; type_id = member.type_id; layout = layout }
+
+-- the members that are measured have the layouts of their types
+have-first : (types : TypeTable) (member : Member) (members : List Measured) (layout : Option Layout) (rest : Option (List Measured))
+    → layout_of types member.type_id ≡ layout → ((its : List Measured) → rest ≡ Some its → HaveLayouts types its)
+    → measured_first member layout rest ≡ Some members → HaveLayouts types members
+have-first types member members None rest is have given = absurd cc
+have-first types member members (Some layout) None is have given = absurd cc
+have-first types member members (Some layout) (Some rest) is have given =
+    let same : first_measured member layout ∷ rest ≡ members = cc in rw (← same) (is, have rest refl)
+
+pub measured_have : (types : TypeTable) (members : List Member) (its : List Measured) → measured types members ≡ Some its → HaveLayouts types its
+measured_have types [] its given = let none : [] ≡ its = cc in rw (← none) tt
+measured_have types (member ∷ members) its given =
+    have-first types member its (layout_of types member.type_id) (measured types members) refl (measured_have types members) given

@@ -1,0 +1,4 @@
+mod Places
+mod Tables
+mod Layouts
+mod Measures

@@ -1,0 +1,238 @@
+-- A table that grows keeps its layouts, and stays right.
+use Rattle.std.proofs.Common.{◌≡◌, ℕ, ◌⊎◌, inl, inr, true, List, [], ◌∷◌, Option, Some, None, refl, ap, sym, ◌∙◌, if◌then◌else◌}
+use Rattle.std.specs.Prelude.{slice_get, is_some, option_map}
+use Rattle.hs_types.specs.Layouts.{word_layout}
+use Rattle.hs_types.specs.TypeTables.{TypeTable, body_in, body_of, constants_in, constants_of, row_of, layout_of_row, layout_in, layout_of, with_row, with_list, with_struct, with_enumeration, with_constants, with_body, awaits_body, FitsRow, IsBody, IsRight, Grows}
+use Rattle.hs_types.specs.declared.body.Body.{Body}
+use Rattle.hs_types.specs.declared.body.Enumerator.{Enumerator}
+use Rattle.hs_types.specs.declared.layout.Layout.{Layout}
+use Rattle.hs_types.specs.declared.row.Parameters.{Parameters}
+use Rattle.hs_types.specs.declared.row.Row.{Row}
+use Rattle.hs_types.specs.declared.row.Row.TheVariants.{Void, Integer, Pointer, Enumeration, Struct, Array, OpenArray, Function}
+use Rattle.hs_types.specs.declared.row.TypeId.{TypeId}
+use Rattle.hs_types.specs.contracts.row.RowPartialEq.TheImpl as row_eq
+use Rattle.hs_types.specs.contracts.row.ParametersPartialEq.TheImpl as parameters_eq
+use Rattle.hs_types.proofs.Places.{slice_get-append-stays, slice_get-append-one, slice_get-insert_key-stays, slice_get-insert_key, slice_get-slice_set, slice_get-slice_set-stays}
+
+-- a table grows from itself
+pub Grows-self : (types : TypeTable) → Grows types types
+Grows-self types =
+    record { rows = λ place row is. is; lists = λ place list is. is; bodies = λ number body is. is; constants = λ number its is. is }
+
+some-if : (its : Option (List Enumerator)) (layout : Layout) → (if is_some its then Some word_layout else None) ≡ Some layout
+    → (constants : List Enumerator) × (its ≡ Some constants) × (word_layout ≡ layout)
+some-if None layout given = absurd cc
+some-if (Some x) layout given = (x, refl, cc)
+
+if-some : (its : Option (List Enumerator)) (constants : List Enumerator) → its ≡ Some constants
+    → (if is_some its then Some word_layout else None) ≡ Some word_layout
+if-some None constants is = absurd cc
+if-some (Some x) constants is = refl
+
+some-body : (its : Option Body) (layout : Layout) → option_map (λ body. body.layout) its ≡ Some layout
+    → (body : Body) × (its ≡ Some body) × (body.layout ≡ layout)
+some-body None layout given = absurd cc
+some-body (Some x) layout given = (x, refl, cc)
+
+-- what is complete stays so, and takes the same
+pub layout_of_row-stays : (old new : TypeTable) (row : Row) (layout : Layout) → Grows old new
+    → layout_of_row old row ≡ Some layout → layout_of_row new row ≡ Some layout
+layout_of_row-stays old new Void layout grows given = absurd cc
+layout_of_row-stays old new (Integer kind) layout grows given = given
+layout_of_row-stays old new (Pointer of) layout grows given = given
+layout_of_row-stays old new (Enumeration number) layout grows given =
+    let had : (constants : List Enumerator) × (constants_of old number ≡ Some constants) × (word_layout ≡ layout)
+    = some-if (constants_of old number) layout given in
+    if-some (constants_of new number) had.0 (grows.constants number had.0 had.1) ∙ ap Some had.2
+layout_of_row-stays old new (Struct number) layout grows given =
+    let had : (body : Body) × (body_of old number ≡ Some body) × (body.layout ≡ layout)
+    = some-body (body_of old number) layout given in
+    ap (option_map (λ body. body.layout)) (grows.bodies number had.0 had.1) ∙ ap Some had.2
+layout_of_row-stays old new (Array of length its) layout grows given = given
+layout_of_row-stays old new (OpenArray of) layout grows given = absurd cc
+layout_of_row-stays old new (Function result parameters) layout grows given = absurd cc
+
+some-row : (old : TypeTable) (its : Option Row) (layout : Layout) → layout_in old its ≡ Some layout
+    → (row : Row) × (its ≡ Some row) × (layout_of_row old row ≡ Some layout)
+some-row old None layout given = absurd cc
+some-row old (Some row) layout given = (row, refl, given)
+
+pub layout_of-stays : (old new : TypeTable) (id : TypeId) (layout : Layout) → Grows old new
+    → layout_of old id ≡ Some layout → layout_of new id ≡ Some layout
+layout_of-stays old new id layout grows given =
+    let had : (row : Row) × (row_of old id ≡ Some row) × (layout_of_row old row ≡ Some layout)
+    = some-row old (row_of old id) layout given in
+    ap (layout_in new) (grows.rows id.number had.0 had.1) ∙ layout_of_row-stays old new had.0 layout grows had.2
+
+pub FitsRow-stays : (old new : TypeTable) (row : Row) → Grows old new → FitsRow old row → FitsRow new row
+FitsRow-stays old new Void grows fits = tt
+FitsRow-stays old new (Integer kind) grows fits = tt
+FitsRow-stays old new (Pointer of) grows fits = tt
+FitsRow-stays old new (Enumeration number) grows fits = tt
+FitsRow-stays old new (Struct number) grows fits = tt
+FitsRow-stays old new (Array of length layout) grows fits = (fits.0, layout_of-stays old new of fits.0 grows fits.1, fits.2)
+FitsRow-stays old new (OpenArray of) grows fits = tt
+FitsRow-stays old new (Function result parameters) grows fits = tt
+
+pub IsBody-stays : (old new : TypeTable) (body : Body) → Grows old new → IsBody old body → IsBody new body
+IsBody-stays old new body grows is =
+    record {
+      fields = λ place field at. layout_of-stays old new field.type_id field.layout grows (is.fields place field at);
+      offsets = is.offsets;
+      layout = is.layout;
+      size = is.size;
+    }
+
+-- with a type more
+pub Grows-with_row : (types : TypeTable) (row : Row) → Grows types (with_row row types)
+Grows-with_row types row =
+    record {
+      rows = λ place it at. slice_get-insert_key-stays (row_eq.ghosts).eq types.rows row place it at;
+      lists = λ place list is. is;
+      bodies = λ number body is. is;
+      constants = λ number its is. is;
+    }
+
+fits-either : (types : TypeTable) (row it : Row) → FitsRow types row → (FitsRow types it) ⊎ (row ≡ it) → FitsRow types it
+fits-either types row it fits (inl old) = old
+fits-either types row it fits (inr new) = rw (← new) fits
+
+either-fits : (types : TypeTable) (row it : Row) (place : ℕ) → IsRight types → (slice_get types.rows place ≡ Some it) ⊎ (row ≡ it)
+    → (FitsRow types it) ⊎ (row ≡ it)
+either-fits types row it place right (inl old) = inl (right.rows place it old)
+either-fits types row it place right (inr new) = inr new
+
+pub IsRight-with_row : (types : TypeTable) (row : Row) → FitsRow types row → IsRight types → IsRight (with_row row types)
+IsRight-with_row types row fits right =
+    record {
+      basic = λ place it at. slice_get-insert_key-stays (row_eq.ghosts).eq types.rows row place it (right.basic place it at);
+      rows = λ place it at. FitsRow-stays types (with_row row types) it (Grows-with_row types row)
+          (fits-either types row it fits
+          (either-fits types row it place right (slice_get-insert_key (row_eq.ghosts).eq types.rows row place it at)));
+      bodies = λ number body at. IsBody-stays types (with_row row types) body (Grows-with_row types row) (right.bodies number body at);
+    }
+
+-- with a list of parameter types more
+pub Grows-with_list : (types : TypeTable) (list : Parameters) → Grows types (with_list list types)
+Grows-with_list types list =
+    record {
+      rows = λ place it at. at;
+      lists = λ place it at. slice_get-insert_key-stays (parameters_eq.ghosts).eq types.lists list place it at;
+      bodies = λ number body is. is;
+      constants = λ number its is. is;
+    }
+
+-- a table with the same rows and structs that grew
+pub IsRight-same : (old new : TypeTable) → Grows old new → new.rows ≡ old.rows → new.structs ≡ old.structs → IsRight old → IsRight new
+IsRight-same old new grows rows structs right =
+    record {
+      basic = λ place it at. grows.rows place it (right.basic place it at);
+      rows = λ place it at. FitsRow-stays old new it grows (right.rows place it (sym (ap (λ its. slice_get its place) rows) ∙ at));
+      bodies = λ number body at. IsBody-stays old new body grows (right.bodies number body (sym (ap (λ its. slice_get its number) structs) ∙ at));
+    }
+
+pub IsRight-with_list : (types : TypeTable) (list : Parameters) → IsRight types → IsRight (with_list list types)
+IsRight-with_list types list right = IsRight-same types (with_list list types) (Grows-with_list types list) refl refl right
+
+-- with a struct more, whose body comes later
+body-before : (its : Option (Option Body)) (body : Body) → body_in its ≡ Some body → its ≡ Some (Some body)
+body-before None body is = absurd cc
+body-before (Some it) body is = ap Some is
+
+constants-before : (its : Option (Option (List Enumerator))) (constants : List Enumerator) → constants_in its ≡ Some constants → its ≡ Some (Some constants)
+constants-before None constants is = absurd cc
+constants-before (Some it) constants is = ap Some is
+
+pub Grows-with_struct : (types : TypeTable) → Grows types (with_struct types)
+Grows-with_struct types =
+    record {
+      rows = λ place row is. is;
+      lists = λ place list is. is;
+      bodies = λ number body is. ap body_in
+          (slice_get-append-stays types.structs (None ∷ []) number (Some body) (body-before (slice_get types.structs number) body is));
+      constants = λ number its is. is;
+    }
+
+body-either : {body : Body} → (None ≡ Some body) → ⊥
+body-either is = cc
+
+old-body : (types : TypeTable) (number : ℕ) (body : Body) → (slice_get types.structs number ≡ Some (Some body)) ⊎ (None ≡ Some body)
+    → slice_get types.structs number ≡ Some (Some body)
+old-body types number body (inl at) = at
+old-body types number body (inr is) = absurd (body-either is)
+
+pub IsRight-with_struct : (types : TypeTable) → IsRight types → IsRight (with_struct types)
+IsRight-with_struct types right =
+    record {
+      basic = right.basic;
+      rows = λ place row at. FitsRow-stays types (with_struct types) row (Grows-with_struct types) (right.rows place row at);
+      bodies = λ number body at. IsBody-stays types (with_struct types) body (Grows-with_struct types)
+          (right.bodies number body (old-body types number body (slice_get-append-one types.structs None number (Some body) at)));
+    }
+
+-- with an enumeration more
+pub Grows-with_enumeration : (types : TypeTable) → Grows types (with_enumeration types)
+Grows-with_enumeration types =
+    record {
+      rows = λ place row is. is;
+      lists = λ place list is. is;
+      bodies = λ number body is. is;
+      constants = λ number its is. ap constants_in
+          (slice_get-append-stays types.enumerations (None ∷ []) number (Some its) (constants-before (slice_get types.enumerations number) its is));
+    }
+
+pub IsRight-with_enumeration : (types : TypeTable) → IsRight types → IsRight (with_enumeration types)
+IsRight-with_enumeration types right = IsRight-same types (with_enumeration types) (Grows-with_enumeration types) refl refl right
+
+-- with the constants of an enumeration that had none
+pub Grows-with_constants : (types : TypeTable) (number : ℕ) (constants : List Enumerator) → slice_get types.enumerations number ≡ Some None
+    → Grows types (with_constants number constants types)
+Grows-with_constants types number constants incomplete =
+    record {
+      rows = λ place row is. is;
+      lists = λ place list is. is;
+      bodies = λ other body is. is;
+      constants = λ other its is. ap constants_in
+          (slice_get-slice_set-stays types.enumerations number None (Some constants) other (Some its) incomplete (λ same. cc)
+          (constants-before (slice_get types.enumerations other) its is));
+    }
+
+pub IsRight-with_constants : (types : TypeTable) (number : ℕ) (constants : List Enumerator) → slice_get types.enumerations number ≡ Some None
+    → IsRight types → IsRight (with_constants number constants types)
+IsRight-with_constants types number constants incomplete right =
+    IsRight-same types (with_constants number constants types) (Grows-with_constants types number constants incomplete) refl refl right
+
+-- with the body of a struct that had none
+pub Grows-with_body : (types : TypeTable) (number : ℕ) (body : Body) → slice_get types.structs number ≡ Some None
+    → Grows types (with_body number body types)
+Grows-with_body types number body incomplete =
+    record {
+      rows = λ place row is. is;
+      lists = λ place list is. is;
+      bodies = λ other its is. ap body_in
+          (slice_get-slice_set-stays types.structs number None (Some body) other (Some its) incomplete (λ same. cc)
+          (body-before (slice_get types.structs other) its is));
+      constants = λ number its is. is;
+    }
+
+body-of-either : (types : TypeTable) (body it : Body) (number : ℕ) → IsRight types → IsBody types body
+    → (slice_get types.structs number ≡ Some (Some it)) ⊎ (Some body ≡ Some it) → IsBody types it
+body-of-either types body it number right is (inl at) = right.bodies number it at
+body-of-either types body it number right is (inr new) = let same : body ≡ it = cc in rw (← same) is
+
+pub IsRight-with_body : (types : TypeTable) (number : ℕ) (body : Body) → slice_get types.structs number ≡ Some None → IsBody types body
+    → IsRight types → IsRight (with_body number body types)
+IsRight-with_body types number body incomplete is right =
+    record {
+      basic = right.basic;
+      rows = λ place row at. FitsRow-stays types (with_body number body types) row (Grows-with_body types number body incomplete)
+          (right.rows place row at);
+      bodies = λ other it at. IsBody-stays types (with_body number body types) it (Grows-with_body types number body incomplete)
+          (body-of-either types body it other right is (slice_get-slice_set types.structs number (Some body) other (Some it) at));
+    }
+
+-- what waits for its body has none yet
+pub awaits-none : {A : Type 0} → (its : Option (Option A)) → awaits_body its ≡ true → its ≡ Some None
+awaits-none None awaits = absurd cc
+awaits-none (Some None) awaits = refl
+awaits-none (Some (Some it)) awaits = absurd cc

@@ -1,0 +1,5 @@
+pub mod Integers
+pub mod Layouts
+pub mod Refusals
+pub mod Rows
+pub mod TypeTables
