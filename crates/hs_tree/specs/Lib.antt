@@ -1,1 +1,11 @@
+pub mod Classes
+pub mod Fitting
+pub mod Inside
+pub mod Kinds
+pub mod Objects
+pub mod Roles
+pub mod RowLaws
+pub mod Samples
 pub mod Straight
+pub mod Trees
+pub mod Views

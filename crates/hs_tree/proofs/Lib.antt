@@ -1,0 +1,2 @@
+mod Mains
+mod Rows
