@@ -13,75 +13,7 @@ use Rattle.hs_types.specs.declared.row.TypeId.{TypeId}
 use Rattle.hs_types.specs.contracts.row.RowPartialEq.TheImpl as row_eq
 use Rattle.hs_types.specs.contracts.row.ParametersPartialEq.TheImpl as parameters_eq
 use Rattle.hs_types.proofs.Places.{slice_get-append-stays, slice_get-append-one, slice_get-insert_key-stays, slice_get-insert_key, slice_get-slice_set, slice_get-slice_set-stays}
-
--- a table grows from itself
-pub Grows-self : (types : TypeTable) → Grows types types
-Grows-self types =
-    record { rows = λ place row is. is; lists = λ place list is. is; bodies = λ number body is. is; constants = λ number its is. is }
-
-some-if : (its : Option (List Enumerator)) (layout : Layout) → (if is_some its then Some word_layout else None) ≡ Some layout
-    → (constants : List Enumerator) × (its ≡ Some constants) × (word_layout ≡ layout)
-some-if None layout given = absurd cc
-some-if (Some x) layout given = (x, refl, cc)
-
-if-some : (its : Option (List Enumerator)) (constants : List Enumerator) → its ≡ Some constants
-    → (if is_some its then Some word_layout else None) ≡ Some word_layout
-if-some None constants is = absurd cc
-if-some (Some x) constants is = refl
-
-some-body : (its : Option Body) (layout : Layout) → option_map (λ body. body.layout) its ≡ Some layout
-    → (body : Body) × (its ≡ Some body) × (body.layout ≡ layout)
-some-body None layout given = absurd cc
-some-body (Some x) layout given = (x, refl, cc)
-
--- what is complete stays so, and takes the same
-pub layout_of_row-stays : (old new : TypeTable) (row : Row) (layout : Layout) → Grows old new
-    → layout_of_row old row ≡ Some layout → layout_of_row new row ≡ Some layout
-layout_of_row-stays old new Void layout grows given = absurd cc
-layout_of_row-stays old new (Integer kind) layout grows given = given
-layout_of_row-stays old new (Pointer of) layout grows given = given
-layout_of_row-stays old new (Enumeration number) layout grows given =
-    let had : (constants : List Enumerator) × (constants_of old number ≡ Some constants) × (word_layout ≡ layout)
-    = some-if (constants_of old number) layout given in
-    if-some (constants_of new number) had.0 (grows.constants number had.0 had.1) ∙ ap Some had.2
-layout_of_row-stays old new (Struct number) layout grows given =
-    let had : (body : Body) × (body_of old number ≡ Some body) × (body.layout ≡ layout)
-    = some-body (body_of old number) layout given in
-    ap (option_map (λ body. body.layout)) (grows.bodies number had.0 had.1) ∙ ap Some had.2
-layout_of_row-stays old new (Array of length its) layout grows given = given
-layout_of_row-stays old new (OpenArray of) layout grows given = absurd cc
-layout_of_row-stays old new (Function result parameters) layout grows given = absurd cc
-
-some-row : (old : TypeTable) (its : Option Row) (layout : Layout) → layout_in old its ≡ Some layout
-    → (row : Row) × (its ≡ Some row) × (layout_of_row old row ≡ Some layout)
-some-row old None layout given = absurd cc
-some-row old (Some row) layout given = (row, refl, given)
-
-pub layout_of-stays : (old new : TypeTable) (id : TypeId) (layout : Layout) → Grows old new
-    → layout_of old id ≡ Some layout → layout_of new id ≡ Some layout
-layout_of-stays old new id layout grows given =
-    let had : (row : Row) × (row_of old id ≡ Some row) × (layout_of_row old row ≡ Some layout)
-    = some-row old (row_of old id) layout given in
-    ap (layout_in new) (grows.rows id.number had.0 had.1) ∙ layout_of_row-stays old new had.0 layout grows had.2
-
-pub FitsRow-stays : (old new : TypeTable) (row : Row) → Grows old new → FitsRow old row → FitsRow new row
-FitsRow-stays old new Void grows fits = tt
-FitsRow-stays old new (Integer kind) grows fits = tt
-FitsRow-stays old new (Pointer of) grows fits = tt
-FitsRow-stays old new (Enumeration number) grows fits = tt
-FitsRow-stays old new (Struct number) grows fits = tt
-FitsRow-stays old new (Array of length layout) grows fits = (fits.0, layout_of-stays old new of fits.0 grows fits.1, fits.2)
-FitsRow-stays old new (OpenArray of) grows fits = tt
-FitsRow-stays old new (Function result parameters) grows fits = tt
-
-pub IsBody-stays : (old new : TypeTable) (body : Body) → Grows old new → IsBody old body → IsBody new body
-IsBody-stays old new body grows is =
-    record {
-      fields = λ place field at. layout_of-stays old new field.type_id field.layout grows (is.fields place field at);
-      offsets = is.offsets;
-      layout = is.layout;
-      size = is.size;
-    }
+use Rattle.hs_types.specs.Growing.{layout_stays, fits_row_stays, is_body_stays}
 
 -- with a type more
 pub Grows-with_row : (types : TypeTable) (row : Row) → Grows types (with_row row types)
@@ -106,10 +38,10 @@ pub IsRight-with_row : (types : TypeTable) (row : Row) → FitsRow types row →
 IsRight-with_row types row fits right =
     record {
       basic = λ place it at. slice_get-insert_key-stays (row_eq.ghosts).eq types.rows row place it (right.basic place it at);
-      rows = λ place it at. FitsRow-stays types (with_row row types) it (Grows-with_row types row)
+      rows = λ place it at. fits_row_stays types (with_row row types) it (Grows-with_row types row)
           (fits-either types row it fits
           (either-fits types row it place right (slice_get-insert_key (row_eq.ghosts).eq types.rows row place it at)));
-      bodies = λ number body at. IsBody-stays types (with_row row types) body (Grows-with_row types row) (right.bodies number body at);
+      bodies = λ number body at. is_body_stays types (with_row row types) body (Grows-with_row types row) (right.bodies number body at);
     }
 
 -- with a list of parameter types more
@@ -127,8 +59,8 @@ pub IsRight-same : (old new : TypeTable) → Grows old new → new.rows ≡ old.
 IsRight-same old new grows rows structs right =
     record {
       basic = λ place it at. grows.rows place it (right.basic place it at);
-      rows = λ place it at. FitsRow-stays old new it grows (right.rows place it (sym (ap (λ its. slice_get its place) rows) ∙ at));
-      bodies = λ number body at. IsBody-stays old new body grows (right.bodies number body (sym (ap (λ its. slice_get its number) structs) ∙ at));
+      rows = λ place it at. fits_row_stays old new it grows (right.rows place it (sym (ap (λ its. slice_get its place) rows) ∙ at));
+      bodies = λ number body at. is_body_stays old new body grows (right.bodies number body (sym (ap (λ its. slice_get its number) structs) ∙ at));
     }
 
 pub IsRight-with_list : (types : TypeTable) (list : Parameters) → IsRight types → IsRight (with_list list types)
@@ -165,8 +97,8 @@ pub IsRight-with_struct : (types : TypeTable) → IsRight types → IsRight (wit
 IsRight-with_struct types right =
     record {
       basic = right.basic;
-      rows = λ place row at. FitsRow-stays types (with_struct types) row (Grows-with_struct types) (right.rows place row at);
-      bodies = λ number body at. IsBody-stays types (with_struct types) body (Grows-with_struct types)
+      rows = λ place row at. fits_row_stays types (with_struct types) row (Grows-with_struct types) (right.rows place row at);
+      bodies = λ number body at. is_body_stays types (with_struct types) body (Grows-with_struct types)
           (right.bodies number body (old-body types number body (slice_get-append-one types.structs None number (Some body) at)));
     }
 
@@ -225,9 +157,9 @@ pub IsRight-with_body : (types : TypeTable) (number : ℕ) (body : Body) → sli
 IsRight-with_body types number body incomplete is right =
     record {
       basic = right.basic;
-      rows = λ place row at. FitsRow-stays types (with_body number body types) row (Grows-with_body types number body incomplete)
+      rows = λ place row at. fits_row_stays types (with_body number body types) row (Grows-with_body types number body incomplete)
           (right.rows place row at);
-      bodies = λ other it at. IsBody-stays types (with_body number body types) it (Grows-with_body types number body incomplete)
+      bodies = λ other it at. is_body_stays types (with_body number body types) it (Grows-with_body types number body incomplete)
           (body-of-either types body it other right is (slice_get-slice_set types.structs number (Some body) other (Some it) at));
     }
 

@@ -1,18 +1,9 @@
 -- The names that a straight program may declare: identifiers (X3.159-1989 3.1.2) that are no keyword (3.1.1), not
 -- `pascal` (a keyword of the Macintosh's compilers), not `main`, and no routine of the prelude.
-use Rattle.std.specs.Prelude.{ℕ, Bool, false, not, ◌&&◌, List, [], ◌∷◌, codes}
-use Rattle.std.specs.List.{list_any, list_all}
+use Rattle.std.specs.Prelude.{ℕ, Bool, not, ◌&&◌, List, [], ◌∷◌, codes}
+use Rattle.std.specs.List.{list_any}
 use Rattle.std.specs.Str.{bytes_eq}
-use Rattle.hs_base.specs.Text.{is_letter, is_word_byte}
-
--- the first byte is a letter
-abbrev pub begins_with_letter : List ℕ → Bool
-begins_with_letter [] = false
-begins_with_letter (byte ∷ rest) = is_letter byte
-
--- C 3.1.2
-abbrev pub is_identifier : List ℕ → Bool
-is_identifier text = begins_with_letter text && list_all is_word_byte text
+pub use Rattle.hs_table.specs.Tables.{begins_with_letter, is_identifier}
 
 -- what no variable is named
 unfoldable pub reserved : List (List ℕ)
