@@ -6,13 +6,14 @@ use Rattle.hs_tree.specs.Views.{view_function}
 use Rattle.hs_tree.specs.declared.function.Function.{Function}
 use Rattle.hs_types.specs.TypeTables.{TypeTable}
 
--- where there is none, nothing is `main`
+-- a number without a function is not that of `main`
 pub main-some : (types : TypeTable) (functions : List Function) (place : ℕ) → IsMainOf types (slice_get (map view_function functions) place)
     → slice_get functions place ≡ None → ⊥
 main-some types [] place is none = is
 main-some types (function ∷ functions) zero is none = cc
 main-some types (function ∷ functions) (suc place) is none = main-some types functions place is none
 
+-- and the one that is found is `main`
 pub main-is : (types : TypeTable) (functions : List Function) (place : ℕ) (function : Function)
     → IsMainOf types (slice_get (map view_function functions) place) → slice_get functions place ≡ Some function
     → IsMain types (view_function function)

@@ -64,7 +64,7 @@ smallest at =
       main = (refl, refl, refl);
     }
 
--- `int main(void) { return 0; }` that returns a char is none
+-- A `return` of a `char` without a conversion is refused.
 converted_result : (at : Place)
     → Fits (program_with at (integer_id kind.Int) [] (one (tree.return_ at (Some (tree.number (head at (integer_id kind.Char)) 0))))) → ⊥
 converted_result at fits = let same : integer_id kind.Char ≡ integer_id kind.Int = fits.statements.0.1.0.1 in cc

@@ -17,6 +17,7 @@ use Rattle.hs_types.specs.declared.row.FieldId.{FieldId}
 abbrev pub same_field : FieldId → FieldId → Bool
 same_field = (field_eq.ghosts).eq
 
+-- the program takes the address of the field
 abbrev pub is_taken : List FieldId → FieldId → Bool
 is_taken taken field = list_any (same_field field) taken
 
@@ -29,6 +30,7 @@ class_of_pointer taken (tree.literal head number) = Pointer head.type_id
 class_of_pointer taken (tree.target head pointer) = Pointer head.type_id
 class_of_pointer taken (tree.element head size pointer_first left right) = Pointer head.type_id
 
+-- an lvalue of another type has no class
 abbrev pub class_of : TypeTable → List FieldId → LeftValue → Option Class
 class_of types taken object =
     if is_pointer types (type_of_left object) then Some (class_of_pointer taken object) else None

@@ -1,5 +1,10 @@
 -- What a typed program keeps, apart from its shape: `Fits`, one fact a line. The facts of one expression go by its form. An
 -- expression is `right` or `left` (`Inside.antt`), and stands in a function, whose variables it names.
+--     InRange, HasOperands, HasResult, NamesField     facts of one expression
+--     FitsFunction, FitsRoutine, IsMarked             facts of one call, and of one address that is taken
+--     FitsPhrase, may_stand                           facts of one statement or declaration, and where statements may stand
+--     HasRole, FitsDefinition, IsMain                 facts of routines and functions
+--     EachNode program holds, EachPhrase              a fact of each expression, and of each statement and declaration
 use Rattle.std.specs.Prelude.{◌≡◌, ◌≤◌, ◌<◌, ℕ, Bool, true, false, List, [], ◌∷◌, length, take, slice_get, Option, Some, None, IsTrue, is_some, codes, not, ◌&&◌, ◌||◌}
 use Rattle.std.specs.List.{AllByRecursion}
 use Rattle.hs_table.specs.declared.routine.Routine.{Routine}
@@ -28,11 +33,12 @@ use Rattle.hs_types.specs.declared.row.TypeId.{TypeId}
 use Rattle.hs_tree.specs.Inside.{Node, right, left, Phrase, of_statement, of_declaration, EachRight, EachBlock, EachExpression, IfAny}
 use Rattle.hs_tree.specs.Objects.{IsField, number_in, FitsStart, FitsGlobal}
 
--- the variable of that name in a function
+-- the variable of an object of static storage duration
 abbrev pub variable_of_global : Option Global → Option VariableDecl
 variable_of_global None = None
 variable_of_global (Some it) = Some it.variable
 
+-- a global by its place in the program, a local by its place in the function
 abbrev pub declared : TypedProgram → TypedFunction → Variable → Option VariableDecl
 declared program function (name.Global place) = variable_of_global (slice_get program.globals place)
 declared program function (name.Local place) = slice_get function.variables place
@@ -125,6 +131,7 @@ abbrev pub type_in : Option VariableDecl → Option TypeId
 type_in None = None
 type_in (Some it) = Some it.type_id
 
+-- how many bytes a literal has
 abbrev pub size_of_bytes : Option (List ℕ) → Option ℕ
 size_of_bytes None = None
 size_of_bytes (Some bytes) = Some (length bytes)
@@ -191,6 +198,7 @@ FitParameters [] (tree.more_values e rest) = ⊥
 FitParameters (id ∷ ids) tree.no_values = ⊥
 FitParameters (id ∷ ids) (tree.more_values e rest) = (type_of e ≡ id) × FitParameters ids rest
 
+-- the types of variables
 abbrev pub types_of : List VariableDecl → List TypeId
 types_of [] = []
 types_of (variable ∷ variables) = variable.type_id ∷ types_of variables
@@ -205,6 +213,7 @@ FitsCalled None arguments id = ⊥
 FitsCalled (Some called) arguments id =
     FitsSignature (types_of (take called.parameters called.variables)) called.result arguments id
 
+-- the called function, by its number
 abbrev pub FitsFunction : TypedProgram → Node → Type 0
 FitsFunction program (right (tree.call head number routine arguments)) =
     FitsCalled (slice_get program.functions number) arguments head.type_id
@@ -215,10 +224,12 @@ abbrev pub FitsPrototype : Option Prototype → RightValues → TypeId → Type 
 FitsPrototype None arguments id = ⊥
 FitsPrototype (Some prototype) arguments id = FitsSignature prototype.parameters prototype.result arguments id
 
+-- how a routine is declared, if it is called
 abbrev pub prototype_in : Option BoundRoutine → Option Prototype
 prototype_in None = None
 prototype_in (Some it) = it.prototype
 
+-- the called routine, by its number
 abbrev pub FitsRoutine : TypedProgram → Node → Type 0
 FitsRoutine program (right (tree.call_routine head number arguments)) =
     FitsPrototype (prototype_in (slice_get program.routines number)) arguments head.type_id
@@ -229,9 +240,11 @@ abbrev pub HasRoleAs : TypeTable → Routine → Option Prototype → Type 0
 HasRoleAs types routine None = Unit {0}
 HasRoleAs types routine (Some prototype) = FitsRole types routine prototype
 
+-- of each routine
 abbrev pub HasRole : TypeTable → BoundRoutine → Type 0
 HasRole types it = HasRoleAs types it.routine it.prototype
 
+-- the variable is marked
 abbrev pub is_taken_variable : Option VariableDecl → Bool
 is_taken_variable None = false
 is_taken_variable (Some it) = it.taken
@@ -249,6 +262,7 @@ abbrev pub IsPromotedKind : Option Integer → Type 0
 IsPromotedKind None = ⊥
 IsPromotedKind (Some its) = promoted its ≡ its
 
+-- by the kind of its numbers
 abbrev pub IsPromoted : TypeTable → TypeId → Type 0
 IsPromoted types id = IsPromotedKind (number_kind types id)
 
@@ -257,10 +271,12 @@ abbrev pub FitsReturn : TypedProgram → TypedFunction → Option RightValue →
 FitsReturn program function None = Unit {0}
 FitsReturn program function (Some e) = IsReadable program.types function.result × (type_of e ≡ function.result)
 
+-- the variable that is named starts with a value of its type
 abbrev pub FitsVariable : TypedProgram → Option VariableDecl → Starting → Type 0
 FitsVariable program None start = ⊥
 FitsVariable program (Some it) start = FitsStart program it.type_id start
 
+-- a variable of the function
 abbrev pub FitsItem : TypedProgram → TypedFunction → TypedItem → Type 0
 FitsItem program function item = FitsVariable program (slice_get function.variables item.variable) item.start
 
@@ -280,6 +296,7 @@ FitsPhrase program function (of_statement (tree.continue_ at)) = Unit {0}
 FitsPhrase program function (of_statement (tree.return_ at e)) = FitsReturn program function e
 FitsPhrase program function (of_declaration it) = AllByRecursion (FitsItem program function) it.items
 
+-- no labels
 abbrev pub is_empty : List Label → Bool
 is_empty [] = true
 is_empty (label ∷ labels) = false
@@ -322,6 +339,7 @@ abbrev pub IsMain : TypeTable → TypedFunction → Type 0
 IsMain types function =
     (function.name ≡ codes "main") × (function.parameters ≡ 0) × IsTrue (is_number types function.result || is_void types function.result)
 
+-- the function of that number is there
 abbrev pub IsMainOf : TypeTable → Option TypedFunction → Type 0
 IsMainOf types None = ⊥
 IsMainOf types (Some function) = IsMain types function

@@ -23,6 +23,7 @@ kind_of_row (Some (row.Array of length layout)) = None
 kind_of_row (Some (row.OpenArray of)) = None
 kind_of_row (Some (row.Function result parameters)) = None
 
+-- of a type, by its number
 abbrev pub number_kind : TypeTable → TypeId → Option Integer
 number_kind types id = kind_of_row (row_of types id)
 
@@ -38,6 +39,7 @@ pointed_of_row (Some (row.Array of length layout)) = None
 pointed_of_row (Some (row.OpenArray of)) = None
 pointed_of_row (Some (row.Function result parameters)) = None
 
+-- of a type
 abbrev pub pointed : TypeTable → TypeId → Option TypeId
 pointed types id = pointed_of_row (row_of types id)
 
@@ -53,6 +55,7 @@ element_of_row (Some (row.Array of length layout)) = Some of
 element_of_row (Some (row.OpenArray of)) = Some of
 element_of_row (Some (row.Function result parameters)) = None
 
+-- of a type
 abbrev pub element : TypeTable → TypeId → Option TypeId
 element types id = element_of_row (row_of types id)
 
@@ -68,6 +71,7 @@ length_of_row (Some (row.Array of length layout)) = Some length
 length_of_row (Some (row.OpenArray of)) = None
 length_of_row (Some (row.Function result parameters)) = None
 
+-- of a type
 abbrev pub array_length : TypeTable → TypeId → Option ℕ
 array_length types id = length_of_row (row_of types id)
 
@@ -98,13 +102,16 @@ abbrev pub size_in : Option Layout → Option ℕ
 size_in None = None
 size_in (Some layout) = Some layout.size
 
+-- if there is a type
 abbrev pub size_at : TypeTable → Option TypeId → Option ℕ
 size_at types None = None
 size_at types (Some of) = size_in (layout_of types of)
 
+-- integers and enumerations
 abbrev pub is_number : TypeTable → TypeId → Bool
 is_number types id = is_some (number_kind types id)
 
+-- pointers
 abbrev pub is_pointer : TypeTable → TypeId → Bool
 is_pointer types id = is_some (pointed types id)
 
@@ -112,6 +119,7 @@ is_pointer types id = is_some (pointed types id)
 abbrev pub is_scalar : TypeTable → TypeId → Bool
 is_scalar types id = is_number types id || is_pointer types id
 
+-- void
 abbrev pub is_void : TypeTable → TypeId → Bool
 is_void types id = is_void_row (row_of types id)
 
@@ -126,6 +134,7 @@ IsNumber types kind id = number_kind types id ≡ Some kind
 abbrev pub IsAnyNumber : TypeTable → TypeId → Type 0
 IsAnyNumber types id = IsTrue (is_number types id)
 
+-- the same tests as facts
 abbrev pub IsPointer : TypeTable → TypeId → Type 0
 IsPointer types id = IsTrue (is_pointer types id)
 

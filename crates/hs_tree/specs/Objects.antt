@@ -29,6 +29,7 @@ abbrev pub field_in : Option Body → ℕ → Option Field
 field_in None place = None
 field_in (Some body) place = slice_get body.fields place
 
+-- by its struct and its place
 abbrev pub field_of : TypeTable → FieldId → Option Field
 field_of types field = field_in (body_of types field.of) field.place
 
@@ -37,6 +38,7 @@ abbrev pub IsFieldOf : Option Field → ℕ → TypeId → Type 0
 IsFieldOf None offset id = ⊥
 IsFieldOf (Some its) offset id = (its.offset ≡ offset) × (its.type_id ≡ id)
 
+-- of a struct whose body has come
 abbrev pub IsField : TypeTable → FieldId → ℕ → TypeId → Type 0
 IsField types field offset id = IsFieldOf (field_of types field) offset id
 
@@ -68,6 +70,7 @@ IsConstant program id (constant.Number bits) = number_in bits (number_kind progr
 IsConstant program id constant.Nil = IsPointer program.types id
 IsConstant program id (constant.Address its offset) = IsPointer program.types id × IsBase program its
 
+-- a constant for a scalar of an object of that type
 abbrev pub FitsPart : TypedProgram → TypeId → Part → Type 0
 FitsPart program id part = IsScalarAt program.types id part.offset part.type_id part.field × IsConstant program part.type_id part.value
 
@@ -77,6 +80,7 @@ offsets_ascend [] = true
 offsets_ascend (part ∷ []) = true
 offsets_ascend (part ∷ next ∷ parts) = nat_lt part.offset next.offset && offsets_ascend (next ∷ parts)
 
+-- all of them
 abbrev pub FitsParts : TypedProgram → TypeId → List Part → Type 0
 FitsParts program id parts = AllByRecursion (FitsPart program id) parts × IsTrue (offsets_ascend parts)
 

@@ -30,6 +30,7 @@ pub enum Constant {
 pub struct Part {
     /// The byte of the object at which the scalar lies.
     pub offset: u32,
+    /// Its type.
     pub type_id: TypeId,
     /// The field that the scalar is, if it is one.
     pub field: Option<FieldId>,

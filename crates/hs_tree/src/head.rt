@@ -11,6 +11,7 @@ use hs_types::{Row, TypeId, Types};
 #[derive(Clone, Copy, Debug, PartialEq, Eq)]
 pub struct Head {
     pub at: Place,
+    /// Its type.
     pub type_id: TypeId,
 }
 
@@ -29,6 +30,7 @@ pub struct VariableDecl {
     pub name: Bytes,
     /// The place of its name where it was declared first.
     pub at: Place,
+    /// Its type.
     pub type_id: TypeId,
     /// Whether the program takes its address somewhere.
     pub taken: bool,

@@ -12,25 +12,18 @@ use Rattle.hs_types.specs.declared.body.Body.{Body}
 use Rattle.hs_types.specs.declared.body.Field.{Field}
 use Rattle.hs_types.specs.declared.layout.Layout.{Layout}
 
-size-if : (b : Bool) (size : ℕ) (its layout : Layout) → its.size ≡ size → nat_le size most_bytes ≡ b
-    → (if b then Some its else None) ≡ Some layout → layout.size ≤ most_bytes
-size-if true size its layout is within given = let same : its ≡ layout = cc in rw (← same, is) (grind (arith, nat_tests, within))
-size-if false size its layout is within given = absurd cc
-
--- the size of an array that is made
-pub array_layout-size : (length : ℕ) (element layout : Layout) → array_layout length element ≡ Some layout → layout.size ≤ most_bytes
-array_layout-size length element layout given =
-    size-if (nat_le (element.size * length) most_bytes) (element.size * length) _ layout refl refl given
-
+-- the first place that the alignment allows is not before the free one
 pub placed-after : (at : ℕ) (layout : Layout) → at ≤ placed at layout
 placed-after at layout = by-even layout.even where
   by-even : (b : Bool) → at ≤ (if b then rounded_up at else at)
   by-even true = omega arith
   by-even false = omega arith
 
+-- an even place
 placed-even : (at : ℕ) (layout : Layout) → layout.even ≡ true → placed at layout % 2 ≡ 0
 placed-even at layout even = rw even (omega arith)
 
+-- members only take more
 pub end_from-after : (free : ℕ) (members : List Layout) → free ≤ end_from free members
 end_from-after free [] = omega arith
 end_from-after free (member ∷ members) =
@@ -56,6 +49,7 @@ after free (it ∷ fields) laid zero field at =
 after free (it ∷ fields) laid (suc place) field at =
     omega (arith, placed-after free it.layout, after (placed free it.layout + it.layout.size) fields (laid-rest free it fields laid) place field at)
 
+-- the fields end before the next ones begin
 pub apart : (free : ℕ) (fields : List Field) → Laid free fields → AreApart fields
 apart free [] laid place later field other before at at' = absurd cc
 apart free (it ∷ fields) laid zero zero field other before at at' = absurd (omega (arith, before))
@@ -67,6 +61,7 @@ apart free (it ∷ fields) laid (suc place) zero field other before at at' = abs
 apart free (it ∷ fields) laid (suc place) (suc later) field other before at at' =
     apart (placed free it.layout + it.layout.size) fields (laid-rest free it fields laid) place later field other (omega (arith, before)) at at'
 
+-- a field that is to be aligned lies at an even byte
 aligned : (free : ℕ) (fields : List Field) → Laid free fields → AreAligned fields
 aligned free [] laid place field at even = absurd cc
 aligned free (it ∷ fields) laid zero field at even =
@@ -75,6 +70,7 @@ aligned free (it ∷ fields) laid zero field at even =
 aligned free (it ∷ fields) laid (suc place) field at even =
     aligned (placed free it.layout + it.layout.size) fields (laid-rest free it fields laid) place field at even
 
+-- each field ends before the last one does, or with it
 inside : (free : ℕ) (fields : List Field) → Laid free fields → (place : ℕ) (field : Field) → slice_get fields place ≡ Some field
     → field.offset + field.layout.size ≤ end_from free (map (λ it. it.layout) fields)
 inside free [] laid place field at = absurd cc
@@ -96,11 +92,13 @@ end_from-size members = by-characters (hold_characters members) where
 pub body_apart : (types : TypeTable) (body : Body) → IsBody types body → AreApart body.fields
 body_apart types body is = apart 0 body.fields is.offsets
 
+-- inside it
 pub body_inside : (types : TypeTable) (body : Body) → IsBody types body → AreInside body.fields body.layout.size
 body_inside types body is place field at =
     let whole : body.layout.size ≡ struct_size (map (λ it. it.layout) body.fields) = ap (λ it. it.size) is.layout in
     rw whole (omega (arith, inside 0 body.fields is.offsets place field at, end_from-size (map (λ it. it.layout) body.fields)))
 
+-- and aligned
 pub body_aligned : (types : TypeTable) (body : Body) → IsBody types body → AreAligned body.fields
 body_aligned types body is = aligned 0 body.fields is.offsets
 

@@ -9,6 +9,7 @@ use Rattle.std.specs.Prelude.{ℕ, ◌+◌, ◌-◌, ◌/◌, ◌%◌, nat_lt, B
 use Rattle.hs_types.specs.declared.integer.Integer.{Integer}
 use Rattle.hs_types.specs.declared.integer.Integer.TheVariants.{Char, SignedChar, UnsignedChar, Short, UnsignedShort, Int, UnsignedInt, Long, UnsignedLong}
 
+-- char 1, short 2, the others 4
 abbrev pub integer_size : Integer → ℕ
 integer_size Char = 1
 integer_size SignedChar = 1
@@ -20,6 +21,7 @@ integer_size UnsignedInt = 4
 integer_size Long = 4
 integer_size UnsignedLong = 4
 
+-- the unsigned types have none
 abbrev pub is_signed : Integer → Bool
 is_signed Char = true
 is_signed SignedChar = true
@@ -48,6 +50,7 @@ common_of_promoted UnsignedInt right = UnsignedInt
 common_of_promoted left UnsignedInt = UnsignedInt
 common_of_promoted left right = Int
 
+-- of the promoted operands
 abbrev pub common : Integer → Integer → Integer
 common left right = common_of_promoted (promoted left) (promoted right)
 

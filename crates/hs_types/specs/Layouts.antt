@@ -47,6 +47,7 @@ abbrev pub offsets_from : ℕ → List Layout → List ℕ
 offsets_from end [] = []
 offsets_from end (member ∷ members) = placed end member ∷ offsets_from (placed end member + member.size) members
 
+-- where the last member ends
 abbrev pub end_from : ℕ → List Layout → ℕ
 end_from end [] = end
 end_from end (member ∷ members) = end_from (placed end member + member.size) members
@@ -56,8 +57,10 @@ abbrev pub hold_characters : List Layout → Bool
 hold_characters [] = true
 hold_characters (member ∷ members) = member.characters && hold_characters members
 
+-- rounded up to 2, unless it holds characters alone
 abbrev pub struct_size : List Layout → ℕ
 struct_size members = if hold_characters members then end_from 0 members else rounded_up (end_from 0 members)
 
+-- a struct is aligned to 2
 abbrev pub struct_layout : List Layout → Layout
 struct_layout members = record { size = struct_size members; even = true; characters = hold_characters members }

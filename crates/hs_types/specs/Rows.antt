@@ -8,6 +8,7 @@ use Rattle.hs_types.specs.declared.row.Row.{Row}
 use Rattle.hs_types.specs.declared.row.Row.TheVariants as row
 use Rattle.hs_types.specs.declared.row.TypeId.{TypeId}
 
+-- the numbers of the integer types
 abbrev pub integer_number : Integer → ℕ
 integer_number Char = 1
 integer_number SignedChar = 2
@@ -19,9 +20,11 @@ integer_number UnsignedInt = 7
 integer_number Long = 8
 integer_number UnsignedLong = 9
 
+-- `void` is the first row
 abbrev pub void_id : TypeId
 void_id = record { number = 0 }
 
+-- an integer type
 abbrev pub integer_id : Integer → TypeId
 integer_id kind = record { number = integer_number kind }
 
@@ -33,6 +36,7 @@ char_pointer_id = record { number = 10 }
 abbrev pub char_handle_id : TypeId
 char_handle_id = record { number = 11 }
 
+-- the rows, in this order
 abbrev pub basic_rows : List Row
 basic_rows =
     row.Void ∷

@@ -10,6 +10,7 @@ use std::marker::Model;
 #[derive(Debug, Drop)]
 pub struct Member {
     pub name: Bytes,
+    /// Its type.
     pub type_id: TypeId,
 }
 
@@ -25,6 +26,7 @@ pub(crate) struct Measured {
 #[derive(Debug, Drop)]
 pub struct Field {
     pub name: Bytes,
+    /// Its type.
     pub type_id: TypeId,
     pub layout: Layout,
     pub offset: u32,

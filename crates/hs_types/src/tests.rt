@@ -1,7 +1,7 @@
 //! Layouts, and what a table refuses.
 
-use crate::{Integer, Member, Row, TypeEnd, TypeId, Types};
-use hs_base::Bytes;
+use crate::{Constants, Enumerator, Integer, Member, Parameters, Row, TypeEnd, TypeId, Types};
+use hs_base::{Bytes, NoMemory};
 use std::alloc::Global;
 use std::test::Fail;
 
@@ -125,11 +125,37 @@ fn redefined(alloc: Global) -> Result<(), TypeEnd> {
     types.complete_struct(alloc, number, Vec::new(alloc))
 }
 
+/// The size of an enumeration of one constant.
+fn enumeration_size(alloc: Global) -> Result<Option<u32>, TypeEnd> {
+    let mut types = Types::new(alloc)?;
+    let number = types.declare_enumeration()?;
+    let id = types.add(Row::Enumeration(number))?;
+    let constant = Enumerator {
+        name: Bytes::from_vec(Vec::new(alloc)),
+        bits: 0,
+    };
+    let constants = Constants::from_vec(vec![in alloc; constant]?);
+    types.complete_enumeration(number, constants)?;
+    Ok(types.layout(id).map(|layout| layout.size))
+}
+
+/// Whether a list of parameters has one number.
+fn list_is_once(alloc: Global) -> Result<bool, NoMemory> {
+    let mut types = Types::new(alloc)?;
+    let others = types.add_parameters(Parameters::Empty)?;
+    let first = TypeId::integer(Integer::Long);
+    let list = types.add_parameters(Parameters::More { first, others })?;
+    let again = types.add_parameters(Parameters::More { first, others })?;
+    Ok(list == again && types.parameters(list) == Some(Parameters::More { first, others }))
+}
+
 // A type has one number. What is incomplete or too large is refused, and a body comes once.
 #[test]
 fn what_is_no_type_is_refused(rt: HostRuntime) -> Result<(), Fail> {
     let alloc = rt.alloc();
     assert_eq!(rt; is_once(alloc), Ok(true));
+    assert_eq!(rt; list_is_once(alloc), Ok(true));
+    assert_eq!(rt; enumeration_size(alloc), Ok(Some(4)));
     assert_eq!(rt; array_size(alloc, 16_777_216), Ok(16_777_216));
     assert_eq!(rt; array_size(alloc, 16_777_217), Err(TypeEnd::TooLarge));
     assert_eq!(rt; too_large(alloc), Err(TypeEnd::TooLarge));
