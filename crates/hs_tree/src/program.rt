@@ -11,6 +11,7 @@ use hs_types::Types;
 /// routine. It keeps in its type what `specs/Fitting.antt` lists.
 #[derive(Drop)]
 pub struct Program {
+    /// Its types, each once.
     pub types: Types,
     pub globals: Globals,
     pub literals: Literals,

@@ -1,0 +1,42 @@
+//! What names mean in nested scopes.
+
+use crate::Scopes;
+use hs_base::NoMemory;
+use std::alloc::Global;
+use std::test::Fail;
+
+/// What `x` and `y` mean at five points: at file scope; in a block; in a block inside it that declares `x` again, and after that
+/// block; after the outer block.
+fn meanings(alloc: Global) -> Result<Vec<(Option<u32>, Option<u32>)>, NoMemory> {
+    let mut scopes = Scopes::new(alloc);
+    let mut found = Vec::new(alloc);
+    scopes.declare(alloc, b"x", 1u32)?;
+    found.push((scopes.find(b"x"), scopes.find_here(b"y")))?;
+    scopes.enter()?;
+    scopes.declare(alloc, b"y", 2)?;
+    found.push((scopes.find_here(b"x"), scopes.find_here(b"y")))?;
+    scopes.enter()?;
+    scopes.declare(alloc, b"x", 3)?;
+    found.push((scopes.find(b"x"), scopes.find(b"y")))?;
+    scopes.leave();
+    found.push((scopes.find(b"x"), scopes.find(b"y")))?;
+    scopes.leave();
+    found.push((scopes.find(b"x"), scopes.find(b"y")))?;
+    Ok(found)
+}
+
+// X3.159-1989 3.1.2.1: an inner declaration hides an outer one until its scope ends.
+#[test]
+fn an_inner_declaration_hides_an_outer_one(rt: HostRuntime) -> Result<(), Fail> {
+    let alloc = rt.alloc();
+    let found = meanings(alloc)?;
+    let expected = [
+        (Some(1), None),
+        (None, Some(2)),
+        (Some(3), Some(2)),
+        (Some(1), Some(2)),
+        (Some(1), None),
+    ];
+    assert_eq!(rt; found.as_slice(), expected.as_slice());
+    Ok(())
+}
