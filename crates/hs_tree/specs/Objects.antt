@@ -3,11 +3,12 @@
 --     IsScalarAt types id offset scalar field        a scalar inside an object
 --     FitsParts program id parts                     constants for scalars of an object of that type
 --     FitsStart, FitsGlobal                          what a variable and an object of static storage duration start with
-use Rattle.std.specs.Prelude.{◌≡◌, ◌<◌, ◌+◌, ◌*◌, ℕ, Bool, true, List, [], ◌∷◌, length, slice_get, Option, Some, None, IsTrue, nat_lt, ◌&&◌}
+use Rattle.std.specs.Prelude.{◌≡◌, ◌<◌, ◌+◌, ◌*◌, ℕ, Bool, true, false, not, List, [], ◌∷◌, length, slice_get, Option, Some, None, IsTrue, nat_lt, ◌&&◌}
 use Rattle.std.specs.List.{AllByRecursion}
+use Rattle.hs_tree.specs.Classes.{is_slot}
 use Rattle.hs_tree.specs.Kinds.{number_kind, IsPointer, IsScalar, IsStruct, IsReadable}
 use Rattle.hs_tree.specs.Trees as tree
-use Rattle.hs_tree.specs.Trees.{RightValue, LeftValue, RightValues, Starting, TypedItem, TypedDeclaration, TypedStatement, TypedBlock, TypedStatements, TypedFunction, TypedProgram, type_of, type_of_left}
+use Rattle.hs_tree.specs.Trees.{Starting, TypedProgram, type_of}
 use Rattle.hs_tree.specs.declared.constant.Base.{Base}
 use Rattle.hs_tree.specs.declared.constant.Base.TheVariants as base
 use Rattle.hs_tree.specs.declared.constant.Constant.{Constant}
@@ -59,9 +60,13 @@ pub data IsScalarAt (types : TypeTable) : TypeId → ℕ → TypeId → Option F
       → IsField types field first of → ¬ IsScalar types of → IsScalarAt types of offset scalar inner
       → IsScalarAt types id (first + offset) scalar inner
 
--- the object of an address constant is there
+abbrev pub is_object : TypeTable → Option Global → Bool
+is_object types None = false
+is_object types (Some it) = not (is_slot types it.variable)
+
+-- the object of an address constant is there, and is no slot
 abbrev pub IsBase : TypedProgram → Base → Type 0
-IsBase program (base.Global place) = place < length program.globals
+IsBase program (base.Global place) = IsTrue (is_object program.types (slice_get program.globals place))
 IsBase program (base.Literal place) = place < length program.literals
 
 -- a constant of that type
