@@ -5,7 +5,6 @@ pub mod Kinds
 pub mod Objects
 pub mod Roles
 pub mod RowLaws
-pub mod Samples
 pub mod Straight
 pub mod Trees
 pub mod Views

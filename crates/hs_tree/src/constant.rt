@@ -38,7 +38,7 @@ pub struct Part {
 }
 
 /// What the scalars of an object start with, by ascending offsets; those that are not named start as zero. Contracts see the list.
-#[derive(Debug, Drop)]
+#[derive(Drop)]
 pub struct Parts {
     vec: Vec<Part>,
 }

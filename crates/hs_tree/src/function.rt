@@ -24,7 +24,7 @@ pub struct Function {
 }
 
 /// The variables of a function. Contracts see the list.
-#[derive(Debug, Drop)]
+#[derive(Drop)]
 pub struct Variables {
     vec: Vec<VariableDecl>,
 }
@@ -55,7 +55,7 @@ impl Variables {
 }
 
 /// The types of parameters. Contracts see the list.
-#[derive(Debug, Drop)]
+#[derive(Drop)]
 pub struct TypeIds {
     vec: Vec<TypeId>,
 }
@@ -86,21 +86,21 @@ impl TypeIds {
 }
 
 /// The result and the parameters with which a routine is declared.
-#[derive(Debug, Drop)]
+#[derive(Drop)]
 pub struct Prototype {
     pub result: TypeId,
     pub parameters: TypeIds,
 }
 
 /// A routine of the table, and its declaration if the program calls it.
-#[derive(Debug, Drop)]
+#[derive(Drop)]
 pub struct BoundRoutine {
     pub routine: Routine,
     pub prototype: Option<Prototype>,
 }
 
 /// The routines of the table, in its order. The first has number 0. Contracts see the list.
-#[derive(Debug, Drop)]
+#[derive(Drop)]
 pub struct Routines {
     vec: Vec<BoundRoutine>,
 }

@@ -7,7 +7,7 @@ use hs_base::Bytes;
 use std::marker::Model;
 
 /// A file-scope object or a static local: its declaration, its size in bytes, and what it starts with.
-#[derive(Debug, Drop)]
+#[derive(Drop)]
 pub struct Global {
     pub variable: VariableDecl,
     pub size: u32,
@@ -15,7 +15,7 @@ pub struct Global {
 }
 
 /// The file-scope objects and the static locals, in the text order of their first declarations. Contracts see the list.
-#[derive(Debug, Drop)]
+#[derive(Drop)]
 pub struct Globals {
     vec: Vec<Global>,
 }
@@ -46,7 +46,7 @@ impl Globals {
 }
 
 /// The string literals that are objects, each with the byte 0 at its end, in the order of the text. Contracts see the list.
-#[derive(Debug, Drop)]
+#[derive(Drop)]
 pub struct Literals {
     vec: Vec<Bytes>,
 }

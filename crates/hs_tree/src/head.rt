@@ -25,7 +25,7 @@ pub enum Variable {
 }
 
 /// A declared variable.
-#[derive(Debug, Drop)]
+#[derive(Drop)]
 pub struct VariableDecl {
     pub name: Bytes,
     /// The place of its name where it was declared first.

@@ -12,8 +12,6 @@ mod program;
 mod statement;
 pub mod straight;
 mod taken;
-#[cfg(test)]
-mod tests;
 mod value;
 
 pub use class::Class;

@@ -2,8 +2,6 @@
 //! when whole programs are checked.
 
 mod lists;
-#[cfg(test)]
-mod tests;
 mod tree;
 
 pub use lists::{Steps, Variables};

@@ -7,7 +7,7 @@ use hs_base::Bytes;
 use std::marker::Model;
 
 /// A member of a struct, as it is declared: its name and its type.
-#[derive(Debug, Drop)]
+#[derive(Drop)]
 pub struct Member {
     pub name: Bytes,
     /// Its type.
@@ -15,7 +15,7 @@ pub struct Member {
 }
 
 /// A member with what it takes in memory.
-#[derive(Debug, Drop)]
+#[derive(Drop)]
 pub(crate) struct Measured {
     pub(crate) name: Bytes,
     pub(crate) type_id: TypeId,
@@ -23,7 +23,7 @@ pub(crate) struct Measured {
 }
 
 /// A field of a struct: a member, and the byte from the start of the struct at which it lies.
-#[derive(Debug, Drop)]
+#[derive(Drop)]
 pub struct Field {
     pub name: Bytes,
     /// Its type.
@@ -33,7 +33,7 @@ pub struct Field {
 }
 
 /// The fields of a struct, in their order. Contracts see the list.
-#[derive(Debug, Drop)]
+#[derive(Drop)]
 pub struct Fields {
     vec: Vec<Field>,
 }
@@ -64,21 +64,21 @@ impl Fields {
 }
 
 /// The body of a struct: its fields, and what the whole struct takes in memory.
-#[derive(Debug, Drop)]
+#[derive(Drop)]
 pub struct Body {
     pub fields: Fields,
     pub layout: Layout,
 }
 
 /// An enumeration constant: its name, and its value as 32 bits.
-#[derive(Debug, Drop)]
+#[derive(Drop)]
 pub struct Enumerator {
     pub name: Bytes,
     pub bits: u32,
 }
 
 /// The constants of an enumeration, in their order. Contracts see the list.
-#[derive(Debug, Drop)]
+#[derive(Drop)]
 pub struct Constants {
     vec: Vec<Enumerator>,
 }

@@ -8,8 +8,6 @@ mod interned;
 mod laying;
 mod layout;
 mod row;
-#[cfg(test)]
-mod tests;
 mod types;
 
 pub use body::{Body, Constants, Enumerator, Field, Fields, Member};

@@ -1,7 +1,7 @@
 //! Lists of a tree.
 
-use crate::straight::{Kind, Step, Steps, Straight, Variable, Variables};
 use hs_base::Bytes;
+use hs_tree::straight::{Kind, Step, Steps, Straight, Variable, Variables};
 use std::test::Fail;
 
 // A tree gives back the variables and the steps that it was made of.

@@ -1,7 +1,9 @@
 //! Layouts, and what a table refuses.
 
-use crate::{Constants, Enumerator, Integer, Member, Parameters, Row, TypeEnd, TypeId, Types};
 use hs_base::{Bytes, NoMemory};
+use hs_types::{
+    Constants, Enumerator, Integer, ListId, Member, Parameters, Row, TypeEnd, TypeId, Types,
+};
 use std::alloc::Global;
 use std::test::Fail;
 
@@ -139,14 +141,17 @@ fn enumeration_size(alloc: Global) -> Result<Option<u32>, TypeEnd> {
     Ok(types.layout(id).map(|layout| layout.size))
 }
 
+/// The list of one parameter of type `long`.
+fn one_long(types: &mut Types) -> Result<ListId, NoMemory> {
+    let others = types.add_parameters(Parameters::Empty)?;
+    let first = TypeId::integer(Integer::Long);
+    types.add_parameters(Parameters::More { first, others })
+}
+
 /// Whether a list of parameters has one number.
 fn list_is_once(alloc: Global) -> Result<bool, NoMemory> {
     let mut types = Types::new(alloc)?;
-    let others = types.add_parameters(Parameters::Empty)?;
-    let first = TypeId::integer(Integer::Long);
-    let list = types.add_parameters(Parameters::More { first, others })?;
-    let again = types.add_parameters(Parameters::More { first, others })?;
-    Ok(list == again && types.parameters(list) == Some(Parameters::More { first, others }))
+    Ok(one_long(&mut types)? == one_long(&mut types)?)
 }
 
 // A type has one number. What is incomplete or too large is refused, and a body comes once.

@@ -1,16 +1,16 @@
 //! A typed program, classes and slots.
 
 ghost use Rattle.std.specs.Prelude.{◌≡◌, ◌∷◌, [], map, IfOk};
-ghost use Rattle.hs_tree.specs.Samples.{sample_place, sample_head, smallest_body, smallest_main};
+ghost use Rattle.hs_tree_tests.specs.Samples.{sample_place, sample_head, smallest_body, smallest_main};
 ghost use Rattle.hs_tree.specs.Views.{view_block, view_function};
 
-use crate::{
-    Block, Class, Function, Globals, Head, Labelled, Literals, Lvalue, Program, Routines, Rvalue,
-    Statement, TakenFields, Variable, VariableDecl, Variables,
-};
 use hs_base::{Bytes, NoMemory, Pos};
 use hs_syntax::Place;
 use hs_tokens::Origin;
+use hs_tree::{
+    Block, Class, Function, Globals, Head, Labelled, Literals, Lvalue, Program, Routines, Rvalue,
+    Statement, TakenFields, Variable, VariableDecl, Variables,
+};
 use hs_types::{FieldId, Integer, TypeId, Types};
 use std::alloc::Global;
 use std::test::Fail;
@@ -105,7 +105,7 @@ fn a_variable_is_a_slot_until_its_address_is_taken(rt: HostRuntime) -> Result<()
 }
 
 /// The block `{ return 0; }`.
-#[tactic(auto, using(crate::specs::RowLaws::block_seen))]
+#[tactic(auto, using(hs_tree::specs::RowLaws::block_seen))]
 fn body(alloc: Global) -> Result<Block, NoMemory>
     ensures { IfOk result (λ it. view_block it ≡ smallest_body) }
 {
