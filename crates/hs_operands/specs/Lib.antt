@@ -1,0 +1,4 @@
+pub mod Answers
+pub mod Conversions
+pub mod Laws
+pub mod Operators

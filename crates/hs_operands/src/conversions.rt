@@ -1,0 +1,101 @@
+//! The conversions that operators ask for (X3.159-1989 3.2.1).
+
+ghost use Rattle.std.specs.Prelude.{◌≡◌, IfOk};
+ghost use Rattle.hs_operands.specs.Answers.{Gives};
+ghost use Rattle.hs_operands.specs.Conversions.{as_kind, truth};
+ghost use Rattle.hs_tree.specs.Kinds.{number_kind, is_pointer};
+ghost use Rattle.hs_tree.specs.Views.{view_right};
+
+use crate::OperandEnd;
+use hs_base::NoMemory;
+use hs_syntax::Place;
+use hs_tree::{Head, Rvalue};
+use hs_types::{Integer, Row, TypeId, Types};
+use std::alloc::Global;
+
+/// How numbers of a type are represented, or `None` if it has none. An enumeration has those of `int` (X3.159-1989 3.5.2.2).
+pub fn number_kind(types: &Types, id: TypeId) -> Option<Integer>
+    ensures { result ≡ number_kind types.now id }
+{
+    match types.row(id)? {
+        Row::Integer(kind) => Some(kind),
+        Row::Enumeration(_) => Some(Integer::Int),
+        Row::Void
+        | Row::Pointer(_)
+        | Row::Struct(_)
+        | Row::Array { .. }
+        | Row::OpenArray(_)
+        | Row::Function { .. } => None,
+    }
+}
+
+/// Whether a type is a pointer.
+fn is_pointer(types: &Types, id: TypeId) -> bool
+    ensures { result ≡ is_pointer types.now id }
+{
+    match types.row(id) {
+        Some(Row::Pointer(_)) => true,
+        Some(
+            Row::Void
+            | Row::Integer(_)
+            | Row::Enumeration(_)
+            | Row::Struct(_)
+            | Row::Array { .. }
+            | Row::OpenArray(_)
+            | Row::Function { .. },
+        )
+        | None => false,
+    }
+}
+
+/// A number as one of that kind, by a conversion if its type is another (3.2.1.2).
+pub(crate) fn as_kind(
+    alloc: Global,
+    at: Place,
+    kind: Integer,
+    operand: Box<Rvalue>,
+) -> Result<Box<Rvalue>, NoMemory>
+    ensures { IfOk result (λ it. view_right it.value ≡ as_kind at kind (view_right operand.value)) }
+{
+    let type_id = TypeId::integer(kind);
+    if operand.head().type_id == type_id {
+        return Ok(operand);
+    }
+    let head = Head { at, type_id };
+    Ok(Box::new(
+        alloc,
+        Rvalue::ConvertNumber {
+            head,
+            kind,
+            operand,
+        },
+    )?)
+}
+
+/// A condition as a number: a pointer is compared with the null pointer (3.3.3.3). Refused at `at` if it is no scalar.
+pub fn truth(
+    alloc: Global,
+    types: &Types,
+    at: Place,
+    operand: Box<Rvalue>,
+) -> Result<Box<Rvalue>, OperandEnd>
+    ensures { Gives (λ it. view_right it.value) (truth types.now at (view_right operand.value)) result }
+{
+    let head = operand.head();
+    if number_kind(types, head.type_id).is_some() {
+        return Ok(operand);
+    }
+    if !is_pointer(types, head.type_id) {
+        return Err(OperandEnd::Untyped(at));
+    }
+    let head = Head {
+        at: head.at,
+        type_id: TypeId::integer(Integer::Int),
+    };
+    let test = Rvalue::IsNil {
+        head,
+        equal: false,
+        pointer: operand,
+    };
+    Ok(Box::new(alloc, test)?)
+}

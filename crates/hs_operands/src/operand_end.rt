@@ -1,0 +1,33 @@
+//! Why operands have no typed expression.
+
+ghost use Rattle.std.specs.Prelude.{◌≡◌};
+ghost use Rattle.hs_operands.specs.Answers.{no_memory};
+
+use hs_base::NoMemory;
+use hs_syntax::Place;
+use std::alloc::AllocFailed;
+
+/// Why operands have no typed expression.
+#[derive(Clone, Copy, Debug, PartialEq, Eq)]
+pub enum OperandEnd {
+    /// An operand has a type that the operator does not take. At the operator.
+    Untyped(Place),
+    /// Memory ran out.
+    NoMemory,
+}
+
+impl From<NoMemory> for OperandEnd {
+    ghost from_gives = { λ _ e. e ≡ no_memory };
+
+    fn from(_refused: NoMemory) -> OperandEnd {
+        OperandEnd::NoMemory
+    }
+}
+
+impl<T: Drop> From<AllocFailed<T>> for OperandEnd {
+    ghost from_gives = { λ _ e. e ≡ no_memory };
+
+    fn from(_refused: AllocFailed<T>) -> OperandEnd {
+        OperandEnd::NoMemory
+    }
+}
