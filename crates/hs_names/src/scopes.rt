@@ -130,7 +130,8 @@ impl<E: Copy + Drop> Scopes<E> {
         Ok(())
     }
 
-    /// Ends the innermost scope: what it declared is gone, and what it hid is visible again. Takes no memory.
+    /// Ends the innermost scope: what it declared is gone, and what it hid is visible again. At file scope nothing is left, and the
+    /// next declarations are at file scope again. Takes no memory.
     pub fn leave(&mut self)
         ensures { self.new ≡ left self.old }
     {
