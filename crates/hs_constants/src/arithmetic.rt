@@ -141,7 +141,9 @@ fn divided(left: Value, right: Value, bits: u32) -> Value
 }
 
 /// What an operator in front makes of its operand (X3.159-1989 3.3.3.3).
-pub(crate) fn unary_value(operator: Unary, value: Value) -> Value
+///
+/// Example: `-1` has the bits 0xFFFFFFFF, and `!1` is 0.
+pub fn unary_value(operator: Unary, value: Value) -> Value
     ensures { result ≡ unary_value operator value }
 {
     match operator {
@@ -159,7 +161,9 @@ pub(crate) fn unary_value(operator: Unary, value: Value) -> Value
 }
 
 /// What an operator between two makes of its operands (X3.159-1989 3.3.5 to 3.3.14).
-pub(crate) fn binary_value(operator: Binary, left: Value, right: Value) -> Value
+///
+/// Example: `-7 / 2` is -3, and `1 / 0` fails.
+pub fn binary_value(operator: Binary, left: Value, right: Value) -> Value
     ensures { result ≡ binary_value operator left right }
 {
     let unsigned = left.unsigned || right.unsigned;
@@ -201,7 +205,9 @@ pub(crate) fn binary_value(operator: Binary, left: Value, right: Value) -> Value
 }
 
 /// What the test chooses; both branches give the type (X3.159-1989 3.3.15).
-pub(crate) fn chosen(test: Value, left: Value, right: Value) -> Value
+///
+/// Example: `0 ? 1u : 2` is 2, and unsigned.
+pub fn chosen(test: Value, left: Value, right: Value) -> Value
     ensures { result ≡ chosen test left right }
 {
     let branch = if is_true(test) { left } else { right };

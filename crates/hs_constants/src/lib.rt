@@ -13,8 +13,10 @@ mod strings;
 mod value;
 mod waiting;
 
+pub use arithmetic::{binary_value, chosen, unary_value};
 pub use characters::character_value;
 pub use condition::condition_value;
 pub use number::{Number, number_value};
+pub use operator::{Binary, Unary};
 pub use strings::{has_string_value, string_value};
 pub use value::Value;

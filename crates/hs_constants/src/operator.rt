@@ -1,4 +1,4 @@
-//! The operators of conditions but `?:`, and the precedences of those between two operands.
+//! The operators of constant expressions but `?:`, and the precedences of those between two operands.
 
 ghost use Rattle.std.specs.Prelude.{◌≡◌};
 ghost use Rattle.hs_constants.specs.Conditions.{unary_of, binary_of, precedence_of};
@@ -7,7 +7,7 @@ use hs_tokens::{Token, is_mark};
 
 /// An operator in front of its operand (X3.159-1989 3.3.3.3).
 #[derive(Clone, Copy, Debug, PartialEq, Eq)]
-pub(crate) enum Unary {
+pub enum Unary {
     Plus,
     Minus,
     Complement,
@@ -16,7 +16,7 @@ pub(crate) enum Unary {
 
 /// An operator between two operands (X3.159-1989 3.3.5 to 3.3.14).
 #[derive(Clone, Copy, Debug, PartialEq, Eq)]
-pub(crate) enum Binary {
+pub enum Binary {
     Multiply,
     Divide,
     Remainder,

@@ -16,7 +16,7 @@ use Rattle.hs_syntax.specs.RowViews.{specification_from}
 use Rattle.hs_syntax.specs.StatementViews.{initialisers_from}
 use Rattle.hs_syntax.specs.Trees as tree
 use Rattle.hs_syntax.specs.Trees.{Specified, Declared, Initialising, Declaring, Declaration}
-use Rattle.hs_syntax.specs.declared.word.Place.{Place}
+use Rattle.hs_tokens.specs.declared.place.Place.{Place}
 use Rattle.hs_expr_parser.specs.Ahead.{is_ahead, is_mark_ahead, begins_specifier}
 use Rattle.hs_expr_parser.specs.Reading.{Known}
 use Rattle.hs_expr_parser.specs.Laws.Yields.{Yields, some_gives, then_gives, going_gives, if_gives, so_gives}

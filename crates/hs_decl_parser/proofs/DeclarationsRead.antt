@@ -12,7 +12,7 @@ use Rattle.hs_syntax.specs.Forms.{Piece, Form, ◌⨾◌, mark, Spells, IsOf}
 use Rattle.hs_syntax.specs.Grammar.{specification_form, items_form, declaration_form, declarations_form}
 use Rattle.hs_syntax.specs.Phrases.{is_typed, begins_none, ends_before, has_specifiers}
 use Rattle.hs_syntax.specs.Trees.{Specification, Specified, Declared, Declaring, Declaration}
-use Rattle.hs_syntax.specs.declared.word.Place.{Place}
+use Rattle.hs_tokens.specs.declared.place.Place.{Place}
 use Rattle.hs_expr_parser.specs.Ahead.{is_punctuator, is_ahead, is_mark_ahead, mark_at, begins_specifier}
 use Rattle.hs_expr_parser.specs.Expected.{specifiers_in}
 use Rattle.hs_expr_parser.specs.Recursion.{Read}

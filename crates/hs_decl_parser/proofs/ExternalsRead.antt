@@ -10,7 +10,7 @@ use Rattle.hs_syntax.specs.Phrases.{begins_none, is_named, has_specifiers}
 use Rattle.hs_syntax.specs.RowViews.{specification_from}
 use Rattle.hs_syntax.specs.Trees as tree
 use Rattle.hs_syntax.specs.Trees.{Specification, Specified, Declared, Declaring, Declaration, Compound, ExternalDeclaration}
-use Rattle.hs_syntax.specs.declared.word.Place.{Place}
+use Rattle.hs_tokens.specs.declared.place.Place.{Place}
 use Rattle.hs_expr_parser.specs.Ahead.{is_mark_ahead, mark_at}
 use Rattle.hs_expr_parser.specs.Expected.{specifiers_in}
 use Rattle.hs_expr_parser.specs.Recursion.{Read}

@@ -12,7 +12,7 @@ use Rattle.hs_syntax.specs.Phrases.{has_initialisers}
 use Rattle.hs_syntax.specs.StatementViews.{initialisers_from}
 use Rattle.hs_syntax.specs.Trees as tree
 use Rattle.hs_syntax.specs.Trees.{Expression, Initialising, Initialisers}
-use Rattle.hs_syntax.specs.declared.word.Place.{Place}
+use Rattle.hs_tokens.specs.declared.place.Place.{Place}
 use Rattle.hs_expr_parser.specs.Ahead.{place_of, is_punctuator, is_mark_ahead, mark_at, stops, is_below, joins}
 use Rattle.hs_expr_parser.specs.Recursion.{Read}
 use Rattle.hs_expr_parser.specs.Reading.{Known, ◌>>=◌, going_on}

@@ -16,7 +16,7 @@ use Rattle.hs_syntax.specs.Names.{is_among}
 use Rattle.hs_syntax.specs.Phrases.{is_named}
 use Rattle.hs_syntax.specs.RowViews.{specification_from}
 use Rattle.hs_syntax.specs.Trees.{Specified, Declared, Initialising, Declaring, Declaration}
-use Rattle.hs_syntax.specs.declared.word.Place.{Place}
+use Rattle.hs_tokens.specs.declared.place.Place.{Place}
 use Rattle.hs_expr_parser.specs.Ahead.{is_punctuator, is_mark_ahead, stops, is_below, joins}
 use Rattle.hs_expr_parser.specs.Expected.{enders, is_ender, ended}
 use Rattle.hs_expr_parser.specs.Recursion.{Read}

@@ -12,7 +12,7 @@ use Rattle.hs_syntax.specs.Phrases.{as_conditional}
 use Rattle.hs_syntax.specs.StatementViews.{OneStatement, one_statement}
 use Rattle.hs_syntax.specs.Trees as tree
 use Rattle.hs_syntax.specs.Trees.{Expression, Labelling, Statement, Statements}
-use Rattle.hs_syntax.specs.declared.word.Place.{Place}
+use Rattle.hs_tokens.specs.declared.place.Place.{Place}
 use Rattle.hs_expr_parser.specs.Ahead.{place_of, is_keyword, is_ahead, is_mark_ahead, mark_at, begins_specifier, is_below, joins}
 use Rattle.hs_expr_parser.specs.Recursion.{Read}
 use Rattle.hs_expr_parser.specs.Reading.{Known, ◌>>=◌}

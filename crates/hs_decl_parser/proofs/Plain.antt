@@ -6,7 +6,7 @@ use Rattle.std.specs.Prelude.{nat_lt, if◌then◌else◌}
 use Rattle.hs_tokens.specs.declared.token.SourceToken.{SourceToken}
 use Rattle.hs_syntax.specs.StatementViews.{OneStatement}
 use Rattle.hs_syntax.specs.Trees.{Specified, Declared, Initialising, Declaring, Declaration, Labelling, Statement}
-use Rattle.hs_syntax.specs.declared.word.Place.{Place}
+use Rattle.hs_tokens.specs.declared.place.Place.{Place}
 use Rattle.hs_expr_parser.specs.Ahead.{place_of}
 use Rattle.hs_expr_parser.specs.Reading.{Known}
 use Rattle.hs_expr_parser.specs.Recursion.{below}

@@ -14,7 +14,7 @@ use Rattle.hs_syntax.specs.Phrases.{as_conditional, ends_open}
 use Rattle.hs_syntax.specs.StatementViews.{OneStatement, one_statement, statements_from}
 use Rattle.hs_syntax.specs.Trees as tree
 use Rattle.hs_syntax.specs.Trees.{Declaration, Labelling, Statement}
-use Rattle.hs_syntax.specs.declared.word.Place.{Place}
+use Rattle.hs_tokens.specs.declared.place.Place.{Place}
 use Rattle.hs_expr_parser.specs.Ahead.{place_of, is_punctuator, is_keyword, is_mark_ahead, place_if}
 use Rattle.hs_expr_parser.specs.Reading.{Known}
 use Rattle.hs_expr_parser.specs.Recursion.{Read}

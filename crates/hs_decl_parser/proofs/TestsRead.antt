@@ -10,7 +10,7 @@ use Rattle.hs_tokens.specs.declared.token.TokenKind.TheVariants.{Punctuator}
 use Rattle.hs_syntax.specs.Forms.{Form, ◌⨾◌, mark, IsOf}
 use Rattle.hs_syntax.specs.Grammar.{expression_form, optional_form, test_form}
 use Rattle.hs_syntax.specs.Trees.{Expression}
-use Rattle.hs_syntax.specs.declared.word.Place.{Place}
+use Rattle.hs_tokens.specs.declared.place.Place.{Place}
 use Rattle.hs_expr_parser.specs.Ahead.{is_mark_ahead, stops, is_below, joins}
 use Rattle.hs_expr_parser.specs.Recursion.{Read}
 use Rattle.hs_expr_parser.specs.Reading.{Known, ◌>>=◌, going_on}

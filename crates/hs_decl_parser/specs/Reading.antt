@@ -9,7 +9,7 @@ use Rattle.hs_syntax.specs.RowViews.{specification_from}
 use Rattle.hs_syntax.specs.StatementViews.{OneStatement, one_statement, initialisers_from, statements_from}
 use Rattle.hs_syntax.specs.Trees as tree
 use Rattle.hs_syntax.specs.Trees.{Expression, Specified, Declared, Initialising, Declaring, Declaration, Labelling, Statement, Compound, ExternalDeclaration}
-use Rattle.hs_syntax.specs.declared.word.Place.{Place}
+use Rattle.hs_tokens.specs.declared.place.Place.{Place}
 use Rattle.hs_expr_parser.specs.Ahead.{place_of, is_punctuator, is_keyword, is_ahead, is_mark_ahead, mark_at, begins_specifier}
 use Rattle.hs_expr_parser.specs.Reading.{Known, ◌>>=◌, going_on}
 use Rattle.hs_expr_parser.specs.Recursion.{Read, Table, fixed}

@@ -5,7 +5,7 @@ use Rattle.hs_tokens.specs.declared.token.SourceToken.{SourceToken}
 use Rattle.hs_syntax.specs.StatementViews.{OneStatement}
 use Rattle.hs_syntax.specs.Trees as tree
 use Rattle.hs_syntax.specs.Trees.{Expression, Specified, Declared, Initialising, Declaring, Declaration, Labelling, Statement, Compound, ExternalDeclaration}
-use Rattle.hs_syntax.specs.declared.word.Place.{Place}
+use Rattle.hs_tokens.specs.declared.place.Place.{Place}
 use Rattle.hs_expr_parser.specs.Ahead.{mark_at}
 use Rattle.hs_expr_parser.specs.Reading.{Known, ◌>>=◌}
 use Rattle.hs_expr_parser.specs.Recursion.{Read}

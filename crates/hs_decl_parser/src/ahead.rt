@@ -5,8 +5,7 @@ ghost use Rattle.hs_expr_parser.specs.Given.{Gives, Seen};
 ghost use Rattle.hs_decl_parser.specs.Words.{keyword_at};
 
 use hs_expr_parser::{ParseEnd, first, is_keyword, place_of};
-use hs_syntax::Place;
-use hs_tokens::SourceToken;
+use hs_tokens::{Place, SourceToken};
 
 /// The place of the first token, if it is that word, and the others (X3.159-1989 3.1.1).
 pub(crate) fn keyword_ahead<'a>(

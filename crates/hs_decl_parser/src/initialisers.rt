@@ -6,8 +6,8 @@ ghost use Rattle.hs_expr_parser.specs.Given.{Gives};
 ghost use Rattle.hs_decl_parser.specs.Steps.{braces_at, initialiser_at, initialisers_at, start_at};
 
 use hs_expr_parser::{ParseEnd, TypeNames, assignment, is_mark_ahead, mark, mark_ahead};
-use hs_syntax::{Initialiser, Place, with};
-use hs_tokens::SourceToken;
+use hs_syntax::{Initialiser, with};
+use hs_tokens::{Place, SourceToken};
 use std::alloc::Global;
 
 /// The initialisers of a list, and whether a comma ends them (X3.159-1989 3.5.7).

@@ -14,8 +14,8 @@ use crate::words::{StatementWord, statement_word_of};
 use hs_expr_parser::{
     ParseEnd, TypeNames, expression, first, is_mark_ahead, is_punctuator, mark, place_of,
 };
-use hs_syntax::{Block, Labelled, Place, Stmt, with};
-use hs_tokens::SourceToken;
+use hs_syntax::{Block, Labelled, Stmt, with};
+use hs_tokens::{Place, SourceToken};
 use std::alloc::Global;
 
 /// Reads a statement (X3.159-1989 3.6). An `else` is read with the nearest `if`.

@@ -18,7 +18,7 @@ use Rattle.hs_syntax.specs.declared.operators.Dropped.{Dropped}
 use Rattle.hs_syntax.specs.declared.operators.PrefixOperator.{PrefixOperator}
 use Rattle.hs_syntax.specs.declared.operators.PrefixOperator.TheVariants.{Increment, Decrement, Address, Dereference, Plus, Minus, Complement, Not}
 use Rattle.hs_syntax.specs.declared.operators.Storage.{Storage}
-use Rattle.hs_syntax.specs.declared.word.Place.{Place}
+use Rattle.hs_tokens.specs.declared.place.Place.{Place}
 use Rattle.hs_syntax.specs.declared.word.Word.{Word}
 use Rattle.hs_expr_parser.specs.Ahead.{place_of, word_of, is_punctuator, is_keyword, binary_of, assign_of, prefix_of, postfix_of, access_of, storage_of, dropped_of, basic_of, is_ahead, is_mark_ahead, mark_at, name_at, begins_specifier, begins_type}
 use Rattle.hs_expr_parser.specs.Goals as goal

@@ -31,7 +31,7 @@ use Rattle.hs_syntax.specs.declared.operators.PrefixOperator.{PrefixOperator}
 use Rattle.hs_syntax.specs.declared.operators.PrefixOperator.TheVariants as prefix
 use Rattle.hs_syntax.specs.declared.operators.Storage.{Storage}
 use Rattle.hs_syntax.specs.declared.operators.Storage.TheVariants as storage
-use Rattle.hs_syntax.specs.declared.word.Place.{Place}
+use Rattle.hs_tokens.specs.declared.place.Place.{Place}
 use Rattle.hs_syntax.specs.declared.word.Word.{Word}
 use Rattle.hs_expr_parser.specs.Recursion.{Read}
 

@@ -5,7 +5,7 @@ use Rattle.hs_tokens.specs.declared.token.SourceToken.{SourceToken}
 use Rattle.hs_syntax.specs.RowViews.{OneLeft, OneMember, OneConstant, OneParameter}
 use Rattle.hs_syntax.specs.Trees.{Expression, NamedType, Specified, Declared, Directly}
 use Rattle.hs_syntax.specs.declared.operators.PrefixOperator.{PrefixOperator}
-use Rattle.hs_syntax.specs.declared.word.Place.{Place}
+use Rattle.hs_tokens.specs.declared.place.Place.{Place}
 use Rattle.hs_syntax.specs.declared.word.Word.{Word}
 use Rattle.hs_expr_parser.specs.Ahead.{is_mark_ahead}
 use Rattle.hs_expr_parser.specs.Recursion.{Read}

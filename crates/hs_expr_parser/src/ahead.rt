@@ -10,8 +10,8 @@ use crate::words::{begins_specifier, is_name};
 use crate::{ParseEnd, TypeNames};
 use hs_base::{Bytes, NoMemory};
 use hs_constants::has_string_value;
-use hs_syntax::{Place, Pointer, Word};
-use hs_tokens::{SourceToken, TokenKind, is_identifier, is_mark, is_same_kind};
+use hs_syntax::{Pointer, Word};
+use hs_tokens::{Place, SourceToken, TokenKind, is_identifier, is_mark, is_same_kind};
 use std::alloc::Global;
 
 /// The place of a token.

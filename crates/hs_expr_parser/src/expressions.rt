@@ -14,8 +14,8 @@ use crate::rank::is_unary;
 use crate::type_names::TypeNames;
 use crate::unaries::cast;
 use hs_base::NoMemory;
-use hs_syntax::{AssignOperator, BinaryOperator, Expr, Left, Place, boxed_three, boxed_two, with};
-use hs_tokens::SourceToken;
+use hs_syntax::{AssignOperator, BinaryOperator, Expr, Left, boxed_three, boxed_two, with};
+use hs_tokens::{Place, SourceToken};
 use std::alloc::Global;
 
 /// The tightest precedence of binary operators (X3.159-1989 3.3.5).

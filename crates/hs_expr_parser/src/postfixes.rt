@@ -19,8 +19,8 @@ use crate::type_names::TypeNames;
 use crate::words::is_name;
 use hs_base::NoMemory;
 use hs_constants::{character_value, has_string_value, number_value};
-use hs_syntax::{Access, Expr, Place, PostfixOperator, Word, with};
-use hs_tokens::{SourceToken, TokenKind};
+use hs_syntax::{Access, Expr, PostfixOperator, Word, with};
+use hs_tokens::{Place, SourceToken, TokenKind};
 use std::alloc::Global;
 
 /// What follows a postfix expression and makes another of it (X3.159-1989 3.3.2).

@@ -18,8 +18,8 @@ use crate::operators::{basic_of, dropped_of, storage_of};
 use crate::parse_end::ParseEnd;
 use crate::type_names::TypeNames;
 use crate::words::{begins_specifier, is_type_name};
-use hs_syntax::{Constant, Expr, Member, Place, Specifier, TypeName, Word, with};
-use hs_tokens::SourceToken;
+use hs_syntax::{Constant, Expr, Member, Specifier, TypeName, Word, with};
+use hs_tokens::{Place, SourceToken};
 use std::alloc::Global;
 
 /// Reads a type name (X3.159-1989 3.5.5).

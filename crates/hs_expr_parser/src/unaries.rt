@@ -13,8 +13,8 @@ use crate::parse_end::ParseEnd;
 use crate::postfixes::postfix;
 use crate::type_names::TypeNames;
 use crate::types::type_name;
-use hs_syntax::{Expr, Place, PrefixOperator, TypeName, boxed_two, with};
-use hs_tokens::SourceToken;
+use hs_syntax::{Expr, PrefixOperator, TypeName, boxed_two, with};
+use hs_tokens::{Place, SourceToken};
 use std::alloc::Global;
 
 /// Reads a cast (X3.159-1989 3.3.4).

@@ -2,7 +2,7 @@
 --     as_kind at kind e         a number as one of that kind, by a conversion if its type is another
 --     truth types at e          a condition as a number: a pointer is compared with the null pointer
 use Rattle.std.specs.Prelude.{Bool, false, Result, Ok, Err, if◌then◌else◌}
-use Rattle.hs_syntax.specs.declared.word.Place.{Place}
+use Rattle.hs_tokens.specs.declared.place.Place.{Place}
 use Rattle.hs_operands.specs.declared.operand_end.OperandEnd.{OperandEnd}
 use Rattle.hs_operands.specs.declared.operand_end.OperandEnd.TheVariants.{Untyped}
 use Rattle.hs_tree.specs.Kinds.{is_number, is_pointer}

@@ -1,6 +1,6 @@
 -- What operators make is well typed: each node that they add has the operands that its form asks for, and the type that it gives.
 use Rattle.std.specs.Prelude.{◌≡◌, Result, Ok}
-use Rattle.hs_syntax.specs.declared.word.Place.{Place}
+use Rattle.hs_tokens.specs.declared.place.Place.{Place}
 use Rattle.hs_operands.specs.Operators.{unary_of, arithmetic_of, comparison_of, not_of, and_of, or_of}
 use Rattle.hs_operands.specs.declared.operand_end.OperandEnd.{OperandEnd}
 use Rattle.hs_tree.specs.Fitting.{HasOperands, HasResult}

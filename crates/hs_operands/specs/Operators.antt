@@ -2,7 +2,7 @@
 --     unary_of, arithmetic_of, comparison_of     numbers
 --     not_of, and_of, or_of                      conditions
 use Rattle.std.specs.Prelude.{Bool, true, false, Option, Some, None, Result, Ok, Err, if◌then◌else◌}
-use Rattle.hs_syntax.specs.declared.word.Place.{Place}
+use Rattle.hs_tokens.specs.declared.place.Place.{Place}
 use Rattle.hs_operands.specs.Answers.{◌>>=◌}
 use Rattle.hs_operands.specs.Conversions.{head_at, as_kind, truth}
 use Rattle.hs_operands.specs.declared.operand_end.OperandEnd.{OperandEnd}

@@ -8,7 +8,7 @@ ghost use Rattle.hs_tree.specs.Views.{view_right};
 
 use crate::OperandEnd;
 use hs_base::NoMemory;
-use hs_syntax::Place;
+use hs_tokens::Place;
 use hs_tree::{Head, Rvalue};
 use hs_types::{Integer, Row, TypeId, Types};
 use std::alloc::Global;

@@ -4,7 +4,7 @@ ghost use Rattle.std.specs.Prelude.{◌≡◌};
 ghost use Rattle.hs_operands.specs.Answers.{no_memory};
 
 use hs_base::NoMemory;
-use hs_syntax::Place;
+use hs_tokens::Place;
 use std::alloc::AllocFailed;
 
 /// Why operands have no typed expression.

@@ -9,7 +9,7 @@ ghost use Rattle.hs_tree.specs.Views.{view_right};
 
 use crate::OperandEnd;
 use crate::conversions::{as_kind, number_kind, truth};
-use hs_syntax::Place;
+use hs_tokens::Place;
 use hs_tree::{Arithmetic, Comparison, Head, Rvalue, Unary};
 use hs_types::{Integer, TypeId, Types};
 use std::alloc::Global;

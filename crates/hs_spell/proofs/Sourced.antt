@@ -3,7 +3,7 @@ use Rattle.std.proofs.Common.{◌≡◌, true, List, [], ◌∷◌, map, Option,
 use Rattle.std.specs.Prelude.{IfSome}
 use Rattle.hs_syntax.specs.Forms.{Form, Piece, IsAt, IsOf, Spells}
 use Rattle.hs_spell.specs.Spelling.{source_of}
-use Rattle.hs_syntax.specs.declared.word.Place.{Place}
+use Rattle.hs_tokens.specs.declared.place.Place.{Place}
 
 -- A token of a piece is at its place.
 stands_at : (piece : Piece) → IfSome piece.place (IsAt (source_of piece))

@@ -7,7 +7,7 @@ use Rattle.hs_tokens.specs.declared.token.Token.{Token}
 use Rattle.hs_syntax.specs.Forms.{Piece, nowhere}
 use Rattle.hs_syntax.specs.Grammar.{unit_form}
 use Rattle.hs_syntax.specs.Trees.{TranslationUnit}
-use Rattle.hs_syntax.specs.declared.word.Place.{Place}
+use Rattle.hs_tokens.specs.declared.place.Place.{Place}
 
 -- the place of a piece
 abbrev pub place_or_nowhere : Option Place → Place

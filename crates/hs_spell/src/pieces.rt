@@ -6,8 +6,8 @@ ghost use Rattle.hs_syntax.specs.Forms.{token, mark, mark_at, keyword, keyword_a
 ghost use Rattle.hs_syntax.specs.Parts.{identifier, literals, pointers_form, tag_form, comma_form};
 
 use hs_base::{Bytes, NoMemory, Pos};
-use hs_syntax::{Place, Pointer, Word};
-use hs_tokens::{Origin, Token, TokenKind};
+use hs_syntax::{Pointer, Word};
+use hs_tokens::{Origin, Place, Token, TokenKind};
 use std::alloc::Global;
 
 /// No place in any file.

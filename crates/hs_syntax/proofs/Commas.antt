@@ -13,7 +13,7 @@ use Rattle.hs_syntax.specs.Trees.{Expression}
 use Rattle.hs_syntax.specs.Views.{view_lefts}
 use Rattle.hs_syntax.specs.declared.expr.Constant.TheBlock.{hidden-the_row-Left-3}
 use Rattle.hs_syntax.specs.declared.expr.Left.{Left}
-use Rattle.hs_syntax.specs.declared.word.Place.{Place}
+use Rattle.hs_tokens.specs.declared.place.Place.{Place}
 
 -- by recursion on the operands in front
 behind_all : (its : List OneLeft) (e : Expression) (at other : Place) → last_comma other (lefts_from (its ++ one_left e at ∷ [])) ≡ at

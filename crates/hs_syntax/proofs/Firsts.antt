@@ -10,7 +10,7 @@ use Rattle.hs_syntax.specs.Phrases.{rank, has_lefts}
 use Rattle.hs_syntax.specs.Positions.{first_of, first_of_lefts, first_of_specifier, first_of_specifiers, first_of_block, first_of_statement, BeginsAt, BeginsIfAny}
 use Rattle.hs_syntax.specs.Trees as tree
 use Rattle.hs_syntax.specs.Trees.{Expression, Lefts, Specified, Specification, Statement, Compound}
-use Rattle.hs_syntax.specs.declared.word.Place.{Place}
+use Rattle.hs_tokens.specs.declared.place.Place.{Place}
 
 -- the pieces begin with one of that place
 abbrev Starts : Place → List Piece → Type 0

@@ -15,7 +15,7 @@ use Rattle.hs_syntax.specs.Positions.{first_of, first_of_specifiers, first_of_st
 use Rattle.hs_syntax.specs.Trees as tree
 use Rattle.hs_syntax.specs.Trees.{Expression, Declared, Declaration, Specification, Statement}
 use Rattle.hs_syntax.specs.declared.operators.BinaryOperator.{BinaryOperator}
-use Rattle.hs_syntax.specs.declared.word.Place.{Place}
+use Rattle.hs_tokens.specs.declared.place.Place.{Place}
 
 -- Of two binary operators in a row, the first one is applied first if it binds as tightly as the second, and the
 -- second one if it binds tighter.

@@ -8,7 +8,7 @@ use Rattle.hs_tokens.specs.declared.token.SourceToken.{SourceToken}
 use Rattle.hs_syntax.specs.Forms.{IsAt}
 use Rattle.hs_syntax.specs.Trees as tree
 use Rattle.hs_syntax.specs.Trees.{Expression, Lefts, Specified, Specification, Statement, Compound}
-use Rattle.hs_syntax.specs.declared.word.Place.{Place}
+use Rattle.hs_tokens.specs.declared.place.Place.{Place}
 
 -- the place of the last comma, or the other one if there is no comma
 abbrev pub last_comma : Place → Lefts → Place

@@ -6,7 +6,7 @@ use Rattle.hs_syntax.specs.declared.expr.Constant.{Constant, Plain, Valued'}
 use Rattle.hs_syntax.specs.declared.expr.Left.{Left}
 use Rattle.hs_syntax.specs.declared.expr.Member.{Member, Member'}
 use Rattle.hs_syntax.specs.declared.expr.Parameter.{Parameter}
-use Rattle.hs_syntax.specs.declared.word.Place.{Place}
+use Rattle.hs_tokens.specs.declared.place.Place.{Place}
 use Rattle.hs_syntax.specs.declared.word.Word.{Word}
 use Rattle.hs_syntax.specs.Trees as tree
 use Rattle.hs_syntax.specs.Trees.{Expression, Expressions, Lefts, Specified, Specification, Members, Constants}

@@ -7,7 +7,7 @@ use Rattle.hs_syntax.specs.declared.decl.Initialiser.TheBlock.{hidden-the_row-In
 use Rattle.hs_syntax.specs.declared.stmt.Block.{Block, Block', out-Block, roll-Block, Row_of-Labelled, end_of-Labelled, more_of-Labelled, items-the_row-Labelled, items_hidden-the_row-Labelled-0}
 use Rattle.hs_syntax.specs.declared.stmt.Stmt.TheBlock.{hidden-the_row-Labelled-0, shown-the_row-Labelled-0, items_shown-the_row-Labelled-0}
 use Rattle.hs_syntax.specs.declared.stmt.Labelled.{Labelled}
-use Rattle.hs_syntax.specs.declared.word.Place.{Place}
+use Rattle.hs_tokens.specs.declared.place.Place.{Place}
 use Rattle.hs_syntax.specs.StatementViews.{view_labelled, initialisers_from, statements_from}
 use Rattle.hs_syntax.specs.Trees as tree
 use Rattle.hs_syntax.specs.Views.{view_initialiser, view_initialisers, view_declaration, view_label, view_statement, view_statements, view_block}

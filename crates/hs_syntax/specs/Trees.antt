@@ -2,7 +2,7 @@
 -- the places of its tokens that later phases name, and lists of nodes. `Views.antt` says which of them a tree of the
 -- code is.
 use Rattle.std.specs.Prelude.{Bool, List, Option}
-use Rattle.hs_syntax.specs.declared.word.Place.{Place}
+use Rattle.hs_tokens.specs.declared.place.Place.{Place}
 use Rattle.hs_syntax.specs.declared.word.Word.{Word}
 use Rattle.hs_syntax.specs.declared.operators.Access.{Access}
 use Rattle.hs_syntax.specs.declared.operators.AssignOperator.{AssignOperator}

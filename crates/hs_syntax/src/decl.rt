@@ -1,6 +1,7 @@
 //! Trees of declarations (X3.159-1989 3.5).
 
-use crate::{Declarator, Expr, Place, Specifier};
+use crate::{Declarator, Expr, Specifier};
+use hs_tokens::Place;
 
 /// What a variable starts with (X3.159-1989 3.5.7).
 #[derive(Drop)]

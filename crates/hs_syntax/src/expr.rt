@@ -1,9 +1,10 @@
 //! Trees of expressions, types and declarators (X3.159-1989 3.3 and 3.5).
 
 use crate::{
-    Access, AssignOperator, Basic, BinaryOperator, Dropped, Place, Pointer, PostfixOperator,
+    Access, AssignOperator, Basic, BinaryOperator, Dropped, Pointer, PostfixOperator,
     PrefixOperator, Storage, Word,
 };
+use hs_tokens::Place;
 
 /// An expression (X3.159-1989 3.3): a variant for each production. `at` is the place of its operator, or of what its line says.
 #[cycle(expr)]

@@ -30,4 +30,4 @@ pub use operators::{
 pub use positions::first_of_specifiers;
 pub use stmt::{Block, Label, Labelled, Stmt};
 pub use unit::{External, Unit};
-pub use word::{Place, Word};
+pub use word::Word;

@@ -3,7 +3,7 @@
 ghost use Rattle.std.specs.Prelude.{◌≡◌};
 ghost use Rattle.hs_syntax.specs.Operators.{binary_text, precedence_of, assign_text, prefix_text, postfix_text, access_text, storage_text, dropped_text, basic_text};
 
-use crate::Place;
+use hs_tokens::Place;
 
 /// A binary operator (X3.159-1989 3.3.5 to 3.3.14).
 #[derive(Clone, Copy, Debug, PartialEq, Eq)]

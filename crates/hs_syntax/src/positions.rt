@@ -5,7 +5,8 @@ ghost use Rattle.hs_syntax.specs.Positions.{position_of, IsLastComma, first_of, 
 ghost use Rattle.hs_syntax.specs.RowViews.{view_left, lefts_from};
 ghost use Rattle.hs_syntax.specs.Views.{view, view_specifier, specification_of, view_statement};
 
-use crate::{Expr, Left, Place, Specifier, Stmt};
+use crate::{Expr, Left, Specifier, Stmt};
+use hs_tokens::Place;
 
 /// The place of the last comma, if there is one.
 fn last_comma(lefts: &[Left]) -> Option<Place>

@@ -1,6 +1,7 @@
 //! Trees of statements (X3.159-1989 3.6).
 
-use crate::{Decl, Expr, Place};
+use crate::{Decl, Expr};
+use hs_tokens::Place;
 
 /// A statement (X3.159-1989 3.6). `at` is the place of its first keyword.
 #[cycle(stmt)]

@@ -7,11 +7,13 @@ mod cursor;
 mod forms;
 mod literals;
 mod marks;
+mod place;
 mod scan_error;
 mod scanner;
 mod token;
 
 pub use marks::{is_identifier, is_mark, is_same_kind};
+pub use place::Place;
 pub use scan_error::ScanError;
 pub use scanner::scan;
 pub use token::{Origin, SourceToken, Token, TokenKind};

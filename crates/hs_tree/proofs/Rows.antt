@@ -1,7 +1,7 @@
 -- Worked examples: what the definitions say of small programs.
 use Rattle.std.proofs.Common.{◌≡◌, ℕ, true, false, List, [], ◌∷◌, Some, None, refl, arith}
 use Rattle.std.specs.Prelude.{codes}
-use Rattle.hs_syntax.specs.declared.word.Place.{Place}
+use Rattle.hs_tokens.specs.declared.place.Place.{Place}
 use Rattle.hs_tree.specs.Classes.{class_of}
 use Rattle.hs_tree.specs.Fitting.{Fits}
 use Rattle.hs_tree.specs.Trees as tree

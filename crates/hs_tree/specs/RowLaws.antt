@@ -4,7 +4,7 @@
 --     block_seen                       a block that is put together
 use Rattle.std.proofs.Common.{◌≡◌, List, [], ◌∷◌, map, refl, ap, ◌∙◌, Vec}
 use Rattle.std.specs.Global.{Global}
-use Rattle.hs_syntax.specs.declared.word.Place.{Place}
+use Rattle.hs_tokens.specs.declared.place.Place.{Place}
 use Rattle.hs_tree.specs.declared.statement.Block.{roll-Block, Row_of-Labelled, end_of-Labelled, more_of-Labelled, items-the_row-Labelled, items_hidden-the_row-Labelled-0}
 use Rattle.hs_tree.specs.declared.statement.Declaration.{Declaration}
 use Rattle.hs_tree.specs.declared.statement.Label.{Label}

@@ -5,7 +5,7 @@
 --     TypedFunction, TypedProgram
 --     head_of, head_of_left         the position and the type of an expression
 use Rattle.std.specs.Prelude.{ℕ, Bool, List, Option}
-use Rattle.hs_syntax.specs.declared.word.Place.{Place}
+use Rattle.hs_tokens.specs.declared.place.Place.{Place}
 use Rattle.hs_tree.specs.declared.constant.Part.{Part}
 use Rattle.hs_tree.specs.declared.function.BoundRoutine.{BoundRoutine}
 use Rattle.hs_tree.specs.declared.globals.Global.{Global}

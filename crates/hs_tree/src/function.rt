@@ -4,8 +4,8 @@ ghost use Rattle.std.specs.Prelude.{◌≡◌};
 
 use crate::{Block, VariableDecl};
 use hs_base::Bytes;
-use hs_syntax::Place;
 use hs_table::Routine;
+use hs_tokens::Place;
 use hs_types::TypeId;
 use std::marker::Model;
 

@@ -4,7 +4,7 @@ ghost use Rattle.std.specs.Prelude.{◌≡◌};
 ghost use Rattle.hs_tree.specs.Classes.{is_slot};
 
 use hs_base::Bytes;
-use hs_syntax::Place;
+use hs_tokens::Place;
 use hs_types::{Row, TypeId, Types};
 
 /// What each expression starts with: its position and origin, and its type.

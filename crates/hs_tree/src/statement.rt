@@ -1,7 +1,7 @@
 //! Trees of typed statements (X3.159-1989 3.6).
 
 use crate::{Parts, Rvalue};
-use hs_syntax::Place;
+use hs_tokens::Place;
 
 /// A statement (X3.159-1989 3.6). `at` is the place of its first token. Each controlling expression is a number.
 #[cycle(statement)]

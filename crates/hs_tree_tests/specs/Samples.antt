@@ -1,6 +1,6 @@
 -- A program for tests: `int main(void) { return 0; }`.
 use Rattle.std.specs.Prelude.{[], Some, codes}
-use Rattle.hs_syntax.specs.declared.word.Place.{Place}
+use Rattle.hs_tokens.specs.declared.place.Place.{Place}
 use Rattle.hs_tokens.specs.declared.token.Origin.TheVariants.{Plain}
 use Rattle.hs_tree.specs.Trees as tree
 use Rattle.hs_tree.specs.Trees.{TypedBlock, TypedFunction}

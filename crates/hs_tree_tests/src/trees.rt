@@ -5,8 +5,7 @@ ghost use Rattle.hs_tree_tests.specs.Samples.{sample_place, sample_head, smalles
 ghost use Rattle.hs_tree.specs.Views.{view_block, view_function};
 
 use hs_base::{Bytes, NoMemory, Pos};
-use hs_syntax::Place;
-use hs_tokens::Origin;
+use hs_tokens::{Origin, Place};
 use hs_tree::{
     Block, Class, Function, Globals, Head, Labelled, Literals, Lvalue, Program, Routines, Rvalue,
     Statement, TakenFields, Variable, VariableDecl, Variables,

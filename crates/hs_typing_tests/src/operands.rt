@@ -2,8 +2,7 @@
 
 use hs_base::{NoMemory, Pos};
 use hs_operands::{OperandEnd, and, arithmetic, comparison, not, or, unary};
-use hs_syntax::Place;
-use hs_tokens::Origin;
+use hs_tokens::{Origin, Place};
 use hs_tree::{Arithmetic, Comparison, Head, Rvalue, Unary};
 use hs_types::{Integer, TypeId, Types};
 use std::alloc::Global;

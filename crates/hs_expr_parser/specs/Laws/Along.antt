@@ -10,7 +10,7 @@ use Rattle.hs_syntax.specs.Phrases.{rank}
 use Rattle.hs_syntax.specs.RowViews.{OneLeft, one_left}
 use Rattle.hs_syntax.specs.Trees as tree
 use Rattle.hs_syntax.specs.Trees.{Expression}
-use Rattle.hs_syntax.specs.declared.word.Place.{Place}
+use Rattle.hs_tokens.specs.declared.place.Place.{Place}
 use Rattle.hs_expr_parser.specs.Ahead.{stops}
 use Rattle.hs_expr_parser.specs.Goals as goal
 use Rattle.hs_expr_parser.specs.Goals.{Goal, Tree}

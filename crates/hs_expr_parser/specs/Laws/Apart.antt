@@ -13,7 +13,7 @@ use Rattle.hs_tokens.specs.declared.token.SourceToken.{SourceToken}
 use Rattle.hs_tokens.specs.declared.token.TokenKind.{TokenKind}
 use Rattle.hs_tokens.specs.declared.token.TokenKind.TheVariants.{Identifier, Number, Character, Literal, Punctuator}
 use Rattle.hs_syntax.specs.Forms.{Piece, Form, ◌⨾◌, when, token, IsAt, Spells, IsOf}
-use Rattle.hs_syntax.specs.declared.word.Place.{Place}
+use Rattle.hs_tokens.specs.declared.place.Place.{Place}
 use Rattle.hs_expr_parser.specs.Ahead.{place_of, is_token, spelled_so}
 
 -- the token with this kind and this text

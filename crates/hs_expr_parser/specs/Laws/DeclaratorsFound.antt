@@ -20,7 +20,7 @@ use Rattle.hs_syntax.specs.RowViews.{OneMember, one_member, OneConstant, plain_o
 use Rattle.hs_syntax.specs.Trees as tree
 use Rattle.hs_syntax.specs.Trees.{Expression, NamedType, Specified, Specification, Declared, Declarators, Directly, Parameters}
 use Rattle.hs_syntax.specs.declared.operators.Basic.TheVariants.{Void}
-use Rattle.hs_syntax.specs.declared.word.Place.{Place}
+use Rattle.hs_tokens.specs.declared.place.Place.{Place}
 use Rattle.hs_syntax.specs.declared.word.Word.{Word}
 use Rattle.hs_expr_parser.specs.Ahead.{place_of, is_punctuator, is_keyword, is_mark_ahead, mark_at, place_if, name_of, name_at}
 use Rattle.hs_expr_parser.specs.Reading.{Known, Shorter, ◌>>=◌, pointers_at, begins_list, inside_rule, nothing_there, base_by, base_rule, length_rule, void_alone, list_rule, directs_rule, declarator_rule, declarators_rule, parameter_rule, parameters_rule, type_rule, member_rule_of, members_rule, constant_rule, constants_rule}

@@ -20,7 +20,7 @@ use Rattle.hs_syntax.specs.declared.operators.Dropped.{Dropped}
 use Rattle.hs_syntax.specs.declared.operators.Dropped.TheVariants as dropped
 use Rattle.hs_syntax.specs.declared.operators.Pointer.{Pointer}
 use Rattle.hs_syntax.specs.declared.operators.Pointer.TheVariants as pointer
-use Rattle.hs_syntax.specs.declared.word.Place.{Place}
+use Rattle.hs_tokens.specs.declared.place.Place.{Place}
 use Rattle.hs_syntax.specs.declared.word.Word.{Word}
 use Rattle.hs_expr_parser.specs.Ahead.{place_of, is_punctuator, is_ahead, is_mark_ahead, mark_at, name_of, begins_specifier, stops, is_below, joins}
 use Rattle.hs_expr_parser.specs.Goals as goal

@@ -6,7 +6,7 @@ use Rattle.hs_tokens.specs.declared.token.SourceToken.{SourceToken}
 use Rattle.hs_tokens.specs.declared.token.TokenKind.{TokenKind}
 use Rattle.hs_tokens.specs.declared.token.TokenKind.TheVariants.{Punctuator}
 use Rattle.hs_syntax.specs.Forms.{Form, ◌⨾◌, token, mark, IsOf}
-use Rattle.hs_syntax.specs.declared.word.Place.{Place}
+use Rattle.hs_tokens.specs.declared.place.Place.{Place}
 use Rattle.hs_expr_parser.specs.Ahead.{place_of}
 use Rattle.hs_expr_parser.specs.Laws.Apart.{with_text, Split, split, OneToken, one_token}
 use Rattle.hs_expr_parser.specs.Laws.Primaries.{Bracketed, bracketed, Behind, behind}

@@ -30,7 +30,7 @@ use Rattle.hs_syntax.specs.declared.operators.PostfixOperator.{PostfixOperator}
 use Rattle.hs_syntax.specs.declared.operators.PostfixOperator.TheVariants as postfix
 use Rattle.hs_syntax.specs.declared.operators.PrefixOperator.{PrefixOperator}
 use Rattle.hs_syntax.specs.declared.operators.PrefixOperator.TheVariants as prefix
-use Rattle.hs_syntax.specs.declared.word.Place.{Place}
+use Rattle.hs_tokens.specs.declared.place.Place.{Place}
 use Rattle.hs_expr_parser.specs.Ahead.{place_of, word_of, is_punctuator, is_keyword, binary_of, assign_of, prefix_of, postfix_of, access_of, is_mark_ahead, literals_at, begins_type}
 use Rattle.hs_expr_parser.specs.Goals as goal
 use Rattle.hs_expr_parser.specs.Reading.{Known, Shorter, parens_rule, primary_by, primary_rule, index_rule, call_rule, member_rule, suffix_rule, suffixes_rule, postfix_rule, operand_at, type_in_parens, sizeof_rule, unary_by, unary_rule, cast_rule, Operand, operand_by, operand_rule, climb_rule, binary_rule, Branches, branches_rule, conditional_rule, Assigned, value_by, value_rule, assignment_rule, another_rule, joined, commas_rule, expression_rule, arguments_rule}

@@ -21,7 +21,7 @@ use Rattle.hs_syntax.specs.Parts.{identifier, literals, tag_form, pointers_form}
 use Rattle.hs_syntax.specs.declared.operators.Dropped.{Dropped}
 use Rattle.hs_syntax.specs.declared.operators.Dropped.TheVariants as dropped
 use Rattle.hs_syntax.specs.declared.operators.Pointer.{Pointer}
-use Rattle.hs_syntax.specs.declared.word.Place.{Place}
+use Rattle.hs_tokens.specs.declared.place.Place.{Place}
 use Rattle.hs_syntax.specs.declared.word.Word.{Word}
 use Rattle.hs_expr_parser.specs.Ahead.{place_of, word_of, is_token, is_punctuator, spelled_so, token_so, dropped_of, mark_at, place_if, name_at, is_literal, literals_at}
 use Rattle.hs_expr_parser.specs.Reading.{going_on, tag_at, pointer_by, with_pointer, pointers_at}

@@ -17,7 +17,7 @@ use Rattle.hs_syntax.specs.declared.operators.AssignOperator.{AssignOperator}
 use Rattle.hs_syntax.specs.declared.operators.AssignOperator.TheVariants as assigning
 use Rattle.hs_syntax.specs.declared.operators.BinaryOperator.{BinaryOperator}
 use Rattle.hs_syntax.specs.declared.operators.BinaryOperator.TheVariants as binary
-use Rattle.hs_syntax.specs.declared.word.Place.{Place}
+use Rattle.hs_tokens.specs.declared.place.Place.{Place}
 use Rattle.hs_expr_parser.specs.Ahead.{place_of, mark_at, binary_of, assign_of, stops, is_below, joins, is_ahead, begins_specifier}
 use Rattle.hs_expr_parser.specs.Goals as goal
 use Rattle.hs_expr_parser.specs.Recursion.{Read}

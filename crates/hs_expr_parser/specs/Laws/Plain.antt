@@ -21,7 +21,7 @@ use Rattle.hs_syntax.specs.declared.operators.PostfixOperator.{PostfixOperator}
 use Rattle.hs_syntax.specs.declared.operators.PrefixOperator.{PrefixOperator}
 use Rattle.hs_syntax.specs.declared.operators.PrefixOperator.TheVariants.{Increment, Decrement, Address, Dereference, Plus, Minus, Complement, Not}
 use Rattle.hs_syntax.specs.declared.operators.Storage.{Storage}
-use Rattle.hs_syntax.specs.declared.word.Place.{Place}
+use Rattle.hs_tokens.specs.declared.place.Place.{Place}
 use Rattle.hs_syntax.specs.declared.word.Word.{Word}
 use Rattle.hs_expr_parser.specs.Ahead.{place_of, is_mark_ahead, name_of, prefix_of, access_of, postfix_of, binary_of, assign_of, storage_of, dropped_of, basic_of, begins_specifier}
 use Rattle.hs_expr_parser.specs.Goals as goal

@@ -28,7 +28,7 @@ use Rattle.hs_syntax.specs.declared.operators.Access.{Access}
 use Rattle.hs_syntax.specs.declared.operators.Access.TheVariants as access
 use Rattle.hs_syntax.specs.declared.operators.PostfixOperator.{PostfixOperator}
 use Rattle.hs_syntax.specs.declared.operators.PostfixOperator.TheVariants as postfix
-use Rattle.hs_syntax.specs.declared.word.Place.{Place}
+use Rattle.hs_tokens.specs.declared.place.Place.{Place}
 use Rattle.hs_syntax.specs.declared.word.Word.{Word}
 use Rattle.hs_expr_parser.specs.Ahead.{place_of, word_of, is_punctuator, is_mark_ahead, mark_at, name_at, literals_at, stops, is_below, joins, begins_specifier, is_ahead}
 use Rattle.hs_expr_parser.specs.Goals as goal

@@ -24,7 +24,7 @@ use Rattle.hs_syntax.specs.declared.operators.Dropped.{Dropped}
 use Rattle.hs_syntax.specs.declared.operators.Dropped.TheVariants as dropped
 use Rattle.hs_syntax.specs.declared.operators.Storage.{Storage}
 use Rattle.hs_syntax.specs.declared.operators.Storage.TheVariants as storage
-use Rattle.hs_syntax.specs.declared.word.Place.{Place}
+use Rattle.hs_tokens.specs.declared.place.Place.{Place}
 use Rattle.hs_syntax.specs.declared.word.Word.{Word}
 use Rattle.hs_expr_parser.specs.Ahead.{place_of, word_of, is_punctuator, is_ahead, is_mark_ahead, name_at, begins_specifier, storage_of, dropped_of, basic_of, storage_words, dropped_words, basic_words}
 use Rattle.hs_expr_parser.specs.Goals as goal

@@ -19,7 +19,7 @@ use Rattle.hs_syntax.specs.declared.operators.Basic.TheVariants as basic
 use Rattle.hs_syntax.specs.declared.operators.Dropped.TheVariants as dropped
 use Rattle.hs_syntax.specs.declared.operators.Pointer.TheVariants as pointer
 use Rattle.hs_syntax.specs.declared.operators.Storage.TheVariants as storage
-use Rattle.hs_syntax.specs.declared.word.Place.{Place}
+use Rattle.hs_tokens.specs.declared.place.Place.{Place}
 use Rattle.hs_expr_parser.specs.Ahead.{is_keyword, is_mark_ahead, mark_at, place_if}
 use Rattle.hs_expr_parser.specs.Recursion.{Read}
 use Rattle.hs_expr_parser.specs.Reading.{Known, ◌>>=◌, void_alone}
