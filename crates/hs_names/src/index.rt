@@ -1,4 +1,4 @@
-//! Where the innermost declaration of each name is.
+//! Names with their places.
 
 ghost use Rattle.std.specs.Prelude.{◌≡◌, List, ℕ, [], Some, None, nat_eq, if◌then◌else◌, OnOk, OnErr};
 ghost use Rattle.std.specs.Cmp.Lexicographic.{pointwise};
@@ -9,9 +9,9 @@ use indexmap::IndexMap;
 use std::alloc::Global;
 use std::marker::Model;
 
-/// A place for each name. Contracts see the names with their places.
+/// A place for each name. Contracts see the names with their places. To look for one takes no longer if there are many.
 #[derive(Drop)]
-pub(crate) struct Index {
+pub struct Index {
     places: IndexMap<Vec<u8>, u32>,
 }
 
@@ -26,7 +26,7 @@ impl Model for Index {
 
 impl Index {
     /// No names. Takes no memory.
-    pub(crate) fn new(alloc: Global) -> Index
+    pub fn new(alloc: Global) -> Index
         ensures { result ≡ [] }
     {
         Index {
@@ -35,14 +35,16 @@ impl Index {
     }
 
     /// The place of the name, if it has one.
-    pub(crate) fn place(&self, name: &[u8]) -> Option<u32>
+    ///
+    /// Example: `None` for any name that was not put.
+    pub fn place(&self, name: &[u8]) -> Option<u32>
         ensures { result ≡ at name.now self.now }
     {
         self.places.get(name).copied()
     }
 
     /// Gives the name that place. Fails if memory runs out, but not if the name has a place already.
-    pub(crate) fn put(&mut self, name: Vec<u8>, place: u32) -> Result<(), NoMemory>
+    pub fn put(&mut self, name: Vec<u8>, place: u32) -> Result<(), NoMemory>
         ensures put { OnOk result (Puts name.items place self.old self.new) }
         ensures absent { OnErr result (at name.items self.old ≡ None) }
         ensures unchanged { OnErr result (self.new ≡ self.old) }

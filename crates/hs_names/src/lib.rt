@@ -1,4 +1,5 @@
-//! The names that are declared, by scope (X3.159-1989 3.1.2.1). `specs/Scopes.antt` has the definitions.
+//! The names that are declared, by scope (X3.159-1989 3.1.2.1), and names with their places. `specs/Scopes.antt` and
+//! `specs/Index.antt` have the definitions.
 #![tactic(auto)]
 
 mod index;
@@ -6,4 +7,5 @@ mod scopes;
 #[cfg(test)]
 mod tests;
 
+pub use index::Index;
 pub use scopes::Scopes;

@@ -1,1 +1,10 @@
-mod Typed
+mod Added
+mod AssignedTyped
+mod BranchesTyped
+mod Compatible
+mod Conditions
+mod Made
+mod Numbers
+mod ObjectsTyped
+mod PointersTyped
+mod Stays

@@ -21,3 +21,8 @@ Refuses given (Untyped at) = given ≡ Err (Untyped at)
 abbrev pub Gives : {A B : Type 0} → (B → A) → Result A OperandEnd → Result B OperandEnd → Type 0
 Gives view given (Ok it) = given ≡ Ok (view it)
 Gives view given (Err why) = Refuses given why
+
+-- The answer is that of the definition, and the table is then the one that the definition gives.
+abbrev pub Changes : {A B C : Type 0} → (B → A) → C → Result (A × C) OperandEnd → Result B OperandEnd → Type 0
+Changes view new given (Ok it) = given ≡ Ok (view it, new)
+Changes view new given (Err why) = Refuses given why

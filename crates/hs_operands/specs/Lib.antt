@@ -1,4 +1,11 @@
 pub mod Answers
+pub mod Assignments
+pub mod Calls
+pub mod Constants
 pub mod Conversions
 pub mod Laws
+pub mod Objects
+pub mod Operands
 pub mod Operators
+pub mod Pointers
+pub mod Types

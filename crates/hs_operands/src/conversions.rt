@@ -3,50 +3,15 @@
 ghost use Rattle.std.specs.Prelude.{◌≡◌, IfOk};
 ghost use Rattle.hs_operands.specs.Answers.{Gives};
 ghost use Rattle.hs_operands.specs.Conversions.{as_kind, truth};
-ghost use Rattle.hs_tree.specs.Kinds.{number_kind, is_pointer};
 ghost use Rattle.hs_tree.specs.Views.{view_right};
 
 use crate::OperandEnd;
+use crate::types::{is_pointer, number_kind};
 use hs_base::NoMemory;
 use hs_tokens::Place;
 use hs_tree::{Head, Rvalue};
-use hs_types::{Integer, Row, TypeId, Types};
+use hs_types::{Integer, TypeId, Types};
 use std::alloc::Global;
-
-/// How numbers of a type are represented, or `None` if it has none. An enumeration has those of `int` (X3.159-1989 3.5.2.2).
-pub fn number_kind(types: &Types, id: TypeId) -> Option<Integer>
-    ensures { result ≡ number_kind types.now id }
-{
-    match types.row(id)? {
-        Row::Integer(kind) => Some(kind),
-        Row::Enumeration(_) => Some(Integer::Int),
-        Row::Void
-        | Row::Pointer(_)
-        | Row::Struct(_)
-        | Row::Array { .. }
-        | Row::OpenArray(_)
-        | Row::Function { .. } => None,
-    }
-}
-
-/// Whether a type is a pointer.
-fn is_pointer(types: &Types, id: TypeId) -> bool
-    ensures { result ≡ is_pointer types.now id }
-{
-    match types.row(id) {
-        Some(Row::Pointer(_)) => true,
-        Some(
-            Row::Void
-            | Row::Integer(_)
-            | Row::Enumeration(_)
-            | Row::Struct(_)
-            | Row::Array { .. }
-            | Row::OpenArray(_)
-            | Row::Function { .. },
-        )
-        | None => false,
-    }
-}
 
 /// A number as one of that kind, by a conversion if its type is another (3.2.1.2).
 pub(crate) fn as_kind(

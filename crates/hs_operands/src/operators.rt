@@ -8,7 +8,8 @@ ghost use Rattle.hs_operands.specs.Operators.{unary_of, arithmetic_of, in_common
 ghost use Rattle.hs_tree.specs.Views.{view_right};
 
 use crate::OperandEnd;
-use crate::conversions::{as_kind, number_kind, truth};
+use crate::conversions::{as_kind, truth};
+use crate::types::number_kind;
 use hs_tokens::Place;
 use hs_tree::{Arithmetic, Comparison, Head, Rvalue, Unary};
 use hs_types::{Integer, TypeId, Types};
@@ -228,7 +229,7 @@ pub fn or(
 }
 
 /// What an expression of type `int` starts with.
-fn int_head(at: Place) -> Head
+pub(crate) fn int_head(at: Place) -> Head
     ensures { result ≡ head_at at (integer_id Integer.Int) }
 {
     Head {

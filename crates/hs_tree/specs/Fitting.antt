@@ -9,7 +9,7 @@ use Rattle.std.specs.Prelude.{◌≡◌, ◌≤◌, ◌<◌, ℕ, Bool, true, fa
 use Rattle.std.specs.List.{AllByRecursion}
 use Rattle.hs_table.specs.declared.routine.Routine.{Routine}
 use Rattle.hs_tree.specs.Classes.{is_taken}
-use Rattle.hs_tree.specs.Kinds.{number_kind, pointed, element, array_length, is_number, is_void, is_readable, IsNumber, IsAnyNumber, IsPointer, IsPointerTo, IsStruct, IsReadable, IsPointerToSize}
+use Rattle.hs_tree.specs.Kinds.{number_kind, pointed, element, array_length, is_number, is_void, is_readable, IsNumber, IsAnyNumber, IsPointer, IsPointerTo, IsStruct, IsScalar, IsReadable, IsPointerToSize}
 use Rattle.hs_tree.specs.Roles.{FitsRole}
 use Rattle.hs_tree.specs.Trees as tree
 use Rattle.hs_tree.specs.Trees.{RightValue, LeftValue, RightValues, Starting, TypedItem, TypedDeclaration, TypedStatement, TypedBlock, TypedStatements, TypedFunction, TypedProgram, type_of, type_of_left}
@@ -83,7 +83,7 @@ HasOperands types (right (tree.nil head)) = Unit {0}
 HasOperands types (right (tree.load head object)) = IsReadable types (type_of_left object)
 HasOperands types (right (tree.decay head array)) = IsTrue (is_some (element types (type_of_left array)))
 HasOperands types (right (tree.address head object)) = Unit {0}
-HasOperands types (right (tree.cast head operand)) = Unit {0}
+HasOperands types (right (tree.cast head operand)) = is_void types head.type_id ≡ false → IsScalar types (type_of operand)
 HasOperands types (right (tree.convert_number head kind operand)) = IsAnyNumber types (type_of operand)
 HasOperands types (right (tree.convert_pointer head operand)) = IsPointer types (type_of operand)
 HasOperands types (right (tree.unary head operator kind operand)) = IsNumber types kind (type_of operand)

@@ -1,9 +1,9 @@
 //! The objects of static storage duration.
 
-ghost use Rattle.std.specs.Prelude.{◌≡◌};
+ghost use Rattle.std.specs.Prelude.{◌≡◌, ◌++◌, ◌∷◌, [], OnOk, OnErr};
 
 use crate::{Parts, VariableDecl};
-use hs_base::Bytes;
+use hs_base::{Bytes, NoMemory};
 use std::marker::Model;
 
 /// A file-scope object or a static local: its declaration, its size in bytes, and what it starts with.
@@ -66,6 +66,15 @@ impl Literals {
         ensures { result ≡ items.items }
     {
         Literals { vec: items }
+    }
+
+    /// Puts a literal at the end. Fails if memory runs out.
+    pub fn push(&mut self, bytes: Bytes) -> Result<(), NoMemory>
+        ensures pushed { OnOk result (self.new ≡ self.old ++ bytes ∷ []) }
+        ensures unchanged { OnErr result (self.new ≡ self.old) }
+    {
+        self.vec.push(bytes)?;
+        Ok(())
     }
 
     /// Lends the items.

@@ -1,8 +1,8 @@
 -- Layouts: the fields of a struct lie apart, inside it and aligned.
-use Rattle.std.proofs.Common.{◌≡◌, ◌≤◌, ◌<◌, ◌+◌, ◌*◌, ◌%◌, ℕ, zero, suc, Bool, true, false, List, [], ◌∷◌, map, Option, Some, None, refl, ap, sym, if◌then◌else◌, arith}
+use Rattle.std.proofs.Common.{◌≡◌, ◌≤◌, ◌<◌, ◌+◌, ◌%◌, ℕ, zero, suc, Bool, true, false, List, [], ◌∷◌, map, Option, Some, None, refl, ap, sym, if◌then◌else◌, arith}
 use Rattle.std.proofs.lemmas.Bool.Decides.{nat_tests}
 use Rattle.std.specs.Prelude.{slice_get, nat_le}
-use Rattle.hs_types.specs.Layouts.{array_layout, most_bytes, rounded_up, placed, offsets_from, end_from, hold_characters, struct_size, struct_layout}
+use Rattle.hs_types.specs.Layouts.{most_bytes, rounded_up, placed, offsets_from, end_from, hold_characters, struct_size, struct_layout}
 use Rattle.hs_types.specs.TypeTables.{TypeTable, IsBody, AreApart, AreInside, AreAligned, HaveLayouts, fields_from, layouts_of, layout_of, body_from, laid, measured, measured_first}
 use Rattle.std.specs.Prelude.{Ok, Err}
 use Rattle.hs_types.specs.declared.body.Measured.{Measured}

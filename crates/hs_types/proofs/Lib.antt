@@ -2,3 +2,4 @@ mod Places
 mod Tables
 mod Layouts
 mod Measures
+mod Indexing

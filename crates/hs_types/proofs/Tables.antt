@@ -1,19 +1,15 @@
 -- A table that grows keeps its layouts, and stays right.
-use Rattle.std.proofs.Common.{◌≡◌, ℕ, ◌⊎◌, inl, inr, true, List, [], ◌∷◌, Option, Some, None, refl, ap, sym, ◌∙◌, if◌then◌else◌}
-use Rattle.std.specs.Prelude.{slice_get, is_some, option_map}
-use Rattle.hs_types.specs.Layouts.{word_layout}
-use Rattle.hs_types.specs.TypeTables.{TypeTable, body_in, body_of, constants_in, constants_of, row_of, layout_of_row, layout_in, layout_of, with_row, with_list, with_struct, with_enumeration, with_constants, with_body, awaits_body, FitsRow, IsBody, IsRight, Grows}
+use Rattle.std.proofs.Common.{◌≡◌, ℕ, ◌⊎◌, inl, inr, true, List, [], ◌∷◌, Option, Some, None, refl, ap, sym, ◌∙◌}
+use Rattle.std.specs.Prelude.{slice_get}
+use Rattle.hs_types.specs.TypeTables.{TypeTable, body_in, constants_in, with_row, with_list, with_struct, with_enumeration, with_constants, with_body, awaits_body, FitsRow, IsBody, IsRight, Grows}
 use Rattle.hs_types.specs.declared.body.Body.{Body}
 use Rattle.hs_types.specs.declared.body.Enumerator.{Enumerator}
-use Rattle.hs_types.specs.declared.layout.Layout.{Layout}
 use Rattle.hs_types.specs.declared.row.Parameters.{Parameters}
 use Rattle.hs_types.specs.declared.row.Row.{Row}
-use Rattle.hs_types.specs.declared.row.Row.TheVariants.{Void, Integer, Pointer, Enumeration, Struct, Array, OpenArray, Function}
-use Rattle.hs_types.specs.declared.row.TypeId.{TypeId}
 use Rattle.hs_types.specs.contracts.row.RowPartialEq.TheImpl as row_eq
 use Rattle.hs_types.specs.contracts.row.ParametersPartialEq.TheImpl as parameters_eq
 use Rattle.hs_types.proofs.Places.{slice_get-append-stays, slice_get-append-one, slice_get-insert_key-stays, slice_get-insert_key, slice_get-slice_set, slice_get-slice_set-stays}
-use Rattle.hs_types.specs.Growing.{layout_stays, fits_row_stays, is_body_stays}
+use Rattle.hs_types.specs.Growing.{fits_row_stays, is_body_stays}
 
 -- with a type more
 pub Grows-with_row : (types : TypeTable) (row : Row) → Grows types (with_row row types)

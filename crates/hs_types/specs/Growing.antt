@@ -1,19 +1,16 @@
 -- A table that grows keeps what was known of it.
 --     grows_self, grows_then                                    a table grows from itself, and from one that grew
 --     layout_stays, fits_row_stays, is_body_stays
-use Rattle.std.proofs.Common.{◌≡◌, ℕ, ◌⊎◌, inl, inr, true, List, [], ◌∷◌, Option, Some, None, refl, ap, sym, ◌∙◌, if◌then◌else◌}
-use Rattle.std.specs.Prelude.{slice_get, is_some, option_map}
+use Rattle.std.proofs.Common.{◌≡◌, List, Option, Some, None, refl, ap, ◌∙◌, if◌then◌else◌}
+use Rattle.std.specs.Prelude.{is_some, option_map}
 use Rattle.hs_types.specs.Layouts.{word_layout}
-use Rattle.hs_types.specs.TypeTables.{TypeTable, body_in, body_of, constants_in, constants_of, row_of, layout_of_row, layout_in, layout_of, with_row, with_list, with_struct, with_enumeration, with_constants, with_body, awaits_body, FitsRow, IsBody, IsRight, Grows}
+use Rattle.hs_types.specs.TypeTables.{TypeTable, body_of, constants_of, row_of, layout_of_row, layout_in, layout_of, FitsRow, IsBody, Grows}
 use Rattle.hs_types.specs.declared.body.Body.{Body}
 use Rattle.hs_types.specs.declared.body.Enumerator.{Enumerator}
 use Rattle.hs_types.specs.declared.layout.Layout.{Layout}
-use Rattle.hs_types.specs.declared.row.Parameters.{Parameters}
 use Rattle.hs_types.specs.declared.row.Row.{Row}
 use Rattle.hs_types.specs.declared.row.Row.TheVariants.{Void, Integer, Pointer, Enumeration, Struct, Array, OpenArray, Function}
 use Rattle.hs_types.specs.declared.row.TypeId.{TypeId}
-use Rattle.hs_types.specs.contracts.row.RowPartialEq.TheImpl as row_eq
-use Rattle.hs_types.specs.contracts.row.ParametersPartialEq.TheImpl as parameters_eq
 
 -- a table grows from itself
 pub grows_self : (types : TypeTable) → Grows types types

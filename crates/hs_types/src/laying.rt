@@ -40,7 +40,7 @@ pub(crate) fn laid_out(alloc: Global, members: Vec<Measured>) -> Result<Body, Ty
     }
     let size = if characters { end } else { end + end % 2 };
     Ok(Body {
-        fields: Fields::from_vec(fields),
+        fields: Fields::indexed(alloc, fields)?,
         layout: Layout {
             size,
             even: true,

@@ -204,6 +204,7 @@ impl Types {
         let number = self.lists.place(list)?;
         Ok(ListId { number })
     }
+
     /// The number of a new struct, whose body comes later (X3.159-1989 3.5.2.3). Fails if memory runs out.
     pub fn declare_struct(&mut self) -> Result<u32, NoMemory>
         ensures number { IfOk result (λ number. number ≡ length self.old.structs) }
@@ -253,7 +254,9 @@ impl Types {
     }
 
     /// Whether there is a struct of that number whose body has not come yet.
-    fn struct_awaits_body(&self, number: u32) -> bool
+    ///
+    /// Example: it is so after `struct S;`.
+    pub fn struct_awaits_body(&self, number: u32) -> bool
         ensures { result ≡ awaits_body (slice_get self.now.structs number) }
     {
         matches!(self.structs.get(number as usize), Some(None))

@@ -1,7 +1,7 @@
 //! Operators on typed operands.
 
 use hs_base::{NoMemory, Pos};
-use hs_operands::{OperandEnd, and, arithmetic, comparison, not, or, unary};
+use hs_operands::{OperandEnd, and, arithmetic, compared, not, or, unary};
 use hs_tokens::{Origin, Place};
 use hs_tree::{Arithmetic, Comparison, Head, Rvalue, Unary};
 use hs_types::{Integer, TypeId, Types};
@@ -109,7 +109,7 @@ fn compared(alloc: Global) -> Result<TypeId, OperandEnd> {
     let left = one(alloc, Integer::Long)?;
     let right = one(alloc, Integer::Char)?;
     Ok(
-        comparison(alloc, &types, place(), Comparison::Less, left, right)?
+        compared(alloc, &types, place(), Comparison::Less, left, right)?
             .head()
             .type_id,
     )

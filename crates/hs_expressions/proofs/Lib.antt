@@ -1,0 +1,5 @@
+mod Derived
+mod Lists
+mod Named
+mod MembersNext
+mod Shaped

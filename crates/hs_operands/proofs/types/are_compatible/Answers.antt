@@ -1,0 +1,10 @@
+use Rattle.std.proofs.Common.{rules, ◌∙◌}
+use Rattle.hs_operands.proofs.Compatible.{compatible_inside}
+use Rattle.hs_operands.proofs.types.are_compatible.Goals as goal
+
+-- what is inside is left to compare
+pub inside-preserved : goal.inside-preserved
+inside-preserved c =
+    compatible_inside c.inside.more c.args.types.now c.inside.inside.left c.inside.inside.right c.in-Some.next (search rules) (search rules) (search rules)
+    (search rules)
+    ∙ c.inside.invariant
