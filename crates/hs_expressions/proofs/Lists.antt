@@ -1,5 +1,5 @@
 -- Lists that are gone through from the end, and what an end of them gives.
-use Rattle.std.proofs.Common.{◌≡◌, List, [], ◌∷◌, ◌++◌, Result, Ok, Err, refl, ap}
+use Rattle.std.proofs.Common.{◌≡◌, List, [], ◌∷◌, ◌++◌, Result, Err, refl, ap}
 use Rattle.hs_expressions.specs.Declarators.{with_first, listed_onto, derived_from, formed_onto}
 use Rattle.hs_expressions.specs.declared.declarators.Derivation.{Derivation}
 use Rattle.hs_expressions.specs.declared.type_error.TypeError.{TypeError}

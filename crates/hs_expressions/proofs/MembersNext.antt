@@ -1,8 +1,6 @@
 -- The members of a struct, one on.
-use Rattle.std.proofs.Common.{◌≡◌, ℕ, ◌+◌, ◌<◌, length, drop, get_or, map, List, [], ◌∷◌, refl, ap, sym, ◌∙◌}
+use Rattle.std.proofs.Common.{◌≡◌, ℕ, ◌+◌, ◌<◌, length, drop, get_or, map, List, ◌∷◌, ap, sym, ◌∙◌}
 use Rattle.std.proofs.lemmas.List.{drop_more}
-use Rattle.hs_expressions.specs.Expressions.{members_of}
-use Rattle.hs_expressions.specs.declared.typer.Typer.{Typer}
 use Rattle.hs_syntax.specs.RowLaws.{view_member-out}
 use Rattle.hs_syntax.specs.RowViews.{view_member, one_member, OneMember, members_from, declarators_from}
 use Rattle.hs_syntax.specs.Trees as syntax
@@ -10,8 +8,6 @@ use Rattle.hs_syntax.specs.Views.{view_declarator, specification_of}
 use Rattle.hs_syntax.specs.declared.expr.Declarator.{Declarator}
 use Rattle.hs_syntax.specs.declared.expr.Member.{Member, out-Member}
 use Rattle.hs_syntax.specs.declared.expr.Specifier.{Specifier}
-use Rattle.hs_tokens.specs.declared.place.Place.{Place}
-use Rattle.hs_types.specs.declared.body.Member as typed
 
 -- the next ones are seen by their lists of specifiers and declarators
 seen : (it : Member) (specifiers : List Specifier) (declarators : List Declarator) → specifiers ≡ (out-Member it).specifiers.items

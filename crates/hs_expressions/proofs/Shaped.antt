@@ -1,5 +1,5 @@
 -- Fewer parameters than shapes.
-use Rattle.std.proofs.Common.{◌≡◌, ℕ, ◌+◌, ◌<◌, length, drop, get_or, false, List, ◌∷◌, None, slice_get, refl, ap, sym, ◌∙◌}
+use Rattle.std.proofs.Common.{◌≡◌, ℕ, ◌<◌, length, drop, false, List, None, slice_get, refl, ap, ◌∙◌}
 use Rattle.std.proofs.lemmas.List.{drop_more}
 use Rattle.hs_expressions.specs.Roles.{next_of, are_shaped}
 use Rattle.hs_expressions.specs.declared.roles.Shape.{Shape}

@@ -4,17 +4,16 @@
 --     listed ids                        a list of parameter types
 --     word_of it, place_of other it     the word that a declarator names, and its place
 --     declare word entity               a name, declared in the innermost scope
-use Rattle.std.specs.Prelude.{ℕ, nat_le, Bool, true, false, ◌&&◌, ◌||◌, List, [], ◌∷◌, ◌++◌, Option, Some, None, is_some, Result, Ok, Err, if◌then◌else◌}
+use Rattle.std.specs.Prelude.{ℕ, nat_le, Bool, true, false, ◌||◌, List, [], ◌∷◌, Option, Some, None, is_some, Result, Ok, Err, if◌then◌else◌}
 use Rattle.hs_constants.specs.declared.value.Value.{Value}
-use Rattle.hs_expressions.specs.Steps.{Step, ◌>>=◌, give, refuse}
+use Rattle.hs_expressions.specs.Steps.{Step}
 use Rattle.hs_expressions.specs.declared.declarators.Derivation.{Derivation}
 use Rattle.hs_expressions.specs.declared.declarators.Derivation.TheVariants as derivation
 use Rattle.hs_expressions.specs.declared.type_error.TypeError.{TypeError}
 use Rattle.hs_expressions.specs.declared.type_error.TypeError.TheVariants.{Untyped}
 use Rattle.hs_expressions.specs.declared.typer.Entity.{Entity}
 use Rattle.hs_expressions.specs.declared.typer.Entity.TheVariants as entity
-use Rattle.hs_expressions.specs.declared.typer.Typer.{Typer}
-use Rattle.hs_names.specs.Scopes.{Scoped, find, find_here, declared}
+use Rattle.hs_names.specs.Scopes.{find, find_here, declared}
 use Rattle.hs_operands.specs.Constants.{constant_value}
 use Rattle.hs_syntax.specs.Trees as syntax
 use Rattle.hs_syntax.specs.Trees.{Declared, Directly}
@@ -22,12 +21,9 @@ use Rattle.hs_syntax.specs.declared.operators.Pointer.{Pointer}
 use Rattle.hs_syntax.specs.declared.operators.Pointer.TheVariants as pointer
 use Rattle.hs_syntax.specs.declared.word.Word.{Word}
 use Rattle.hs_tokens.specs.declared.place.Place.{Place}
-use Rattle.hs_tree.specs.Kinds.{is_void, is_readable}
-use Rattle.hs_tree.specs.Trees.{RightValue, type_of, head_of}
+use Rattle.hs_tree.specs.Trees.{RightValue, head_of}
 use Rattle.hs_types.specs.TypeTables.{TypeTable, row_of, layout_of, arrayed, with_row, id_of, with_list, list_id_of}
-use Rattle.hs_types.specs.declared.layout.Layout.{Layout}
 use Rattle.hs_types.specs.declared.row.ListId.{ListId}
-use Rattle.hs_types.specs.declared.row.Parameters.{Parameters}
 use Rattle.hs_types.specs.declared.row.Parameters.TheVariants.{Empty, More}
 use Rattle.hs_types.specs.declared.row.Row.{Row}
 use Rattle.hs_types.specs.declared.row.Row.TheVariants as row
@@ -39,6 +35,7 @@ abbrev pub constant_as : Place → Option Value → Result Value TypeError
 constant_as at None = Err (Untyped at)
 constant_as at (Some value) = if value.fails then Err (Untyped at) else Ok value
 
+-- of a typed expression, at its position
 abbrev pub constant_of : TypeTable → RightValue → Result Value TypeError
 constant_of types e = constant_as (head_of e).at (constant_value types e)
 
@@ -51,6 +48,7 @@ abbrev pub length_as : Place → Result Value TypeError → Result ℕ TypeError
 length_as at (Err why) = Err why
 length_as at (Ok value) = if (if nat_le 1 value.bits then is_negative value else true) then Err (Untyped at) else Ok value.bits
 
+-- of a typed expression
 abbrev pub length_of : TypeTable → RightValue → Result ℕ TypeError
 length_of types e = length_as (head_of e).at (constant_of types e)
 
@@ -82,6 +80,7 @@ is_array_row (Some (row.Function result parameters)) = false
 abbrev pub added : Row → TypeTable → Result (TypeId × TypeTable) TypeError
 added its types = Ok (id_of its types, with_row its types)
 
+-- a type that cannot be made is refused at that place
 abbrev pub untyped_end : {A : Type 0} → Place → Result A TypeEnd → Result A TypeError
 untyped_end at (Ok it) = Ok it
 untyped_end at (Err why) = Err (Untyped at)
@@ -94,6 +93,7 @@ derived_of at derivation.OpenArray of types = if is_some (layout_of types of) th
 derived_of at (derivation.Function list) of types =
     if is_function_row (row_of types of) || is_array_row (row_of types of) then Err (Untyped at) else added (row.Function of list) types
 
+-- if what it is derived from could be made
 abbrev pub derived_from : Place → Derivation → Result (TypeId × TypeTable) TypeError → Result (TypeId × TypeTable) TypeError
 derived_from at its (Err why) = Err why
 derived_from at its (Ok p) = derived_of at its p.0 p.1
@@ -103,6 +103,7 @@ abbrev pub formed_onto : Place → List Derivation → Result (TypeId × TypeTab
 formed_onto at [] given = given
 formed_onto at (its ∷ rest) given = derived_from at its (formed_onto at rest given)
 
+-- all of them, from that type on
 abbrev pub formed : Place → List Derivation → TypeId → TypeTable → Result (TypeId × TypeTable) TypeError
 formed at its id types = formed_onto at its (Ok (id, types))
 
@@ -118,10 +119,12 @@ parameter_row at id (Some (row.Array of length layout)) types = added (row.Point
 parameter_row at id (Some (row.OpenArray of)) types = added (row.Pointer of) types
 parameter_row at id (Some (row.Function result parameters)) types = Err (Untyped at)
 
+-- if the declared type could be made
 abbrev pub parameter_of : Place → Result (TypeId × TypeTable) TypeError → Result (TypeId × TypeTable) TypeError
 parameter_of at (Err why) = Err why
 parameter_of at (Ok p) = parameter_row at p.0 (row_of p.1 p.0) p.1
 
+-- by its derivations
 abbrev pub parameter_type : Place → List Derivation → TypeId → TypeTable → Result (TypeId × TypeTable) TypeError
 parameter_type at its id types = parameter_of at (formed at its id types)
 
@@ -129,10 +132,12 @@ parameter_type at its id types = parameter_of at (formed at its id types)
 abbrev pub with_first : TypeId → ListId × TypeTable → ListId × TypeTable
 with_first id p = (list_id_of (More id p.0) p.1, with_list (More id p.0) p.1)
 
+-- in front of those that are listed already
 abbrev pub listed_onto : List TypeId → ListId × TypeTable → ListId × TypeTable
 listed_onto [] p = p
 listed_onto (id ∷ ids) p = with_first id (listed_onto ids p)
 
+-- all of them
 abbrev pub listed : List TypeId → TypeTable → ListId × TypeTable
 listed ids types = listed_onto ids (list_id_of Empty types, with_list Empty types)
 
@@ -147,15 +152,17 @@ abbrev mutual
   pub word_of : Declared → Option Word
   word_of (syntax.pointing pointers direct) = word_of_direct direct
 
+  -- behind the pointers of a declarator
   pub word_of_direct : Directly → Option Word
   word_of_direct syntax.nothing = None
   word_of_direct (syntax.identifier word) = Some word
   word_of_direct (syntax.parens_of it) = word_of it
   word_of_direct (syntax.array base) = word_of_direct base
   word_of_direct (syntax.sized_array base length) = word_of_direct base
-  word_of_direct (syntax.function base parameters) = word_of_direct base
+  word_of_direct (syntax.function base its) = word_of_direct base
   word_of_direct (syntax.function_of_void base at) = word_of_direct base
 
+-- the place of a word, or the other one
 abbrev pub place_in : Place → Option Word → Place
 place_in other None = other
 place_in other (Some word) = word.place

@@ -13,13 +13,16 @@ use Rattle.hs_tree.specs.declared.head.Variable.TheVariants as variable
 use Rattle.hs_types.specs.declared.row.ListId.{ListId}
 use Rattle.hs_types.specs.declared.row.TypeId.{TypeId}
 
+-- in the table of types
 abbrev pub list_of : List TypeId → Step ListId
 list_of ids = on_types (λ types. Ok (listed ids types))
 
+-- a parameter that is named is declared, by its place
 abbrev pub declare_parameter : Option Word → ℕ → TypeId → Step (Unit {0})
 declare_parameter None place id = give tt
 declare_parameter (Some word) place id = declare word (entity.Variable (variable.Local place) id)
 
+-- its type, made of the specifiers' type
 abbrev pub parameter : Place → List Derivation → TypeId → Declared → ℕ → Step TypeId
 parameter first its id it place = do
   made ← on_types (parameter_type (place_of first it) its id)

@@ -7,14 +7,14 @@
 --     specified stored at its       a list of specifiers
 --     derivations at it             what a declarator derives
 --     parameter_types at place done its     the types of parameters
-use Rattle.std.specs.Prelude.{ℕ, suc, Bool, true, false, List, [], ◌∷◌, ◌++◌, Option, Some, None, Result, Ok, Err, if◌then◌else◌}
+use Rattle.std.specs.Prelude.{ℕ, suc, Bool, false, List, [], ◌∷◌, ◌++◌, Option, Some, Result, Ok, Err, if◌then◌else◌}
 use Rattle.hs_expressions.specs.Declarators.{formed, length_of, pointers_of, word_of, place_of}
 use Rattle.hs_expressions.specs.Declaring.{list_of, parameter}
 use Rattle.hs_expressions.specs.Operations.{as_value, as_object, value_of, binary_of, is_arrow, member_operand, takes_object, prefix_object, prefix_value, postfix_of, assignment_of, call_operand}
 use Rattle.hs_expressions.specs.Primaries.{named, number_of, character_of, string_of}
 use Rattle.hs_expressions.specs.Specifiers.{no_specifiers, with_basic, with_type, with_storage, type_from, typedef_of, struct_type, enumeration_type, tagged_struct, begun_struct, tagged_enumeration, begun_enumeration, with_member, completed_struct, completed_enumeration, int_of, next_bits, then_next, enumerator}
 use Rattle.hs_expressions.specs.declared.type_error.TypeError.{TypeError}
-use Rattle.hs_expressions.specs.Steps.{Step, ◌>>=◌, ◌>>◌, give, refuse, look, of_types, on_types, lifted, mapped, unevaluated}
+use Rattle.hs_expressions.specs.Steps.{Step, ◌>>=◌, ◌>>◌, give, look, of_types, on_types, mapped, unevaluated}
 use Rattle.hs_expressions.specs.declared.declarators.Derivation.{Derivation}
 use Rattle.hs_expressions.specs.declared.declarators.Derivation.TheVariants as derivation
 use Rattle.hs_expressions.specs.declared.specifiers.Specifiers.{Specifiers}
@@ -27,12 +27,10 @@ use Rattle.hs_operands.specs.Operands.{TypedOperand}
 use Rattle.hs_syntax.specs.Positions.{last_comma, position_of, first_of_specifiers, place_or}
 use Rattle.hs_syntax.specs.Trees as syntax
 use Rattle.hs_syntax.specs.Trees.{Expression, Expressions, Lefts, NamedType, Specified, Specification, Members, Constants, Declared, Declarators, Directly, Parameters}
-use Rattle.hs_syntax.specs.declared.word.Word.{Word}
 use Rattle.hs_tokens.specs.declared.place.Place.{Place}
 use Rattle.hs_tree.specs.Trees.{RightValue}
 use Rattle.hs_types.specs.declared.body.Enumerator.{Enumerator}
 use Rattle.hs_types.specs.declared.body.Member.{Member}
-use Rattle.hs_types.specs.declared.row.ListId.{ListId}
 use Rattle.hs_types.specs.declared.row.TypeId.{TypeId}
 
 -- the first of the specifiers, or the other place if there are none
@@ -43,13 +41,16 @@ first_place at its = place_or at (first_of_specifiers its)
 abbrev pub enter : Typer → Typer
 enter s = record s { names = entered s.names; tags = entered s.tags }
 
+-- and without the innermost scope
 abbrev pub leave : Typer → Typer
 leave s = record s { names = left s.names; tags = left s.tags }
 
+-- after a step that was not refused
 abbrev pub leaving : {A : Type 0} → Result (A × Typer) TypeError → Result (A × Typer) TypeError
 leaving (Ok p) = Ok (p.0, leave p.1)
 leaving (Err why) = Err why
 
+-- a step in a scope of its own
 abbrev pub inside : {A : Type 0} → Step A → Step A
 inside step s = leaving (step (enter s))
 
@@ -62,6 +63,7 @@ abbrev pub int_value_of : Step TypedOperand → Step ℕ
 int_value_of step = value_of step >>= (λ e. of_types (λ types. int_of types e))
 
 abbrev mutual
+  -- 3.3: what an expression is
   pub typed : Expression → Step TypedOperand
   typed (syntax.name word) = look (λ s. named s.names word)
   typed (syntax.number word) = look (λ s. number_of word)
@@ -123,12 +125,14 @@ abbrev mutual
     e ← value_of (typed last)
     give (operand.value (comma_of (last_comma (position_of last) lefts) its e))
 
+  -- 3.3.2.2: arguments
   pub typed_all : List RightValue → Expressions → Step (List RightValue)
   typed_all done syntax.no_expressions = give done
   typed_all done (syntax.more_expressions first rest) = do
     e ← value_of (typed first)
     typed_all (done ++ e ∷ []) rest
 
+  -- 3.3.17: left operands
   pub typed_lefts : List RightValue → Lefts → Step (List RightValue)
   typed_lefts done syntax.no_lefts = give done
   typed_lefts done (syntax.more_lefts first at rest) = do
@@ -149,6 +153,7 @@ abbrev mutual
     next ← specifier stored first done it
     specified stored first next rest
 
+  -- one specifier more
   pub specifier : Bool → Place → Specifiers → Specified → Step Specifiers
   specifier stored first done (syntax.storage word at) = look (λ s. with_storage stored word at done)
   specifier stored first done (syntax.dropped word at) = give done
@@ -183,6 +188,7 @@ abbrev mutual
     next ← members_as (first_place at specification) id done its
     members_of at next rest
 
+  -- those that are declared together
   pub members_as : Place → TypeId → List Member → Declarators → Step (List Member)
   members_as first id done syntax.no_declarators = give done
   members_as first id done (syntax.more_declarators it rest) = do
@@ -207,6 +213,7 @@ abbrev mutual
     its ← derivations_of at direct
     give (its ++ pointers_of pointers)
 
+  -- behind the pointers
   pub derivations_of : Place → Directly → Step (List Derivation)
   derivations_of at syntax.nothing = give []
   derivations_of at (syntax.identifier word) = give []

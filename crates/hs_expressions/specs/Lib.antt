@@ -1,7 +1,9 @@
 pub mod Declarators
 pub mod Declaring
 pub mod Expressions
+pub mod Laws
 pub mod Operations
+pub mod Order
 pub mod Primaries
 pub mod Roles
 pub mod Specifiers

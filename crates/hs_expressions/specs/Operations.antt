@@ -2,17 +2,16 @@
 -- known besides.
 use Rattle.std.specs.Prelude.{ℕ, Bool, true, false, List, [], ◌∷◌, ◌++◌, Option, Some, None, Result, Ok, Err, if◌then◌else◌}
 use Rattle.hs_expressions.specs.Roles.{fits_role}
-use Rattle.hs_expressions.specs.Steps.{Step, ◌>>=◌, give, refuse, kept, look, of_types, on_types, lifted, mapped}
+use Rattle.hs_expressions.specs.Steps.{Step, ◌>>=◌, refuse, of_types, on_types, lifted, mapped}
 use Rattle.hs_expressions.specs.declared.type_error.TypeError.{TypeError}
 use Rattle.hs_expressions.specs.declared.type_error.TypeError.TheVariants.{Untyped, UnknownRoutine, Clash}
-use Rattle.hs_expressions.specs.declared.typer.RoutineCall.{RoutineCall}
 use Rattle.hs_expressions.specs.declared.typer.Taken.{Taken}
 use Rattle.hs_expressions.specs.declared.typer.Taken.TheVariants as taken
 use Rattle.hs_expressions.specs.declared.typer.Typer.{Typer}
 use Rattle.hs_operands.specs.Answers as answers
-use Rattle.hs_operands.specs.Assignments.{assign_of, update_of, post_update_of, one, cast_of, conditional_of, comma_of, called}
+use Rattle.hs_operands.specs.Assignments.{assign_of, update_of, post_update_of, one, called}
 use Rattle.hs_operands.specs.Calls.{call_of, call_routine_of}
-use Rattle.hs_operands.specs.Objects.{loaded, object_of, target_of, element_of, member_of, arrow_of, address_of, size_number, size_of_operand}
+use Rattle.hs_operands.specs.Objects.{loaded, object_of, target_of, member_of, address_of}
 use Rattle.hs_operands.specs.Operands as operand
 use Rattle.hs_operands.specs.Operands.{TypedOperand, head_of_operand}
 use Rattle.hs_operands.specs.Operators.{unary_of, arithmetic_of, not_of, and_of, or_of}
@@ -36,9 +35,7 @@ use Rattle.hs_tree.specs.Trees as tree
 use Rattle.hs_tree.specs.Trees.{RightValue, LeftValue}
 use Rattle.hs_tree.specs.declared.operators.Arithmetic.{Arithmetic}
 use Rattle.hs_tree.specs.declared.operators.Arithmetic.TheVariants as arithmetic
-use Rattle.hs_tree.specs.declared.operators.Comparison.{Comparison}
 use Rattle.hs_tree.specs.declared.operators.Comparison.TheVariants as comparison
-use Rattle.hs_tree.specs.declared.operators.Unary.{Unary}
 use Rattle.hs_tree.specs.declared.operators.Unary.TheVariants as unary
 use Rattle.hs_types.specs.TypeTables.{TypeTable}
 use Rattle.hs_types.specs.declared.row.TypeId.{TypeId}
@@ -47,6 +44,7 @@ use Rattle.hs_types.specs.declared.row.TypeId.{TypeId}
 abbrev pub as_value : Result RightValue OperandEnd → Result TypedOperand TypeError
 as_value given = mapped operand.value (lifted given)
 
+-- and one that is an object
 abbrev pub as_object : Result LeftValue OperandEnd → Result TypedOperand TypeError
 as_object given = mapped operand.object (lifted given)
 
@@ -80,6 +78,7 @@ abbrev pub is_arrow : Access → Bool
 is_arrow access.Dot = false
 is_arrow access.Arrow = true
 
+-- 3.3.2.3: of an object alone
 abbrev pub member_operand : TypeTable → Place → List ℕ → TypedOperand → Result TypedOperand TypeError
 member_operand types at name it = as_object (answers.◌>>=◌ (object_of at it) (member_of types at name))
 
@@ -116,13 +115,16 @@ listed_taken (Some its) = its ∷ []
 abbrev pub address_in : Typer → LeftValue → RightValue × TypeTable → TypedOperand × Typer
 address_in s it p = (operand.value p.0, record s { types = p.1; taken = if s.counts then s.taken ++ taken_by it else s.taken })
 
+-- if it is an object
 abbrev pub address_as : Place → Result LeftValue TypeError → Step TypedOperand
 address_as at (Err why) s = Err why
 address_as at (Ok it) s = Ok (address_in s it (address_of s.types at it))
 
+-- of an operand
 abbrev pub addressed : Place → TypedOperand → Step TypedOperand
 addressed at it = address_as at (lifted (object_of at it))
 
+-- by the operator; the other ones never ask for an object
 abbrev pub prefix_object : PrefixOperator → Place → TypedOperand → Step TypedOperand
 prefix_object prefix.Increment at it = of_types (λ types. stepped types at arithmetic.Add it)
 prefix_object prefix.Decrement at it = of_types (λ types. stepped types at arithmetic.Subtract it)
@@ -149,6 +151,7 @@ abbrev pub operation_of_postfix : PostfixOperator → Arithmetic
 operation_of_postfix postfix.Increment = arithmetic.Add
 operation_of_postfix postfix.Decrement = arithmetic.Subtract
 
+-- `l++` and `l--`
 abbrev pub postfix_of : PostfixOperator → TypeTable → Place → TypedOperand → Result TypedOperand TypeError
 postfix_of op types at it = as_value (answers.◌>>=◌ (object_of at it) (post_update_of types at (operation_of_postfix op)))
 
@@ -166,10 +169,12 @@ operation_of_assignment assigns.BitAnd = Some arithmetic.BitAnd
 operation_of_assignment assigns.BitXor = Some arithmetic.BitXor
 operation_of_assignment assigns.BitOr = Some arithmetic.BitOr
 
+-- `=`, or the operation
 abbrev pub assigned_by : Option Arithmetic → TypeTable → Place → RightValue → LeftValue → Result RightValue OperandEnd
 assigned_by None types at e it = assign_of types at it e
 assigned_by (Some op) types at e it = update_of types at op it e
 
+-- to the object that an operand is
 abbrev pub assignment_of : AssignOperator → TypeTable → Place → TypedOperand → RightValue → Result TypedOperand TypeError
 assignment_of op types at it e = as_value (answers.◌>>=◌ (object_of at it) (assigned_by (operation_of_assignment op) types at e))
 
@@ -183,6 +188,7 @@ routine_call it number its s =
     )
     else Err (Clash it.head.at it.name)
 
+-- what its name is bound to
 abbrev pub bound_call : Bound → Designator → TypeId × List RightValue → Step TypedOperand
 bound_call (bound.Function number) it its s = Ok (operand.value (call_of it.head.at number its), s)
 bound_call (bound.Routine number) it its s = routine_call it number its s

@@ -3,12 +3,12 @@
 --     number_of word         an integer constant, of the type of 3.1.3.2
 --     character_of word      a character constant, of type int
 --     string_of first others     a string: its own bytes and those of its neighbours, and the byte 0
-use Rattle.std.specs.Prelude.{ℕ, nat_le, Bool, true, false, ◌&&◌, ◌||◌, List, [], ◌∷◌, ◌++◌, length, Option, Some, None, Result, Ok, Err, if◌then◌else◌}
+use Rattle.std.specs.Prelude.{ℕ, nat_le, Bool, List, [], ◌∷◌, ◌++◌, length, Option, Some, None, Result, Ok, Err, if◌then◌else◌}
 use Rattle.hs_constants.specs.Characters.{character_value}
 use Rattle.hs_constants.specs.Numbers.{number_value}
 use Rattle.hs_constants.specs.Strings.{string_value}
 use Rattle.hs_constants.specs.declared.number.Number.{Number}
-use Rattle.hs_expressions.specs.Steps.{Step, look}
+use Rattle.hs_expressions.specs.Steps.{Step}
 use Rattle.hs_expressions.specs.declared.type_error.TypeError.{TypeError}
 use Rattle.hs_expressions.specs.declared.type_error.TypeError.TheVariants.{Untyped, Undeclared}
 use Rattle.hs_expressions.specs.declared.typer.Entity.{Entity}
@@ -28,6 +28,7 @@ use Rattle.hs_types.specs.declared.integer.Integer.TheVariants as kind
 use Rattle.hs_types.specs.declared.row.TypeId.{TypeId}
 use Rattle.hs_types.specs.declared.types.TypeEnd.{TypeEnd}
 
+-- the refusal of a name that means nothing
 abbrev pub undeclared : Word → TypeError
 undeclared word = Undeclared word.place word.text
 
@@ -44,6 +45,7 @@ named_as word (Some (entity.Function id bound)) =
     Ok (operand.function (record { head = head_at word.place id; name = word.text; bound = bound }))
 named_as word (Some (entity.Typedef id)) = Err (Untyped word.place)
 
+-- in the scopes of that place
 abbrev pub named : Scoped Entity → Word → Result TypedOperand TypeError
 named names word = named_as word (find word.text names)
 
@@ -51,6 +53,7 @@ named names word = named_as word (find word.text names)
 abbrev pub is_wide : ℕ → Bool
 is_wide value = nat_le 2147483648 value
 
+-- by its suffix and its value
 abbrev pub number_type : Number → Integer
 number_type it =
     if it.unsigned then (if it.long then kind.UnsignedLong else kind.UnsignedInt)
@@ -58,10 +61,12 @@ number_type it =
     else if is_wide it.value then (if it.decimal then kind.UnsignedLong else kind.UnsignedInt)
     else kind.Int
 
+-- if it has a value
 abbrev pub number_as : Place → Option Number → Result TypedOperand TypeError
 number_as at None = Err (Untyped at)
 number_as at (Some it) = Ok (number at (number_type it) it.value)
 
+-- by its text
 abbrev pub number_of : Word → Result TypedOperand TypeError
 number_of word = number_as word.place (number_value word.text)
 
@@ -70,6 +75,7 @@ abbrev pub character_as : Place → Option ℕ → Result TypedOperand TypeError
 character_as at None = Err (Untyped at)
 character_as at (Some bits) = Ok (number at kind.Int bits)
 
+-- by its text
 abbrev pub character_of : Word → Result TypedOperand TypeError
 character_of word = character_as word.place (character_value word.text)
 
@@ -78,11 +84,13 @@ abbrev pub joined_with : List ℕ → Option (List ℕ) → Option (List ℕ)
 joined_with done None = None
 joined_with done (Some bytes) = Some (done ++ bytes)
 
+-- those of the literals that are left, and the byte 0
 abbrev pub joined_words : Option (List ℕ) → List Word → Option (List ℕ)
 joined_words None words = None
 joined_words (Some done) [] = Some (done ++ 0 ∷ [])
 joined_words (Some done) (word ∷ words) = joined_words (joined_with done (string_value word.text)) words
 
+-- of a string and its neighbours
 abbrev pub string_bytes : Word → List Word → Option (List ℕ)
 string_bytes first others = joined_words (string_value first.text) others
 
@@ -90,11 +98,16 @@ string_bytes first others = joined_words (string_value first.text) others
 abbrev pub string_in : Typer → Place → List ℕ → Result (TypeId × TypeTable) TypeEnd → Result (TypedOperand × Typer) TypeError
 string_in s at bytes (Err why) = Err (Untyped at)
 string_in s at bytes (Ok p) =
-    Ok (operand.object (tree.literal (head_at at p.0) (length s.literals)), record s { types = p.1; literals = if s.counts then s.literals ++ bytes ∷ [] else s.literals })
+    Ok (
+      operand.object (tree.literal (head_at at p.0) (length s.literals)),
+      record s { types = p.1; literals = if s.counts then s.literals ++ bytes ∷ [] else s.literals },
+    )
 
+-- if they have bytes
 abbrev pub string_as : Place → Option (List ℕ) → Step TypedOperand
 string_as at None s = Err (Untyped at)
 string_as at (Some bytes) s = string_in s at bytes (arrayed (integer_id kind.Char) (length bytes) s.types)
 
+-- by their texts
 abbrev pub string_of : Word → List Word → Step TypedOperand
 string_of first others = string_as first.place (string_bytes first others)

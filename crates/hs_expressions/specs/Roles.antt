@@ -60,10 +60,12 @@ answer_of role.Getchar = answer.Number
 answer_of role.Putchar = answer.Number
 answer_of role.Plain = answer.Scalar
 
+-- a type of that shape
 abbrev pub is_shaped : TypeTable → Shape → TypeId → Bool
 is_shaped types shape.Pointer id = is_pointer types id
 is_shaped types shape.Number id = is_number types id
 
+-- a result that the role may have
 abbrev pub is_answer : TypeTable → Answer → TypeId → Bool
 is_answer types answer.Pointer id = is_pointer types id
 is_answer types answer.Number id = is_number types id
@@ -82,6 +84,7 @@ next_of None = None
 next_of (Some Empty) = None
 next_of (Some (More first others)) = Some (record { first = first; others = others })
 
+-- the first one meets a test, and the others another
 abbrev pub first_and : (TypeId → Bool) → (ListId → Bool) → Option Next → Bool
 first_and test next None = false
 first_and test next (Some its) = test its.first && next its.others
@@ -105,6 +108,7 @@ abbrev pub fills : TypeTable → ℕ → ListId → Bool
 fills types zero list = true
 fills types (suc place) list = is_filled types place list
 
+-- any routine that does nothing to blocks
 abbrev pub is_plain : Role → Bool
 is_plain role.NewHandle = false
 is_plain role.DisposeHandle = false
@@ -125,10 +129,12 @@ is_plain role.Getchar = false
 is_plain role.Putchar = false
 is_plain role.Plain = true
 
+-- by the role
 abbrev pub fits_parameters : TypeTable → Routine → ListId → Bool
 fits_parameters types routine list =
     if is_plain routine.role then fills types routine.fills list else are_shaped types (shapes_of routine.role) list
 
+-- the type is a function
 abbrev pub fits_row : TypeTable → Routine → Option Row → Bool
 fits_row types routine None = false
 fits_row types routine (Some row.Void) = false
@@ -141,9 +147,11 @@ fits_row types routine (Some (row.OpenArray of)) = false
 fits_row types routine (Some (row.Function result parameters)) =
     is_answer types (answer_of routine.role) result && fits_parameters types routine parameters
 
+-- the routine is there
 abbrev pub fits_routine : TypeTable → TypeId → Option Routine → Bool
 fits_routine types id None = false
 fits_routine types id (Some routine) = fits_row types routine (row_of types id)
 
+-- by its number
 abbrev pub fits_role : TypeTable → List Routine → ℕ → TypeId → Bool
 fits_role types table number id = fits_routine types id (slice_get table number)

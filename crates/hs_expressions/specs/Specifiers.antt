@@ -7,8 +7,8 @@
 use Rattle.std.specs.Prelude.{ℕ, suc, nat_le, nat_eq, Bool, true, false, not, ◌&&◌, ◌||◌, List, [], ◌∷◌, ◌++◌, length, slice_get, Option, Some, None, is_some, Result, Ok, Err, if◌then◌else◌}
 use Rattle.std.specs.Cmp.Lexicographic.{pointwise}
 use Rattle.hs_constants.specs.declared.value.Value.{Value}
-use Rattle.hs_expressions.specs.Declarators.{formed, constant_of, is_negative, declare, place_in}
-use Rattle.hs_expressions.specs.Steps.{Step, ◌>>=◌, ◌>>◌, give, refuse, kept, with_types}
+use Rattle.hs_expressions.specs.Declarators.{formed, constant_of, declare, place_in}
+use Rattle.hs_expressions.specs.Steps.{Step, ◌>>◌, give, refuse}
 use Rattle.hs_expressions.specs.declared.declarators.Derivation.{Derivation}
 use Rattle.hs_expressions.specs.declared.specifiers.Specifiers.{Specifiers}
 use Rattle.hs_expressions.specs.declared.specifiers.Words.{Words}
@@ -19,7 +19,7 @@ use Rattle.hs_expressions.specs.declared.typer.Entity.TheVariants as entity
 use Rattle.hs_expressions.specs.declared.typer.Tag.{Tag}
 use Rattle.hs_expressions.specs.declared.typer.Tag.TheVariants as tag
 use Rattle.hs_expressions.specs.declared.typer.Typer.{Typer}
-use Rattle.hs_names.specs.Scopes.{Scoped, find, find_here, declared}
+use Rattle.hs_names.specs.Scopes.{find, find_here, declared}
 use Rattle.hs_syntax.specs.declared.operators.Basic.{Basic}
 use Rattle.hs_syntax.specs.declared.operators.Basic.TheVariants as basic
 use Rattle.hs_syntax.specs.declared.operators.Storage.{Storage}
@@ -27,7 +27,7 @@ use Rattle.hs_syntax.specs.declared.word.Word.{Word}
 use Rattle.hs_tokens.specs.declared.place.Place.{Place}
 use Rattle.hs_tree.specs.Trees.{RightValue, head_of}
 use Rattle.hs_types.specs.Rows.{void_id, integer_id}
-use Rattle.hs_types.specs.TypeTables.{TypeTable, row_of, layout_of, with_row, id_of, with_struct, with_enumeration, awaits_body, completed, enumerated}
+use Rattle.hs_types.specs.TypeTables.{TypeTable, layout_of, with_row, id_of, with_struct, with_enumeration, awaits_body, completed, enumerated}
 use Rattle.hs_types.specs.declared.body.Enumerator.{Enumerator}
 use Rattle.hs_types.specs.declared.body.Member.{Member}
 use Rattle.hs_types.specs.declared.integer.Integer.TheVariants as kind
@@ -36,6 +36,7 @@ use Rattle.hs_types.specs.declared.row.TypeId.{TypeId}
 use Rattle.hs_types.specs.declared.types.TypeEnd.{TypeEnd}
 use Rattle.hs_types.specs.declared.types.TypeEnd.TheVariants as end
 
+-- none of them
 abbrev pub no_words : Words
 no_words = record { void = false; char = false; short = false; int = false; long = false; signed = false; unsigned = false; again = false }
 
@@ -53,9 +54,11 @@ with_word basic.Long its = record its { long = true; again = its.again || its.lo
 with_word basic.Signed its = record its { signed = true; again = its.again || its.signed }
 with_word basic.Unsigned its = record its { unsigned = true; again = its.again || its.unsigned }
 
+-- with a word of a basic type
 abbrev pub with_basic : Basic → Specifiers → Specifiers
 with_basic word its = record its { words = with_word word its.words }
 
+-- with a struct, an enumeration or a typedef name
 abbrev pub with_type : TypeId → Specifiers → Specifiers
 with_type id its = record its { type_id = Some id; again = its.again || is_some its.type_id }
 
@@ -67,6 +70,7 @@ with_storage stored word at its = if stored && not (is_some its.storage) then Ok
 abbrev pub has_others : Words → Bool
 has_others its = its.char || its.short || its.int || its.long || its.signed || its.unsigned
 
+-- the integer types
 abbrev pub integer_of : Words → Option TypeId
 integer_of its =
     if its.signed && its.unsigned then None
@@ -88,6 +92,7 @@ basic_of its =
     else if its.void then (if has_others its then None else Some void_id)
     else integer_of its
 
+-- if there is one
 abbrev pub type_or : Place → Option TypeId → Result TypeId TypeError
 type_or first None = Err (Untyped first)
 type_or first (Some id) = Ok id
@@ -97,6 +102,7 @@ abbrev pub type_with : Place → Words → Option TypeId → Result TypeId TypeE
 type_with first its None = type_or first (basic_of its)
 type_with first its (Some id) = if its.void || has_others its then Err (Untyped first) else Ok id
 
+-- by all that the list says
 abbrev pub type_from : Place → Specifiers → Result TypeId TypeError
 type_from first its = if its.again then Err (Untyped first) else type_with first its.words its.type_id
 
@@ -112,6 +118,7 @@ typedef_of word (Some (entity.Typedef id)) = Ok id
 abbrev pub struct_type : ℕ → Step TypeId
 struct_type number s = Ok (id_of (row.Struct number) s.types, record s { types = with_row (row.Struct number) s.types })
 
+-- and of an enumeration
 abbrev pub enumeration_type : ℕ → Step TypeId
 enumeration_type number s = Ok (id_of (row.Enumeration number) s.types, record s { types = with_row (row.Enumeration number) s.types })
 
@@ -133,6 +140,7 @@ tagged_struct_as word None = new_tagged_struct word
 tagged_struct_as word (Some (tag.Struct number)) = give number
 tagged_struct_as word (Some (tag.Enumeration number)) = refuse (Untyped word.place)
 
+-- by its tag
 abbrev pub tagged_struct : Word → Step ℕ
 tagged_struct word s = tagged_struct_as word (find word.text s.tags) s
 
@@ -143,6 +151,7 @@ begun_struct_as word (Some (tag.Struct number)) s =
     if awaits_body (slice_get s.types.structs number) then Ok (number, s) else Err (Untyped word.place)
 begun_struct_as word (Some (tag.Enumeration number)) s = Err (Untyped word.place)
 
+-- with or without a tag
 abbrev pub begun_struct : Option Word → Step ℕ
 begun_struct None s = new_struct s
 begun_struct (Some word) s = begun_struct_as word (find_here word.text s.tags) s
@@ -153,9 +162,11 @@ tagged_enumeration word None = Err (Undeclared word.place word.text)
 tagged_enumeration word (Some (tag.Struct number)) = Err (Untyped word.place)
 tagged_enumeration word (Some (tag.Enumeration number)) = Ok number
 
+-- without a name
 abbrev pub new_enumeration : Step ℕ
 new_enumeration s = Ok (length s.types.enumerations, record s { types = with_enumeration s.types })
 
+-- with a tag
 abbrev pub new_tagged_enumeration : Word → Step ℕ
 new_tagged_enumeration word s =
     Ok (
@@ -168,6 +179,7 @@ abbrev pub begun_enumeration_as : Word → Option Tag → Step ℕ
 begun_enumeration_as word None = new_tagged_enumeration word
 begun_enumeration_as word (Some its) = refuse (Untyped word.place)
 
+-- with or without a tag
 abbrev pub begun_enumeration : Option Word → Step ℕ
 begun_enumeration None s = new_enumeration s
 begun_enumeration (Some word) s = begun_enumeration_as word (find_here word.text s.tags) s
@@ -177,6 +189,7 @@ abbrev pub has_member : List ℕ → List Member → Bool
 has_member name [] = false
 has_member name (member ∷ members) = pointwise nat_eq member.name name || has_member name members
 
+-- of that name and type
 abbrev pub member_as : List ℕ → TypeId → Member
 member_as name id = record { name = name; type_id = id }
 
@@ -188,6 +201,7 @@ with_member_of done word (Ok p) =
     then Ok (done ++ member_as word.text p.0 ∷ [], p.1)
     else Err (Untyped word.place)
 
+-- the declarator must name it
 abbrev pub with_member : Place → List Member → TypeId → List Derivation → Option Word → TypeTable → Result (List Member × TypeTable) TypeError
 with_member at done id its None types = Err (Untyped at)
 with_member at done id its (Some word) types = with_member_of done word (formed word.place its id types)
@@ -199,13 +213,16 @@ refused_body first word end.Redefined = Untyped (place_in first word)
 refused_body first word end.Incomplete = Untyped first
 refused_body first word end.TooLarge = Untyped first
 
+-- or why it cannot
 abbrev pub with_body_in : Typer → Place → Option Word → Result TypeTable TypeEnd → Result (Unit {0} × Typer) TypeError
 with_body_in s first word (Ok types) = Ok (tt, record s { types = types })
 with_body_in s first word (Err why) = Err (refused_body first word why)
 
+-- of a struct
 abbrev pub completed_struct : Place → Option Word → ℕ → List Member → Step (Unit {0})
 completed_struct first word number members s = with_body_in s first word (completed number members s.types)
 
+-- and of an enumeration
 abbrev pub completed_enumeration : Place → Option Word → ℕ → List Enumerator → Step (Unit {0})
 completed_enumeration first word number its s = with_body_in s first word (enumerated number its s.types)
 
@@ -213,10 +230,12 @@ completed_enumeration first word number its s = with_body_in s first word (enume
 abbrev pub is_int : Value → Bool
 is_int value = not (value.unsigned && nat_le 2147483648 value.bits)
 
+-- or the refusal
 abbrev pub int_as : Place → Result Value TypeError → Result ℕ TypeError
 int_as at (Err why) = Err why
 int_as at (Ok value) = if is_int value then Ok value.bits else Err (Untyped at)
 
+-- of a typed expression
 abbrev pub int_of : TypeTable → RightValue → Result ℕ TypeError
 int_of types e = int_as (head_of e).at (constant_of types e)
 

@@ -16,6 +16,7 @@ use Rattle.hs_operands.specs.declared.operand_end.OperandEnd.TheVariants as end
 use Rattle.hs_table.specs.declared.routine.Routine.{Routine}
 use Rattle.hs_types.specs.TypeTables.{TypeTable, basic_types}
 
+-- memory ran out
 abbrev pub no_memory : TypeError
 no_memory = NoMemory
 
@@ -33,14 +34,17 @@ beginning table =
       counts = true;
     }
 
+-- what is given, and what is known then
 abbrev pub Step : Type 0 → Type 0
 Step A = Typer → Result (A × Typer) TypeError
 
+-- the next step, if there is no refusal
 abbrev pub then_with : {A B : Type 0} → (A → Step B) → Result (A × Typer) TypeError → Result (B × Typer) TypeError
 then_with next (Ok p) = next p.0 p.1
 then_with next (Err why) = Err why
 
 infixl 10 ◌>>=◌
+-- with what the first one gives
 abbrev pub ◌>>=◌ : {A B : Type 0} → Step A → (A → Step B) → Step B
 (first >>= next) s = then_with next (first s)
 
@@ -49,9 +53,11 @@ infixl 10 ◌>>◌
 abbrev pub ◌>>◌ : {A B : Type 0} → Step A → Step B → Step B
 first >> next = first >>= (λ it. next)
 
+-- nothing is refused
 abbrev pub give : {A : Type 0} → A → Step A
 give it s = Ok (it, s)
 
+-- nothing is given
 abbrev pub refuse : {A : Type 0} → TypeError → Step A
 refuse why s = Err why
 
@@ -65,12 +71,15 @@ abbrev pub with_types : {A : Type 0} → Typer → Result (A × TypeTable) TypeE
 with_types s (Ok p) = Ok (p.0, record s { types = p.1 })
 with_types s (Err why) = Err why
 
+-- of all that is known
 abbrev pub look : {A : Type 0} → (Typer → Result A TypeError) → Step A
 look f s = kept s (f s)
 
+-- of the types alone
 abbrev pub of_types : {A : Type 0} → (TypeTable → Result A TypeError) → Step A
 of_types f s = kept s (f s.types)
 
+-- of the types, which change
 abbrev pub on_types : {A : Type 0} → (TypeTable → Result (A × TypeTable) TypeError) → Step A
 on_types f s = with_types s (f s.types)
 
@@ -79,6 +88,7 @@ abbrev pub lifted_end : OperandEnd → TypeError
 lifted_end (end.Untyped at) = Untyped at
 lifted_end end.NoMemory = NoMemory
 
+-- or the same answer
 abbrev pub lifted : {A : Type 0} → Result A OperandEnd → Result A TypeError
 lifted (Ok it) = Ok it
 lifted (Err why) = Err (lifted_end why)
@@ -88,6 +98,7 @@ abbrev pub mapped : {A B : Type 0} → (A → B) → Result A TypeError → Resu
 mapped f (Ok it) = Ok (f it)
 mapped f (Err why) = Err why
 
+-- what counted before counts again
 abbrev pub restored : {A : Type 0} → Bool → Result (A × Typer) TypeError → Result (A × Typer) TypeError
 restored counts (Ok p) = Ok (p.0, record p.1 { counts = counts })
 restored counts (Err why) = Err why

@@ -5,6 +5,7 @@
 mod declarators;
 mod expressions;
 mod held;
+mod laws;
 mod log;
 mod members;
 mod operations;
@@ -16,6 +17,10 @@ mod typer;
 
 pub use declarators::{Derivation, constant_of, declare};
 pub use expressions::{expression, value};
+pub use laws::{
+    operands_are_first, parentheses_change_nothing, typing_extends_what_is_known,
+    what_is_typed_is_well_typed,
+};
 pub use log::Log;
 pub use specifiers::{Specifiers, Words};
 pub use type_error::TypeError;

@@ -43,12 +43,14 @@ pub enum Taken {
 #[derive(Clone, Copy, Debug, PartialEq, Eq)]
 pub struct RoutineCall {
     pub routine: u32,
+    /// The type of the function.
     pub type_id: TypeId,
 }
 
 /// What typing knows at a place of the text.
 #[derive(Drop)]
 pub struct Typer {
+    /// The types so far.
     pub types: Types,
     pub names: Scopes<Entity>,
     pub tags: Scopes<Tag>,

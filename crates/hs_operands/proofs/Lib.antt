@@ -1,10 +1,1 @@
-mod Added
-mod AssignedTyped
-mod BranchesTyped
 mod Compatible
-mod Conditions
-mod Made
-mod Numbers
-mod ObjectsTyped
-mod PointersTyped
-mod Stays

@@ -9,6 +9,7 @@ abbrev pub ◌>>=◌ : {A B : Type 0} → Result A OperandEnd → (A → Result 
 Ok it >>= next = next it
 Err why >>= next = Err why
 
+-- memory ran out
 abbrev pub no_memory : OperandEnd
 no_memory = NoMemory
 

@@ -83,6 +83,7 @@ direction arithmetic.BitAnd = None
 direction arithmetic.BitXor = None
 direction arithmetic.BitOr = None
 
+-- `p += n` and `p -= n`
 abbrev pub advance_by : Place → Option Bool → Option ℕ → LeftValue → RightValue → Result RightValue OperandEnd
 advance_by at None size it e = Err (Untyped at)
 advance_by at (Some backward) None it e = Err (Untyped at)
@@ -95,6 +96,7 @@ update_by types at op to None it e = Err (Untyped at)
 update_by types at op (Some to) (Some its) it e = Ok (update_with at op to its it e)
 update_by types at op None (Some its) it e = advance_by at (direction op) (size_at types (pointed types (type_of_left it))) it e
 
+-- by the types of both
 abbrev pub update_of : TypeTable → Place → Arithmetic → LeftValue → RightValue → Result RightValue OperandEnd
 update_of types at op it e = update_by types at op (number_kind types (type_of_left it)) (number_kind types (type_of e)) it e
 
@@ -109,10 +111,12 @@ post_advance_by at (Some backward) None it = Err (Untyped at)
 post_advance_by at (Some backward) (Some size) it =
     Ok (tree.post_advance (head_at at (type_of_left it)) (record { size = size; backward = backward }) it)
 
+-- of a number, in the common type with int
 abbrev pub post_update_by : TypeTable → Place → Arithmetic → Option Integer → LeftValue → Result RightValue OperandEnd
 post_update_by types at op (Some to) it = Ok (tree.post_update (head_at at (type_of_left it)) op (common to kind.Int) to it)
 post_update_by types at op None it = post_advance_by at (direction op) (size_at types (pointed types (type_of_left it))) it
 
+-- by its type
 abbrev pub post_update_of : TypeTable → Place → Arithmetic → LeftValue → Result RightValue OperandEnd
 post_update_of types at op it = post_update_by types at op (number_kind types (type_of_left it)) it
 
@@ -131,6 +135,7 @@ cast_of types at id e =
 abbrev pub as_pointer : Place → TypeId → RightValue → RightValue
 as_pointer at id e = if same_type (type_of e) id then e else tree.convert_pointer (head_at at id) e
 
+-- both as pointers of that type
 abbrev pub pointers_chosen : Place → TypeId → RightValue → RightValue → RightValue → RightValue
 pointers_chosen at id test a b = tree.conditional (head_at at id) test (as_pointer at id a) (as_pointer at id b)
 
@@ -160,11 +165,13 @@ other_branches types at test a b =
 abbrev pub numbers_chosen : Place → Integer → RightValue → RightValue → RightValue → RightValue
 numbers_chosen at its test a b = tree.conditional (head_at at (integer_id its)) test (as_kind at its a) (as_kind at its b)
 
+-- if both are numbers
 abbrev pub branches_by : TypeTable → Place → Option Integer → Option Integer → RightValue → RightValue → RightValue → Result RightValue OperandEnd
 branches_by types at None second test a b = other_branches types at test a b
 branches_by types at (Some first) None test a b = other_branches types at test a b
 branches_by types at (Some first) (Some second) test a b = Ok (numbers_chosen at (common first second) test a b)
 
+-- the condition first
 abbrev pub conditional_of : TypeTable → Place → RightValue → RightValue → RightValue → Result RightValue OperandEnd
 conditional_of types at test a b = do
   condition ← truth types at test
@@ -180,6 +187,7 @@ next_parameter at None = Err (Untyped at)
 next_parameter at (Some Empty) = Err (Untyped at)
 next_parameter at (Some (More first others)) = Ok (first, others)
 
+-- all parameters have an argument
 abbrev pub no_parameter : Place → List RightValue → Option Parameters → Result (List RightValue) OperandEnd
 no_parameter at done None = Err (Untyped at)
 no_parameter at done (Some Empty) = Ok done
@@ -209,6 +217,7 @@ signature_of_row at (Some (row.Function result parameters)) = Ok (result, parame
 abbrev pub returned : TypeTable → Place → TypeId → Result TypeId OperandEnd
 returned types at id = if is_void types id || is_readable types id then Ok id else Err (Untyped at)
 
+-- the arguments first, then the result
 abbrev pub called : TypeTable → Place → TypeId → List RightValue → Result (TypeId × List RightValue) OperandEnd
 called types at id arguments = do
   signature ← signature_of_row at (row_of types id)

@@ -12,14 +12,18 @@ use Rattle.hs_tree.specs.Views.{view_right}
 use Rattle.hs_types.specs.declared.row.ListId.{ListId}
 use Rattle.hs_types.specs.declared.row.TypeId.{TypeId}
 
+-- a signature of the code
 abbrev pub view_signature : Signature → TypeId × ListId
 view_signature it = (it.result, it.parameters)
 
+-- and what it gives for a call
 abbrev pub view_called : CheckedCall → TypeId × List RightValue
 view_called it = (it.result, map view_right it.arguments.items)
 
+-- of a defined function
 abbrev pub call_of : Place → ℕ → TypeId × List RightValue → RightValue
 call_of at number its = tree.call (head_at at its.0) number None (rights_from its.1)
 
+-- of a routine
 abbrev pub call_routine_of : Place → ℕ → TypeId × List RightValue → RightValue
 call_routine_of at number its = tree.call_routine (head_at at its.0) number (rights_from its.1)

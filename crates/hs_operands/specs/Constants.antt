@@ -28,6 +28,7 @@ folded_unary sign.Plus = unary.Plus
 folded_unary sign.Minus = unary.Minus
 folded_unary sign.Complement = unary.Complement
 
+-- between two numbers
 abbrev pub folded_arithmetic : Arithmetic → Binary
 folded_arithmetic arithmetic.Multiply = binary.Multiply
 folded_arithmetic arithmetic.Divide = binary.Divide
@@ -40,6 +41,7 @@ folded_arithmetic arithmetic.BitAnd = binary.BitAnd
 folded_arithmetic arithmetic.BitXor = binary.BitXor
 folded_arithmetic arithmetic.BitOr = binary.BitOr
 
+-- and of comparisons
 abbrev pub folded_comparison : Comparison → Binary
 folded_comparison comparison.Less = binary.Less
 folded_comparison comparison.Greater = binary.Greater

@@ -19,6 +19,17 @@ use Rattle.hs_tree.specs.declared.operators.Comparison.{Comparison}
 use Rattle.hs_tree.specs.declared.operators.Unary.{Unary}
 use Rattle.hs_types.specs.TypeTables.{TypeTable, IsRight, Grows}
 use Rattle.hs_types.specs.declared.row.TypeId.{TypeId}
+pub mod Added
+pub mod AssignedTyped
+pub mod BranchesTyped
+pub mod CallsTyped
+pub mod Conditions
+pub mod Made
+pub mod Numbers
+pub mod ObjectsTyped
+pub mod PointersTyped
+pub mod Stays
+pub mod Typed
 
 -- what each program keeps of an expression, by the types of its operands
 abbrev pub Holds : TypedProgram → TypedFunction → Node → Type 0
@@ -28,9 +39,11 @@ Holds program function node = HasOperands program.types node × HasResult progra
 abbrev pub IsTyped : TypedProgram → TypedFunction → RightValue → Type 0
 IsTyped program function e = EachRight (Holds program function) e
 
+-- of an object
 abbrev pub IsTypedObject : TypedProgram → TypedFunction → LeftValue → Type 0
 IsTypedObject program function it = EachLeft (Holds program function) it
 
+-- of an operand
 abbrev pub IsTypedOperand : TypedProgram → TypedFunction → TypedOperand → Type 0
 IsTypedOperand program function (operand.value e) = IsTyped program function e
 IsTypedOperand program function (operand.object it) = IsTypedObject program function it
@@ -40,6 +53,7 @@ IsTypedOperand program function (operand.function it) = Unit {0}
 abbrev pub MakesTyped : TypedProgram → TypedFunction → Result RightValue OperandEnd → Type 0
 MakesTyped program function given = (made : RightValue) → given ≡ Ok made → IsTyped program function made
 
+-- of objects
 abbrev pub MakesObject : TypedProgram → TypedFunction → Result LeftValue OperandEnd → Type 0
 MakesObject program function given = (made : LeftValue) → given ≡ Ok made → IsTypedObject program function made
 
@@ -47,6 +61,7 @@ MakesObject program function given = (made : LeftValue) → given ≡ Ok made �
 abbrev pub MakesOfType : TypedProgram → TypedFunction → TypeId → Result RightValue OperandEnd → Type 0
 MakesOfType program function id given = (made : RightValue) → given ≡ Ok made → IsTyped program function made × (type_of made ≡ id)
 
+-- one fact for each operator
 pub record OperatorsAreTyped (program : TypedProgram) (function : TypedFunction) (types : TypeTable) : Type 0 where
   pub unary : (at : Place) (operator : Unary) (e : RightValue) → IsTyped program function e
       → MakesTyped program function (unary_of types at operator e)

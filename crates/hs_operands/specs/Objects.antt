@@ -54,6 +54,7 @@ abbrev pub target_at : TypeTable → Place → RightValue → Option TypeId → 
 target_at types at e None = Err (Untyped at)
 target_at types at e (Some of) = if designates types of then Ok (tree.target (head_at at of) e) else Err (Untyped at)
 
+-- `*e`
 abbrev pub target_of : TypeTable → Place → RightValue → Result LeftValue OperandEnd
 target_of types at e = target_at types at e (pointed types (type_of e))
 
@@ -62,6 +63,7 @@ abbrev pub spacing_over : Bool → TypeId → Option Layout → Option Spacing
 spacing_over first of None = None
 spacing_over first of (Some layout) = Some (record { of = of; size = layout.size; pointer_first = first })
 
+-- if there is such a type
 abbrev pub spacing_by : TypeTable → Bool → Option TypeId → Option Spacing
 spacing_by types first None = None
 spacing_by types first (Some of) = spacing_over first of (layout_of types of)
@@ -78,6 +80,7 @@ abbrev pub element_by : Place → RightValue → RightValue → Option Spacing �
 element_by at a b None = Err (Untyped at)
 element_by at a b (Some it) = Ok (tree.element (head_at at it.of) it.size it.pointer_first a b)
 
+-- `a[b]`
 abbrev pub element_of : TypeTable → Place → RightValue → RightValue → Result LeftValue OperandEnd
 element_of types at a b = element_by at a b (spacing types (type_of a) (type_of b))
 
@@ -92,6 +95,7 @@ abbrev pub found_place : ℕ → List Field → Option ℕ → Option Found
 found_place number fields None = None
 found_place number fields (Some place) = found_field number place (slice_get fields place)
 
+-- in a body
 abbrev pub found_in : ℕ → List ℕ → Option Body → Option Found
 found_in number name None = None
 found_in number name (Some body) = found_place number body.fields (field_place name body.fields)
@@ -108,6 +112,7 @@ found_of_row types name (Some (row.Array of length layout)) = None
 found_of_row types name (Some (row.OpenArray of)) = None
 found_of_row types name (Some (row.Function result parameters)) = None
 
+-- in a type, by its number
 abbrev pub found_at : TypeTable → List ℕ → TypeId → Option Found
 found_at types name id = found_of_row types name (row_of types id)
 
@@ -116,17 +121,21 @@ abbrev pub member_by : Place → LeftValue → Option Found → Result LeftValue
 member_by at it None = Err (Untyped at)
 member_by at it (Some found) = Ok (tree.member (head_at at found.type_id) found.field found.offset it)
 
+-- `e.f`
 abbrev pub member_of : TypeTable → Place → List ℕ → LeftValue → Result LeftValue OperandEnd
 member_of types at name it = member_by at it (found_at types name (type_of_left it))
 
+-- in the struct that a pointer points to
 abbrev pub found_behind : TypeTable → List ℕ → Option TypeId → Option Found
 found_behind types name None = None
 found_behind types name (Some of) = found_at types name of
 
+-- if there is such a field
 abbrev pub arrow_by : Place → RightValue → Option Found → Result LeftValue OperandEnd
 arrow_by at e None = Err (Untyped at)
 arrow_by at e (Some found) = Ok (tree.arrow (head_at at found.type_id) found.field found.offset e)
 
+-- `e->f`
 abbrev pub arrow_of : TypeTable → Place → List ℕ → RightValue → Result LeftValue OperandEnd
 arrow_of types at name e = arrow_by at e (found_behind types name (pointed types (type_of e)))
 
@@ -140,6 +149,7 @@ abbrev pub size_by : Place → Option Layout → Result RightValue OperandEnd
 size_by at None = Err (Untyped at)
 size_by at (Some layout) = Ok (tree.number (head_at at (integer_id kind.UnsignedLong)) layout.size)
 
+-- of a complete type
 abbrev pub size_number : TypeTable → Place → TypeId → Result RightValue OperandEnd
 size_number types at id = size_by at (layout_of types id)
 

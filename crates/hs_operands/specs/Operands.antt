@@ -9,16 +9,19 @@ use Rattle.hs_tree.specs.Trees.{RightValue, LeftValue, head_of, head_of_left}
 use Rattle.hs_tree.specs.Views.{view_right, view_left}
 use Rattle.hs_tree.specs.declared.head.Head.{Head}
 
+-- one of the three
 pub data TypedOperand : Type 0 where
   value : RightValue → TypedOperand
   object : LeftValue → TypedOperand
   function : Designator → TypedOperand
 
+-- of the code
 abbrev pub view_operand : Operand → TypedOperand
 view_operand (Value e) = value (view_right e.value)
 view_operand (Object it) = object (view_left it.value)
 view_operand (Function it) = function it
 
+-- its position and its type
 abbrev pub head_of_operand : TypedOperand → Head
 head_of_operand (value e) = head_of e
 head_of_operand (object it) = head_of_left it

@@ -41,6 +41,7 @@ abbrev pub arithmetic_in : Place → Arithmetic → Integer → RightValue → R
 arithmetic_in at op its left right =
     tree.arithmetic (head_at at (integer_id its)) op its (as_kind at its left) (as_kind at its right)
 
+-- if both are numbers
 abbrev pub in_common_of : TypeTable → Place → Arithmetic → RightValue → RightValue → Result RightValue OperandEnd
 in_common_of types at op left right =
     with_numbers at (number_kind types (type_of left)) (number_kind types (type_of right))
@@ -54,6 +55,7 @@ shift_of types at op left right =
     tree.arithmetic (head_at at (integer_id (promoted first))) op (promoted first) (as_kind at (promoted first) left)
     (as_kind at (promoted second) right))
 
+-- 3.3.7
 abbrev pub is_shift : Arithmetic → Bool
 is_shift operator.ShiftLeft = true
 is_shift operator.ShiftRight = true
@@ -75,6 +77,7 @@ abbrev pub comparison_in : Place → Comparison → Integer → RightValue → R
 comparison_in at op its left right =
     tree.comparison (head_at at (integer_id kind.Int)) op its (as_kind at its left) (as_kind at its right)
 
+-- if both are numbers
 abbrev pub comparison_of : TypeTable → Place → Comparison → RightValue → RightValue → Result RightValue OperandEnd
 comparison_of types at op left right =
     with_numbers at (number_kind types (type_of left)) (number_kind types (type_of right))
@@ -93,6 +96,7 @@ and_of types at left right = do
   second ← truth types at right
   Ok (tree.and (head_at at (integer_id kind.Int)) first second)
 
+-- 3.3.14
 abbrev pub or_of : TypeTable → Place → RightValue → RightValue → Result RightValue OperandEnd
 or_of types at left right = do
   first ← truth types at left

@@ -70,6 +70,7 @@ is_equality comparison.GreaterEqual = false
 is_equality comparison.Equal = true
 is_equality comparison.NotEqual = true
 
+-- `==`
 abbrev pub is_equal : Comparison → Bool
 is_equal comparison.Less = false
 is_equal comparison.Greater = false
@@ -96,6 +97,7 @@ pointers_compared types at op a b =
 abbrev pub is_nil_test : TypeTable → Comparison → RightValue → RightValue → Bool
 is_nil_test types op e null = is_equality op && is_pointer types (type_of e) && is_null_constant types null
 
+-- whether it is the null pointer
 abbrev pub nil_test : Place → Comparison → RightValue → RightValue
 nil_test at op e = tree.is_nil (head_at at (integer_id kind.Int)) (is_equal op) e
 

@@ -23,6 +23,7 @@ designates_row (Some (row.Array of length layout)) = true
 designates_row (Some (row.OpenArray of)) = true
 designates_row (Some (row.Function result parameters)) = false
 
+-- by its number
 abbrev pub designates : TypeTable → TypeId → Bool
 designates types id = designates_row (row_of types id)
 
@@ -38,6 +39,7 @@ is_open_row (Some (row.Array of length layout)) = false
 is_open_row (Some (row.OpenArray of)) = true
 is_open_row (Some (row.Function result parameters)) = false
 
+-- by its number
 abbrev pub is_open : TypeTable → TypeId → Bool
 is_open types id = is_open_row (row_of types id)
 
@@ -53,6 +55,7 @@ is_int kind.UnsignedInt = false
 is_int kind.Long = false
 is_int kind.UnsignedLong = false
 
+-- one of each
 abbrev pub are_int : Option Row → Option Row → Bool
 are_int (Some (row.Integer kind)) (Some (row.Enumeration number)) = is_int kind
 are_int (Some (row.Enumeration number)) (Some (row.Integer kind)) = is_int kind

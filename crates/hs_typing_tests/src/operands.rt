@@ -104,7 +104,7 @@ fn negated(alloc: Global) -> Result<TypeId, OperandEnd> {
 }
 
 /// The type of a comparison of a `long` and a `char`.
-fn compared(alloc: Global) -> Result<TypeId, OperandEnd> {
+fn less(alloc: Global) -> Result<TypeId, OperandEnd> {
     let types = Types::new(alloc)?;
     let left = one(alloc, Integer::Long)?;
     let right = one(alloc, Integer::Char)?;
@@ -146,7 +146,7 @@ fn conditions_and_comparisons_are_of_type_int(rt: HostRuntime) -> Result<(), Fai
     let alloc = rt.alloc();
     let int = TypeId::integer(Integer::Int);
     assert_eq!(rt; negated(alloc), Ok(int));
-    assert_eq!(rt; compared(alloc), Ok(int));
+    assert_eq!(rt; less(alloc), Ok(int));
     assert_eq!(rt; conditions(alloc), Ok(int));
     assert_eq!(rt; pointers(alloc), Ok(int));
     assert_eq!(rt; product(alloc), Err(OperandEnd::Untyped(place())));

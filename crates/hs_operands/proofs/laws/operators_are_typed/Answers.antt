@@ -1,35 +1,6 @@
-use Rattle.hs_operands.proofs.AssignedTyped.{assigned-typed, assign-typed, update-typed, post_update-typed, cast-typed}
-use Rattle.hs_operands.proofs.BranchesTyped.{conditional-typed, comma-typed}
-use Rattle.hs_operands.proofs.Conditions.{not-typed, and-typed, or-typed}
-use Rattle.hs_operands.proofs.Numbers.{unary-typed, arithmetic-typed}
-use Rattle.hs_operands.proofs.ObjectsTyped.{size-typed, target-typed, element-typed, member-typed, arrow-typed, loaded-typed, address-typed}
-use Rattle.hs_operands.proofs.PointersTyped.{plus-typed, minus-typed, compared-typed}
+use Rattle.hs_operands.specs.Laws.Typed.{operators_typed}
 use Rattle.hs_operands.proofs.laws.operators_are_typed.Goals as goal
 
 -- one lemma for each operator
 pub returns : goal.returns
-returns c = λ program function types sound grows.
-    record {
-      unary = unary-typed program function types sound grows;
-      arithmetic = arithmetic-typed program function types sound grows;
-      plus = plus-typed program function types sound grows;
-      minus = minus-typed program function types sound grows;
-      comparison = compared-typed program function types sound grows;
-      not = not-typed program function types sound grows;
-      and = and-typed program function types sound grows;
-      or = or-typed program function types sound grows;
-      size = size-typed program function types sound grows;
-      target = target-typed program function types sound grows;
-      element = element-typed program function types sound grows;
-      member = member-typed program function types sound grows;
-      arrow = arrow-typed program function types sound grows;
-      assigned = assigned-typed program function types sound grows;
-      assign = assign-typed program function types sound grows;
-      update = update-typed program function types sound grows;
-      post_update = post_update-typed program function types sound grows;
-      cast = cast-typed program function types sound grows;
-      conditional = conditional-typed program function types sound grows;
-      comma = comma-typed program function;
-      loaded = loaded-typed program function types sound grows;
-      address = address-typed program function types sound grows;
-    }
+returns c = operators_typed

@@ -11,11 +11,11 @@ use Rattle.hs_operands.specs.Types.{designates}
 use Rattle.hs_operands.specs.declared.objects.Found.{Found}
 use Rattle.hs_operands.specs.declared.operand_end.OperandEnd.TheVariants.{Untyped}
 use Rattle.hs_operands.specs.declared.spacing.Spacing.{Spacing}
-use Rattle.hs_operands.proofs.Added.{row_found}
-use Rattle.hs_operands.proofs.Made.{Makes, gives, refuses, either_way}
-use Rattle.hs_operands.proofs.Numbers.{integer_number}
-use Rattle.hs_operands.proofs.PointersTyped.{Steps, AreSpaced, spaced}
-use Rattle.hs_operands.proofs.Stays.{pointed-stays, element-stays, is_readable-stays}
+use Rattle.hs_operands.specs.Laws.Added.{row_found}
+use Rattle.hs_operands.specs.Laws.Made.{Makes, gives, refuses, either_way}
+use Rattle.hs_operands.specs.Laws.Numbers.{integer_number}
+use Rattle.hs_operands.specs.Laws.PointersTyped.{Steps, AreSpaced, spaced}
+use Rattle.hs_operands.specs.Laws.Stays.{pointed-stays, element-stays, is_readable-stays}
 use Rattle.hs_tree.specs.Fitting.{struct_at}
 use Rattle.hs_tree.specs.Kinds.{pointed, pointed_of_row, element, is_readable, IsPointerTo}
 use Rattle.hs_tree.specs.Objects.{field_in, field_of, number_in, IsField, IsFieldOf}

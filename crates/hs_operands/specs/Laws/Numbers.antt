@@ -6,8 +6,8 @@ use Rattle.hs_tokens.specs.declared.place.Place.{Place}
 use Rattle.hs_operands.specs.Conversions.{head_at, same_type, as_kind}
 use Rattle.hs_operands.specs.Laws.{IsTyped, MakesTyped}
 use Rattle.hs_operands.specs.Operators.{with_number, with_numbers, unary_of, in_common_of, arithmetic_in, shift_of, is_shift, arithmetic_of, comparison_in, comparison_of}
-use Rattle.hs_operands.proofs.Made.{Makes, gives, refuses, either_way}
-use Rattle.hs_operands.proofs.Stays.{number_kind-stays}
+use Rattle.hs_operands.specs.Laws.Made.{Makes, gives, refuses, either_way}
+use Rattle.hs_operands.specs.Laws.Stays.{number_kind-stays}
 use Rattle.hs_tree.specs.Fitting.{IsSecondOperand}
 use Rattle.hs_tree.specs.Kinds.{number_kind, kind_of_row, IsNumber, IsAnyNumber}
 use Rattle.hs_tree.specs.Trees as tree

@@ -6,9 +6,9 @@ use Rattle.hs_operands.specs.Conversions.{head_at, is_not_nil, truth}
 use Rattle.hs_operands.specs.Laws.{IsTyped, MakesTyped}
 use Rattle.hs_operands.specs.Operators.{not_of, and_of, or_of}
 use Rattle.hs_operands.specs.declared.operand_end.OperandEnd.TheVariants.{Untyped}
-use Rattle.hs_operands.proofs.Made.{Makes, gives, refuses, either_way, gives_then}
-use Rattle.hs_operands.proofs.Numbers.{integer_number, any-number}
-use Rattle.hs_operands.proofs.Stays.{is_number-stays, is_pointer-stays}
+use Rattle.hs_operands.specs.Laws.Made.{Makes, gives, refuses, either_way, gives_then}
+use Rattle.hs_operands.specs.Laws.Numbers.{integer_number, any-number}
+use Rattle.hs_operands.specs.Laws.Stays.{is_number-stays, is_pointer-stays}
 use Rattle.hs_tree.specs.Kinds.{is_number, is_pointer, IsAnyNumber}
 use Rattle.hs_tree.specs.Trees as tree
 use Rattle.hs_tree.specs.Trees.{RightValue, TypedFunction, TypedProgram, type_of}

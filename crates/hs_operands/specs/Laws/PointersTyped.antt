@@ -12,9 +12,9 @@ use Rattle.hs_operands.specs.Pointers.{are_numbers, stepped, plus_of, apart, dif
 use Rattle.hs_operands.specs.Types.{are_compatible}
 use Rattle.hs_operands.specs.declared.operand_end.OperandEnd.TheVariants.{Untyped}
 use Rattle.hs_operands.specs.declared.spacing.Spacing.{Spacing}
-use Rattle.hs_operands.proofs.Made.{gives, refuses, either_way}
-use Rattle.hs_operands.proofs.Numbers.{arithmetic-typed, comparison-typed}
-use Rattle.hs_operands.proofs.Stays.{is_number-stays, is_pointer-stays, pointed-stays, pointed_size-stays}
+use Rattle.hs_operands.specs.Laws.Made.{gives, refuses, either_way}
+use Rattle.hs_operands.specs.Laws.Numbers.{arithmetic-typed, comparison-typed}
+use Rattle.hs_operands.specs.Laws.Stays.{is_number-stays, is_pointer-stays, pointed-stays, pointed_size-stays}
 use Rattle.hs_tree.specs.Fitting.{AreSteps, IsStepTarget, stepping}
 use Rattle.hs_tree.specs.Kinds.{is_number, is_pointer, pointed, size_in, size_at, IsAnyNumber, IsPointerToSize}
 use Rattle.hs_tree.specs.Trees as tree

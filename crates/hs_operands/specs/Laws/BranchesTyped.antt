@@ -9,11 +9,11 @@ use Rattle.hs_operands.specs.Conversions.{head_at, same_type, as_kind, truth}
 use Rattle.hs_operands.specs.Laws.{Holds, IsTyped, MakesTyped}
 use Rattle.hs_operands.specs.Types.{are_compatible, is_open}
 use Rattle.hs_operands.specs.declared.operand_end.OperandEnd.TheVariants.{Untyped}
-use Rattle.hs_operands.proofs.AssignedTyped.{first-of}
-use Rattle.hs_operands.proofs.Conditions.{IsCondition, truth-typed}
-use Rattle.hs_operands.proofs.Made.{gives, refuses, either_way, gives_then}
-use Rattle.hs_operands.proofs.Numbers.{same-is, as_kind-type, converted-typed}
-use Rattle.hs_operands.proofs.Stays.{is_pointer-stays}
+use Rattle.hs_operands.specs.Laws.AssignedTyped.{first-of}
+use Rattle.hs_operands.specs.Laws.Conditions.{IsCondition, truth-typed}
+use Rattle.hs_operands.specs.Laws.Made.{gives, refuses, either_way, gives_then}
+use Rattle.hs_operands.specs.Laws.Numbers.{same-is, as_kind-type, converted-typed}
+use Rattle.hs_operands.specs.Laws.Stays.{is_pointer-stays}
 use Rattle.hs_tree.specs.Inside.{EachOf}
 use Rattle.hs_tree.specs.Kinds.{number_kind, is_pointer, is_void, pointed}
 use Rattle.hs_tree.specs.RowLaws.{rights_from}
@@ -36,7 +36,7 @@ as_pointer-type at id e = as_pointer-if (same_type (type_of e) id) at id e refl
 
 module _ (program : TypedProgram) (function : TypedFunction) where
   -- the expressions of a list
-  each_of : (lefts : List RightValue) → AllByRecursion (IsTyped program function) lefts → EachOf (Holds program function) (rights_from lefts)
+  pub each_of : (lefts : List RightValue) → AllByRecursion (IsTyped program function) lefts → EachOf (Holds program function) (rights_from lefts)
   each_of [] typed = tt
   each_of (e ∷ lefts) typed = (typed.0, each_of lefts typed.1)
 

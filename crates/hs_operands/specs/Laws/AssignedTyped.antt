@@ -8,9 +8,9 @@ use Rattle.hs_operands.specs.Conversions.{head_at, same_type, as_kind}
 use Rattle.hs_operands.specs.Laws.{IsTyped, IsTypedObject, MakesTyped, MakesOfType}
 use Rattle.hs_operands.specs.Operators.{is_shift}
 use Rattle.hs_operands.specs.declared.operand_end.OperandEnd.TheVariants.{Untyped}
-use Rattle.hs_operands.proofs.Made.{gives, refuses, either_way, gives_then}
-use Rattle.hs_operands.proofs.Numbers.{any-number, same-is, as_kind-number, second-shift, second-common, known_number, converted-typed}
-use Rattle.hs_operands.proofs.Stays.{number_kind-stays, is_number-stays, is_pointer-stays, is_scalar-stays, is_void-stays, is_readable-stays, pointed_size-stays}
+use Rattle.hs_operands.specs.Laws.Made.{gives, refuses, either_way, gives_then}
+use Rattle.hs_operands.specs.Laws.Numbers.{any-number, same-is, as_kind-number, second-shift, second-common, known_number, converted-typed}
+use Rattle.hs_operands.specs.Laws.Stays.{number_kind-stays, is_number-stays, is_pointer-stays, is_scalar-stays, is_void-stays, is_readable-stays, pointed_size-stays}
 use Rattle.hs_tree.specs.Kinds.{number_kind, is_number, is_pointer, is_scalar, is_readable, is_void, pointed, size_at, IsNumber, IsAnyNumber, IsScalar}
 use Rattle.hs_tree.specs.Trees as tree
 use Rattle.hs_tree.specs.Trees.{RightValue, LeftValue, TypedFunction, TypedProgram, type_of, type_of_left}
