@@ -1,5 +1,6 @@
 mod Derived
 mod Lists
 mod Named
+mod Rows
 mod MembersNext
 mod Shaped
