@@ -3,6 +3,7 @@ pub mod Assignments
 pub mod Calls
 pub mod Constants
 pub mod Conversions
+pub mod Folding
 pub mod Laws
 pub mod Objects
 pub mod Operands

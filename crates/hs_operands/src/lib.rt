@@ -21,7 +21,7 @@ pub use branches::{comma, conditional};
 pub use calls::{CheckedCall, call, call_routine, called};
 pub use constants::{constant_value, is_null_constant};
 pub use conversions::truth;
-pub use laws::operators_are_typed;
+pub use laws::{constants_are_folded, operators_are_typed};
 pub use objects::{
     address, arrow, element_of, loaded, member, object_of, size_number, size_of_operand, target,
 };
