@@ -1,3 +1,4 @@
+pub mod Binding
 pub mod Declarators
 pub mod Declaring
 pub mod Expressions

@@ -1,5 +1,6 @@
 //! Laws of typing, proved and without code.
 
+ghost use Rattle.hs_expressions.specs.Binding.{TypingBinds};
 ghost use Rattle.hs_expressions.specs.Laws.{TypingExtends, TypingIsRight};
 ghost use Rattle.hs_expressions.specs.Order.{OperandsAreFirst, ParenthesesChangeNothing};
 
@@ -23,4 +24,10 @@ pub fn typing_extends_what_is_known()
 /// one that has the types and the strings that are known after the expression, and the variables that its names mean.
 pub fn what_is_typed_is_well_typed()
     ensures { TypingIsRight }
+{}
+
+/// A law of typing: what an expression that is evaluated names is there, its calls fit the functions and routines that they are bound
+/// to, and what its addresses are taken of is marked, in every program that has what the names mean and what was noted.
+pub fn what_is_typed_is_bound()
+    ensures { TypingBinds }
 {}

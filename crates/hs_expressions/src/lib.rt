@@ -19,7 +19,7 @@ pub use declarators::{Derivation, constant_of, declare};
 pub use expressions::{expression, value};
 pub use laws::{
     operands_are_first, parentheses_change_nothing, typing_extends_what_is_known,
-    what_is_typed_is_well_typed,
+    what_is_typed_is_bound, what_is_typed_is_well_typed,
 };
 pub use log::Log;
 pub use specifiers::{Specifiers, Words};

@@ -24,6 +24,7 @@ pub mod AssignedTyped
 pub mod BranchesTyped
 pub mod CallsTyped
 pub mod Conditions
+pub mod Kept
 pub mod Made
 pub mod Numbers
 pub mod ObjectsTyped

@@ -61,7 +61,7 @@ number_type_whole it =
     (whole_if it.decimal kind.UnsignedLong kind.UnsignedInt (λ bits. refl) (λ bits. refl)) (λ bits. refl)))
 
 -- the last of a list
-last_at : {A : Type 0} → (xs : List A) (x : A) (more : List A) → slice_get ((xs ++ x ∷ []) ++ more) (length xs) ≡ Some x
+pub last_at : {A : Type 0} → (xs : List A) (x : A) (more : List A) → slice_get ((xs ++ x ∷ []) ++ more) (length xs) ≡ Some x
 last_at [] x more = refl
 last_at (y ∷ xs) x more = last_at xs x more
 
