@@ -1,6 +1,4 @@
 mod Derived
-mod Lists
-mod Named
 mod Rows
 mod MembersNext
 mod Shaped

@@ -1,20 +1,21 @@
 -- Worked expressions on the definition, by computation.
-use Rattle.std.proofs.Common.{◌≡◌, ℕ, false, true, List, [], ◌∷◌, None, Some, Ok, Err, refl}
+use Rattle.std.proofs.Common.{◌≡◌, ℕ, false, true, List, [], ◌∷◌, None, Some, Result, Ok, Err, refl}
 use Rattle.std.specs.Prelude.{codes}
 use Rattle.hs_base.specs.declared.pos.Pos.{Pos}
-use Rattle.hs_expressions.specs.Expressions.{typed}
+use Rattle.hs_expressions.specs.Expressions.{typed, derivations}
 use Rattle.hs_expressions.specs.Operations.{value_of}
-use Rattle.hs_expressions.specs.Steps.{beginning}
-use Rattle.hs_expressions.specs.declared.type_error.TypeError.TheVariants.{Untyped, Undeclared}
-use Rattle.hs_expressions.specs.declared.typer.Entity.{Entity}
-use Rattle.hs_expressions.specs.declared.typer.Entity.TheVariants as entity
-use Rattle.hs_expressions.specs.declared.typer.Taken.TheVariants as taken
-use Rattle.hs_expressions.specs.declared.typer.Typer.{Typer}
+use Rattle.hs_typer.specs.Steps.{beginning}
+use Rattle.hs_typer.specs.declared.type_error.TypeError.{TypeError}
+use Rattle.hs_typer.specs.declared.type_error.TypeError.TheVariants.{Untyped, Undeclared}
+use Rattle.hs_typer.specs.declared.typer.Entity.{Entity}
+use Rattle.hs_typer.specs.declared.typer.Entity.TheVariants as entity
+use Rattle.hs_typer.specs.declared.typer.Taken.TheVariants as taken
+use Rattle.hs_typer.specs.declared.typer.Typer.{Typer}
 use Rattle.hs_names.specs.Scopes.{declared}
 use Rattle.hs_operands.specs.Conversions.{head_at}
 use Rattle.hs_operands.specs.Operands as operand
 use Rattle.hs_syntax.specs.Trees as syntax
-use Rattle.hs_syntax.specs.Trees.{Expression, NamedType}
+use Rattle.hs_syntax.specs.Trees.{Expression, NamedType, Declared}
 use Rattle.hs_syntax.specs.declared.operators.Basic.TheVariants as basic
 use Rattle.hs_syntax.specs.declared.operators.BinaryOperator.TheVariants as binary
 use Rattle.hs_syntax.specs.declared.operators.Pointer.TheVariants as pointer
@@ -121,3 +122,23 @@ address-of_c : typed (syntax.prefix prefix.Address (at 1) (name (codes "c") 2)) 
       record known { taken = taken.Variable (variable.Global 1) ∷ [] },
     )
 address-of_c = refl
+
+-- `f(int x)`
+abbrev function_f : Declared
+function_f =
+    syntax.pointing []
+    (syntax.function (syntax.identifier (word (codes "f") 1))
+    (syntax.more_parameters (syntax.more_specifiers (syntax.basic basic.Int (at 3)) syntax.no_specifiers)
+    (syntax.pointing [] (syntax.identifier (word (codes "x") 7))) syntax.no_parameters))
+
+-- the level of the innermost scope
+abbrev level_after : {A : Type 0} → Result (A × Typer) TypeError → Result ℕ TypeError
+level_after (Ok p) = Ok p.1.names.level
+level_after (Err why) = Err why
+
+-- The scope of the parameters ends with them, if it is not kept.
+scope-ends : level_after (derivations (at 1) function_f (beginning [])) ≡ Ok 0
+scope-ends = refl
+
+scope-is_kept : level_after (derivations (at 1) function_f (record (beginning []) { keeps = true })) ≡ Ok 1
+scope-is_kept = refl

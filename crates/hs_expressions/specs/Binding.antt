@@ -7,12 +7,12 @@ use Rattle.std.specs.Prelude.{◌≡◌, ◌<◌, ℕ, true, List, [], ◌∷◌
 use Rattle.std.specs.List.{AllByRecursion}
 use Rattle.hs_expressions.specs.Expressions.{typed}
 use Rattle.hs_expressions.specs.Laws.{IsScoped, IsPrefix}
-use Rattle.hs_expressions.specs.declared.typer.Entity.{Entity}
-use Rattle.hs_expressions.specs.declared.typer.Entity.TheVariants as entity
-use Rattle.hs_expressions.specs.declared.typer.RoutineCall.{RoutineCall}
-use Rattle.hs_expressions.specs.declared.typer.Taken.{Taken}
-use Rattle.hs_expressions.specs.declared.typer.Taken.TheVariants as taken
-use Rattle.hs_expressions.specs.declared.typer.Typer.{Typer}
+use Rattle.hs_typer.specs.declared.typer.Entity.{Entity}
+use Rattle.hs_typer.specs.declared.typer.Entity.TheVariants as entity
+use Rattle.hs_typer.specs.declared.typer.RoutineCall.{RoutineCall}
+use Rattle.hs_typer.specs.declared.typer.Taken.{Taken}
+use Rattle.hs_typer.specs.declared.typer.Taken.TheVariants as taken
+use Rattle.hs_typer.specs.declared.typer.Typer.{Typer}
 use Rattle.hs_operands.specs.Operands as operand
 use Rattle.hs_operands.specs.Operands.{TypedOperand}
 use Rattle.hs_operands.specs.declared.operand.Bound.{Bound}

@@ -8,17 +8,17 @@
 --     derivations at it             what a declarator derives
 --     parameter_types at place done its     the types of parameters
 use Rattle.std.specs.Prelude.{ℕ, suc, Bool, false, List, [], ◌∷◌, ◌++◌, Option, Some, Result, Ok, Err, if◌then◌else◌}
-use Rattle.hs_expressions.specs.Declarators.{formed, length_of, pointers_of, word_of, place_of}
-use Rattle.hs_expressions.specs.Declaring.{list_of, parameter}
+use Rattle.hs_typer.specs.Declarators.{formed, length_of, pointers_of, word_of, place_of}
+use Rattle.hs_typer.specs.Declaring.{list_of, parameter}
 use Rattle.hs_expressions.specs.Operations.{as_value, as_object, value_of, binary_of, is_arrow, member_operand, takes_object, prefix_object, prefix_value, postfix_of, assignment_of, call_operand}
-use Rattle.hs_expressions.specs.Primaries.{named, number_of, character_of, string_of}
-use Rattle.hs_expressions.specs.Specifiers.{no_specifiers, with_basic, with_type, with_storage, type_from, typedef_of, struct_type, enumeration_type, tagged_struct, begun_struct, tagged_enumeration, begun_enumeration, with_member, completed_struct, completed_enumeration, int_of, next_bits, then_next, enumerator}
-use Rattle.hs_expressions.specs.declared.type_error.TypeError.{TypeError}
-use Rattle.hs_expressions.specs.Steps.{Step, ◌>>=◌, ◌>>◌, give, look, of_types, on_types, mapped, unevaluated}
-use Rattle.hs_expressions.specs.declared.declarators.Derivation.{Derivation}
-use Rattle.hs_expressions.specs.declared.declarators.Derivation.TheVariants as derivation
-use Rattle.hs_expressions.specs.declared.specifiers.Specifiers.{Specifiers}
-use Rattle.hs_expressions.specs.declared.typer.Typer.{Typer}
+use Rattle.hs_typer.specs.Primaries.{named, number_of, character_of, string_of}
+use Rattle.hs_typer.specs.Specifiers.{no_specifiers, with_basic, with_type, with_storage, type_from, typedef_of, struct_type, enumeration_type, tagged_struct, begun_struct, tagged_enumeration, begun_enumeration, with_member, completed_struct, completed_enumeration, int_of, next_bits, then_next, enumerator}
+use Rattle.hs_typer.specs.declared.type_error.TypeError.{TypeError}
+use Rattle.hs_typer.specs.Steps.{Step, ◌>>=◌, ◌>>◌, give, look, of_types, on_types, mapped, unevaluated}
+use Rattle.hs_typer.specs.declared.declarators.Derivation.{Derivation}
+use Rattle.hs_typer.specs.declared.declarators.Derivation.TheVariants as derivation
+use Rattle.hs_typer.specs.declared.specifiers.Specifiers.{Specifiers}
+use Rattle.hs_typer.specs.declared.typer.Typer.{Typer}
 use Rattle.hs_names.specs.Scopes.{find, entered, left}
 use Rattle.hs_operands.specs.Assignments.{cast_of, conditional_of, comma_of}
 use Rattle.hs_operands.specs.Objects.{element_of, arrow_of, size_number, size_of_operand}
@@ -45,14 +45,14 @@ enter s = record s { names = entered s.names; tags = entered s.tags }
 abbrev pub leave : Typer → Typer
 leave s = record s { names = left s.names; tags = left s.tags }
 
--- after a step that was not refused
-abbrev pub leaving : {A : Type 0} → Result (A × Typer) TypeError → Result (A × Typer) TypeError
-leaving (Ok p) = Ok (p.0, leave p.1)
-leaving (Err why) = Err why
+-- after a step that was not refused, unless the scope is kept
+abbrev pub ending : {A : Type 0} → Bool → Result (A × Typer) TypeError → Result (A × Typer) TypeError
+ending kept (Ok p) = Ok (p.0, if kept then p.1 else leave p.1)
+ending kept (Err why) = Err why
 
--- a step in a scope of its own
-abbrev pub inside : {A : Type 0} → Step A → Step A
-inside step s = leaving (step (enter s))
+-- The parameters are in a scope of their own, which ends with them. Those of a function that is defined go on in its body.
+abbrev pub prototype : {A : Type 0} → Step A → Step A
+prototype step s = ending s.keeps (step (enter (record s { keeps = false })))
 
 -- the type that a list of specifiers names
 abbrev pub type_by : Place → Step Specifiers → Step TypeId
@@ -166,7 +166,7 @@ abbrev mutual
   specifier stored first done (syntax.struct_body at word brace members) = do
     number ← begun_struct word
     its ← members_of at [] members
-    completed_struct first word number its
+    completed_struct first word brace number its
     id ← struct_type number
     give (with_type id done)
   specifier stored first done (syntax.enum_tag at word) = do
@@ -176,7 +176,7 @@ abbrev mutual
   specifier stored first done (syntax.enum_body at word brace constants comma) = do
     number ← begun_enumeration word
     its ← constants_of [] (Some 0) constants
-    completed_enumeration first word number its
+    completed_enumeration first word brace number its
     id ← enumeration_type number
     give (with_type id done)
 
@@ -228,7 +228,7 @@ abbrev mutual
     give (its ++ derivation.Array number ∷ [])
   derivations_of at (syntax.function base parameters) = do
     its ← derivations_of at base
-    ids ← inside (parameter_types at 0 [] parameters)
+    ids ← prototype (parameter_types at 0 [] parameters)
     list ← list_of ids
     give (its ++ derivation.Function list ∷ [])
   derivations_of at (syntax.function_of_void base place) = do

@@ -1,15 +1,15 @@
 -- Laws of typing: what is known grows, and what is typed is well typed.
 --     Extends old new                     what was known is still known
---     IsScoped s                          no declaration is of a scope inside the innermost one
+--     IsScoped s                          no declaration is of a scope inside the innermost one, and the next scope ends
 --     Knows program function s            the names of objects mean the variables of the program
 --     TypingExtends, TypingIsRight        the laws
-use Rattle.std.specs.Prelude.{◌≡◌, ◌≤◌, ℕ, true, List, ◌++◌, Some, Ok}
+use Rattle.std.specs.Prelude.{◌≡◌, ◌≤◌, ℕ, true, false, List, ◌++◌, Some, Ok}
 use Rattle.std.specs.List.{AllByRecursion}
 use Rattle.hs_expressions.specs.Expressions.{typed}
-use Rattle.hs_expressions.specs.declared.typer.Entity.{Entity}
-use Rattle.hs_expressions.specs.declared.typer.Entity.TheVariants as entity
-use Rattle.hs_expressions.specs.declared.typer.Tag.{Tag}
-use Rattle.hs_expressions.specs.declared.typer.Typer.{Typer}
+use Rattle.hs_typer.specs.declared.typer.Entity.{Entity}
+use Rattle.hs_typer.specs.declared.typer.Entity.TheVariants as entity
+use Rattle.hs_typer.specs.declared.typer.Tag.{Tag}
+use Rattle.hs_typer.specs.declared.typer.Typer.{Typer}
 use Rattle.hs_names.specs.Scopes.{Scoped, Declared}
 use Rattle.hs_operands.specs.Laws.{IsTypedOperand}
 use Rattle.hs_operands.specs.Operands.{TypedOperand}
@@ -52,6 +52,7 @@ abbrev pub IsPrefix : {A : Type 0} → List A → List A → Type 0
 IsPrefix {A} old new = (more : List A) × (new ≡ old ++ more)
 
 -- Types stay as they are, names and tags mean what they did or are new in the innermost scope, and what is noted is noted after the rest.
+-- Whether the scope of the next list of parameters is kept stays as it was, too.
 pub record Extends (old new : Typer) : Type 0 where
   pub types : Grows old.types new.types
   pub names : HasMore (IsConstantAt old.names.level) old.names new.names
@@ -61,14 +62,17 @@ pub record Extends (old new : Typer) : Type 0 where
   pub calls : IsPrefix old.calls new.calls
   pub table : new.table ≡ old.table
   pub counts : new.counts ≡ old.counts
+  pub keeps : new.keeps ≡ old.keeps
 
 -- scopes inside the innermost one have ended
 abbrev pub AreOutside : {E : Type 0} → Scoped E → Type 0
 AreOutside scopes = AllByRecursion (λ it. it.level ≤ scopes.level) scopes.declarations
 
+-- The scope of the next list of parameters ends with it: it is kept only for a function that is being defined, outside of expressions.
 pub record IsScoped (s : Typer) : Type 0 where
   pub names : AreOutside s.names
   pub tags : AreOutside s.tags
+  pub closed : s.keeps ≡ false
 
 -- the name of an object means a variable of the program, of that type
 abbrev pub IsKnown : TypedProgram → TypedFunction → Entity → Type 0

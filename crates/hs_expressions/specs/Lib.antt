@@ -1,11 +1,6 @@
 pub mod Binding
-pub mod Declarators
-pub mod Declaring
 pub mod Expressions
 pub mod Laws
 pub mod Operations
 pub mod Order
-pub mod Primaries
 pub mod Roles
-pub mod Specifiers
-pub mod Steps

@@ -2,12 +2,12 @@
 -- known besides.
 use Rattle.std.specs.Prelude.{ℕ, Bool, true, false, List, [], ◌∷◌, ◌++◌, Option, Some, None, Result, Ok, Err, if◌then◌else◌}
 use Rattle.hs_expressions.specs.Roles.{fits_role}
-use Rattle.hs_expressions.specs.Steps.{Step, ◌>>=◌, refuse, of_types, on_types, lifted, mapped}
-use Rattle.hs_expressions.specs.declared.type_error.TypeError.{TypeError}
-use Rattle.hs_expressions.specs.declared.type_error.TypeError.TheVariants.{Untyped, UnknownRoutine, Clash}
-use Rattle.hs_expressions.specs.declared.typer.Taken.{Taken}
-use Rattle.hs_expressions.specs.declared.typer.Taken.TheVariants as taken
-use Rattle.hs_expressions.specs.declared.typer.Typer.{Typer}
+use Rattle.hs_typer.specs.Steps.{Step, ◌>>=◌, refuse, of_types, on_types, lifted, mapped}
+use Rattle.hs_typer.specs.declared.type_error.TypeError.{TypeError}
+use Rattle.hs_typer.specs.declared.type_error.TypeError.TheVariants.{Untyped, UnknownRoutine, Clash}
+use Rattle.hs_typer.specs.declared.typer.Taken.{Taken}
+use Rattle.hs_typer.specs.declared.typer.Taken.TheVariants as taken
+use Rattle.hs_typer.specs.declared.typer.Typer.{Typer}
 use Rattle.hs_operands.specs.Answers as answers
 use Rattle.hs_operands.specs.Assignments.{assign_of, update_of, post_update_of, one, called}
 use Rattle.hs_operands.specs.Calls.{call_of, call_routine_of}

@@ -5,8 +5,8 @@ use Rattle.std.specs.Prelude.{◌≡◌, [], Ok, Err}
 use Rattle.std.proofs.Common.{refl}
 use Rattle.hs_expressions.specs.Expressions.{typed, typed_all, typed_lefts}
 use Rattle.hs_expressions.specs.Operations.{value_of}
-use Rattle.hs_expressions.specs.declared.type_error.TypeError.{TypeError}
-use Rattle.hs_expressions.specs.declared.typer.Typer.{Typer}
+use Rattle.hs_typer.specs.declared.type_error.TypeError.{TypeError}
+use Rattle.hs_typer.specs.declared.typer.Typer.{Typer}
 use Rattle.hs_operands.specs.Operands.{TypedOperand}
 use Rattle.hs_syntax.specs.Trees as syntax
 use Rattle.hs_syntax.specs.Trees.{Expression, Expressions, Lefts}

@@ -1,33 +1,22 @@
 //! What every expression is, as a typed tree, or the first refusal (X3.159-1989 3.3). Type names, struct bodies and array lengths hold
 //! expressions, so they are one recursion with them.
 
-ghost use Rattle.std.specs.Prelude.{◌≡◌, map, [], false, Some};
-ghost use Rattle.hs_expressions.specs.Expressions.{typed, typed_all, typed_lefts, type_named, type_by, specified, specifier, members_of, members_as, constants_of, derivations, derivations_of, parameter_types, first_place, int_value_of};
+ghost use Rattle.std.specs.Prelude.{◌≡◌, map, [], false, Some, if◌then◌else◌};
+ghost use Rattle.hs_expressions.specs.Expressions.{typed, typed_all, typed_lefts, type_named, type_by, specified, specifier, members_of, members_as, constants_of, derivations, derivations_of, parameter_types, first_place, int_value_of, leave};
 ghost use Rattle.hs_expressions.specs.Operations.{value_of};
-ghost use Rattle.hs_expressions.specs.Specifiers.{no_specifiers};
-ghost use Rattle.hs_expressions.specs.Steps.{Steps};
+ghost use Rattle.hs_typer.specs.Specifiers.{no_specifiers};
+ghost use Rattle.hs_typer.specs.Steps.{Steps};
 ghost use Rattle.hs_operands.specs.Operands.{view_operand};
 ghost use Rattle.hs_syntax.specs.RowViews.{view_left, view_member, view_constant, view_parameter, expressions_from, lefts_from, members_from, constants_from, declarators_from, parameters_from};
 ghost use Rattle.hs_syntax.specs.Views.{view, view_type, view_specifier, view_declarator, view_direct, specification_of};
 ghost use Rattle.hs_tree.specs.Views.{view_right};
 
-use crate::declarators::{
-    Derivation, formed, length_of, list_of, next_place, parameter, place_of, with_pointers, word_of,
-};
-use crate::held::{pushed, pushed_copy};
-use crate::members::Members;
 use crate::operations::{
     arrow_operand, assignment_of, binary_operand, call_operand, cast_operand, comma_operand,
     conditional_operand, element, is_arrow, load, member_operand, postfix_of, prefix_object,
     prefix_value, size_operand, size_type, takes_object,
 };
 use crate::primaries::{character_of, named, number_of, string_of};
-use crate::specifiers::{
-    Specifiers, begun_enumeration, begun_struct, completed_enumeration, completed_struct,
-    enumeration_type, enumerator, int_of, next_bits, next_of, struct_type, tagged_enumeration,
-    tagged_struct, with_member, with_typedef,
-};
-use crate::{TypeError, Typer};
 use hs_operands::Operand;
 use hs_syntax::{
     Constant, Declarator, Direct, Expr, Left, Member, Parameter, Specifier, TypeName,
@@ -35,6 +24,13 @@ use hs_syntax::{
 };
 use hs_tokens::Place;
 use hs_tree::Rvalue;
+use hs_typer::{
+    Derivation, Members, Specifiers, TypeError, Typer, begun_enumeration, begun_struct,
+    completed_enumeration, completed_struct, enumeration_type, enumerator, formed, int_of,
+    length_of, list_of, next_bits, next_of, next_place, parameter, place_of, pushed, pushed_copy,
+    struct_type, tagged_enumeration, tagged_struct, with_member, with_pointers, with_typedef,
+    word_of,
+};
 use hs_types::{Constants, Enumerator, TypeId};
 use std::alloc::Global;
 
@@ -239,9 +235,12 @@ fn type_specified(
     done.type_from(first)
 }
 
-/// What a list of specifiers says (3.5.1 to 3.5.3).
+/// What a list of specifiers says (3.5.1 to 3.5.3). A storage word may be among them if it is stored; the first of them is at that place.
+/// The bodies of structs and enumerations are typed, and their tags and constants declared in the innermost scope.
+///
+/// Example: of `static unsigned char`, the storage word and two words of a basic type.
 #[cycle(typed)]
-pub(crate) fn specifiers(
+pub fn specifiers(
     alloc: Global,
     typer: &mut Typer,
     stored: bool,
@@ -283,12 +282,13 @@ fn specifier(
         Specifier::Struct {
             at,
             tag,
+            brace,
             members,
             ..
         } => {
             let number = begun_struct(alloc, typer, tag.as_ref())?;
             let its = all_members(alloc, typer, *at, members)?;
-            completed_struct(alloc, typer, first, tag.as_ref(), number, its)?;
+            completed_struct(alloc, typer, first, tag.as_ref(), *brace, number, its)?;
             let id = struct_type(typer, number)?;
             Ok(done.with_type(id))
         }
@@ -297,11 +297,16 @@ fn specifier(
             let id = enumeration_type(typer, number)?;
             Ok(done.with_type(id))
         }
-        Specifier::Enum { tag, constants, .. } => {
+        Specifier::Enum {
+            tag,
+            brace,
+            constants,
+            ..
+        } => {
             let number = begun_enumeration(alloc, typer, tag.as_ref())?;
             let its = all_constants(alloc, typer, constants)?;
             let its = Constants::from_vec(its);
-            completed_enumeration(typer, first, tag.as_ref(), number, its)?;
+            completed_enumeration(alloc, typer, first, tag.as_ref(), *brace, number, its)?;
             let id = enumeration_type(typer, number)?;
             Ok(done.with_type(id))
         }
@@ -393,9 +398,12 @@ fn constant(alloc: Global, typer: &mut Typer, e: &Expr) -> Result<u32, TypeError
     int_of(&typer.types, &e)
 }
 
-/// What a declarator derives (3.5.4).
+/// What a declarator derives (3.5.4), in the order of the text. What has no place of its own is refused at that place. Parameters are
+/// declared in a scope of their own, which is kept if the typer keeps it.
+///
+/// Example: of `*a[3]`, an array of 3 and then a pointer.
 #[cycle(typed)]
-pub(crate) fn derivations(
+pub fn derivations(
     alloc: Global,
     typer: &mut Typer,
     at: Place,
@@ -433,11 +441,12 @@ fn derivations_of(
         }
         Direct::Function { base, parameters } => {
             let its = derivations_of(alloc, typer, at, base)?;
+            let kept = typer.keeps;
+            typer.keeps = false;
             typer.names.enter()?;
             typer.tags.enter()?;
             let ids = parameter_types(alloc, typer, at, parameters)?;
-            typer.names.leave();
-            typer.tags.leave();
+            leave_unless(typer, kept);
             let list = list_of(typer, &ids)?;
             Ok(pushed_copy(its, Derivation::Function(list))?)
         }
@@ -449,9 +458,19 @@ fn derivations_of(
     }
 }
 
+/// Ends the scope of a list of parameters, unless it is kept.
+fn leave_unless(typer: &mut Typer, kept: bool)
+    ensures { typer.new ≡ (if kept then typer.old else leave typer.old) }
+{
+    if !kept {
+        typer.names.leave();
+        typer.tags.leave();
+    }
+}
+
 /// The types of parameters (3.5.4.3), which are declared in the innermost scope.
 #[cycle(typed)]
-pub(crate) fn parameter_types(
+fn parameter_types(
     alloc: Global,
     typer: &mut Typer,
     at: Place,

@@ -1,11 +1,10 @@
 //! Names, constants and strings (X3.159-1989 3.1.3, 3.1.4 and 3.3.1).
 
 ghost use Rattle.std.specs.Prelude.{◌≡◌, ◌∷◌, length, Some, IfOk};
-ghost use Rattle.hs_expressions.specs.Primaries.{undeclared, number, named, is_wide, number_type, number_of, character_of, joined_words, string_bytes, string_as, string_of};
-ghost use Rattle.hs_expressions.specs.Steps.{Gives, Steps};
+ghost use Rattle.hs_typer.specs.Primaries.{number, named, is_wide, number_type, number_of, character_of, joined_words, string_bytes, string_as, string_of};
+ghost use Rattle.hs_typer.specs.Steps.{Gives, Steps};
 ghost use Rattle.hs_operands.specs.Operands.{view_operand};
 
-use crate::{Entity, TypeError, Typer};
 use hs_base::{Bytes, NoMemory};
 use hs_constants::{Number, character_value, number_value, string_value};
 use hs_names::Scopes;
@@ -13,6 +12,7 @@ use hs_operands::{Designator, Operand};
 use hs_syntax::Word;
 use hs_tokens::Place;
 use hs_tree::{Head, Lvalue, Rvalue};
+use hs_typer::{Entity, TypeError, Typer, copied, undeclared};
 use hs_types::{Integer, TypeEnd, TypeId};
 use std::alloc::Global;
 
@@ -39,21 +39,6 @@ pub(crate) fn named(
         Some(Entity::Typedef(_)) => Err(TypeError::Untyped(at)),
         None => Err(undeclared(alloc, word)?),
     }
-}
-
-/// The refusal of a name that is not declared.
-pub(crate) fn undeclared(alloc: Global, word: &Word) -> Result<TypeError, NoMemory>
-    ensures { IfOk result (λ why. why ≡ undeclared word.now) }
-{
-    let name = copied(alloc, word.text.items())?;
-    Ok(TypeError::Undeclared(word.place, name))
-}
-
-/// A copy of these bytes.
-pub(crate) fn copied(alloc: Global, bytes: &[u8]) -> Result<Bytes, NoMemory>
-    ensures { IfOk result (λ copy. copy ≡ bytes.now) }
-{
-    Ok(Bytes::from_vec(bytes.to_vec(alloc)?))
 }
 
 /// A number.
@@ -136,8 +121,10 @@ fn joined_words(alloc: Global, front: Bytes, words: &[Word]) -> Result<Option<By
     Ok(Some(Bytes::from_vec(bytes)))
 }
 
-/// The bytes of a string and of its neighbours, and the byte 0.
-fn string_bytes(alloc: Global, first: &Word, others: &[Word]) -> Result<Option<Bytes>, NoMemory>
+/// The bytes of a string and of its neighbours, and the byte 0; or `None` if one of them is no string (3.1.4).
+///
+/// Example: 97, 98 and 0 for `"a" "b"`.
+pub fn string_bytes(alloc: Global, first: &Word, others: &[Word]) -> Result<Option<Bytes>, NoMemory>
     ensures { IfOk result (λ bytes. bytes ≡ string_bytes first.now others.now) }
 {
     match string_value(alloc, first.text.items())? {

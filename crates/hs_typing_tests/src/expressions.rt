@@ -4,12 +4,13 @@ ghost use Rattle.hs_syntax.specs.Nesting.{IsShallow};
 
 use hs_base::{Bytes, NoMemory, Pos};
 use hs_expr_parser::{ParseEnd, TypeNames, expr};
-use hs_expressions::{Entity, Taken, TypeError, Typer, constant_of, declare, expression, value};
+use hs_expressions::{expression, value};
 use hs_operands::Bound;
 use hs_syntax::{Expr, Word, shallow};
 use hs_table::built_in;
 use hs_tokens::{Origin, Place, SourceToken, Token, scan};
 use hs_tree::{Rvalue, Variable};
+use hs_typer::{Entity, Taken, TypeError, Typer, constant_of, declare};
 use hs_types::{FieldId, Integer, ListId, Parameters, Row, TypeId};
 use std::alloc::{AllocError, AllocFailed, Global};
 use std::test::Fail;

@@ -10,10 +10,10 @@ use Rattle.hs_expressions.specs.Laws.Always.{refuses_always}
 use Rattle.hs_expressions.specs.Laws.Leaves.{addressed_always, call_with_always}
 use Rattle.hs_expressions.specs.Operations.{taken_by, addressed, bound_call, call_with, call_operand}
 use Rattle.hs_expressions.specs.Roles.{fits_role}
-use Rattle.hs_expressions.specs.Steps.{lifted}
-use Rattle.hs_expressions.specs.declared.type_error.TypeError.{TypeError}
-use Rattle.hs_expressions.specs.declared.type_error.TypeError.TheVariants.{Untyped, Clash}
-use Rattle.hs_expressions.specs.declared.typer.Typer.{Typer}
+use Rattle.hs_typer.specs.Steps.{lifted}
+use Rattle.hs_typer.specs.declared.type_error.TypeError.{TypeError}
+use Rattle.hs_typer.specs.declared.type_error.TypeError.TheVariants.{Untyped, Clash}
+use Rattle.hs_typer.specs.declared.typer.Typer.{Typer}
 use Rattle.hs_operands.specs.Answers.{◌>>=◌}
 use Rattle.hs_operands.specs.Assignments.{assigned, next_parameter, no_parameter, matched, signature_of_row, returned, called}
 use Rattle.hs_operands.specs.Calls.{call_of, call_routine_of}

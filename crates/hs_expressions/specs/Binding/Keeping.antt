@@ -11,11 +11,11 @@ use Rattle.hs_expressions.specs.Laws.Always.{Reaching, Always, gives_always, loo
 use Rattle.hs_expressions.specs.Laws.Grown.{lifted_grows, loaded_grows}
 use Rattle.hs_expressions.specs.Laws.Reached.{IsAllowedAt, Reaches, all_appended, all_so, prefix_then, scoped_after}
 use Rattle.hs_expressions.specs.Operations.{value_of}
-use Rattle.hs_expressions.specs.Steps.{Step, then_with, ◌>>=◌, give, kept, with_types, look, of_types, lifted}
-use Rattle.hs_expressions.specs.declared.type_error.TypeError.{TypeError}
-use Rattle.hs_expressions.specs.declared.typer.Entity.{Entity}
-use Rattle.hs_expressions.specs.declared.typer.Entity.TheVariants as entity
-use Rattle.hs_expressions.specs.declared.typer.Typer.{Typer}
+use Rattle.hs_typer.specs.Steps.{Step, then_with, ◌>>=◌, give, kept, with_types, look, of_types, lifted}
+use Rattle.hs_typer.specs.declared.type_error.TypeError.{TypeError}
+use Rattle.hs_typer.specs.declared.typer.Entity.{Entity}
+use Rattle.hs_typer.specs.declared.typer.Entity.TheVariants as entity
+use Rattle.hs_typer.specs.declared.typer.Typer.{Typer}
 use Rattle.hs_operands.specs.Laws.Kept.{IsPlain, loaded_kept}
 use Rattle.hs_operands.specs.Laws.Made.{Makes}
 use Rattle.hs_operands.specs.Objects.{loaded}

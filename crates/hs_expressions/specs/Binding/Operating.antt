@@ -13,12 +13,12 @@ use Rattle.hs_expressions.specs.Laws.{IsPrefix}
 use Rattle.hs_expressions.specs.Laws.Leaves.{string_always}
 use Rattle.hs_expressions.specs.Laws.Primary.{last_at}
 use Rattle.hs_expressions.specs.Operations.{as_value, as_object, binary_of, member_operand, stepped, prefix_object, prefix_value, operation_of_postfix, postfix_of, operation_of_assignment, assigned_by, assignment_of}
-use Rattle.hs_expressions.specs.Primaries.{number, named_as, named, number_type, number_as, number_of, character_as, character_of, string_bytes, string_in, string_as, string_of}
-use Rattle.hs_expressions.specs.Steps.{lifted_end}
-use Rattle.hs_expressions.specs.declared.type_error.TypeError.{TypeError}
-use Rattle.hs_expressions.specs.declared.typer.Entity.{Entity}
-use Rattle.hs_expressions.specs.declared.typer.Entity.TheVariants as entity
-use Rattle.hs_expressions.specs.declared.typer.Typer.{Typer}
+use Rattle.hs_typer.specs.Primaries.{number, named_as, named, number_type, number_as, number_of, character_as, character_of, string_bytes, string_in, string_as, string_of}
+use Rattle.hs_typer.specs.Steps.{lifted_end}
+use Rattle.hs_typer.specs.declared.type_error.TypeError.{TypeError}
+use Rattle.hs_typer.specs.declared.typer.Entity.{Entity}
+use Rattle.hs_typer.specs.declared.typer.Entity.TheVariants as entity
+use Rattle.hs_typer.specs.declared.typer.Typer.{Typer}
 use Rattle.hs_names.specs.Scopes.{Declared, newest, entity_of, find}
 use Rattle.hs_operands.specs.Answers.{◌>>=◌}
 use Rattle.hs_operands.specs.Assignments.{update_of, post_update_of, one}

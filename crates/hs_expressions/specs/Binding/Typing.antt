@@ -13,9 +13,9 @@ use Rattle.hs_expressions.specs.Laws.Always.{unevaluated_always}
 use Rattle.hs_expressions.specs.Laws.Extending.{typed_always, type_named_always, typing_extends}
 use Rattle.hs_expressions.specs.Laws.Reached.{all_so}
 use Rattle.hs_expressions.specs.Operations.{as_value, as_object, binary_of, is_arrow, member_operand, takes_object, prefix_value, postfix_of, assignment_of}
-use Rattle.hs_expressions.specs.Primaries.{named, number_of, character_of}
-use Rattle.hs_expressions.specs.declared.typer.Entity.{Entity}
-use Rattle.hs_expressions.specs.declared.typer.Entity.TheVariants as entity
+use Rattle.hs_typer.specs.Primaries.{named, number_of, character_of}
+use Rattle.hs_typer.specs.declared.typer.Entity.{Entity}
+use Rattle.hs_typer.specs.declared.typer.Entity.TheVariants as entity
 use Rattle.hs_operands.specs.Assignments.{cast_of, conditional_of, comma_of}
 use Rattle.hs_operands.specs.Laws.Kept as keep
 use Rattle.hs_operands.specs.Laws.Typed.{all_with_one}

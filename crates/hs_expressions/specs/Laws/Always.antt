@@ -2,18 +2,18 @@
 --     Reaching allowed s given       what is known after the answer, if it is one, extends what was
 --     Always allowed step            from every place of the text
 --     gives_always, refuses_always, looks_always, of_types_always, on_types_always       one step
---     then_always, value_always, unevaluated_always, inside_always       steps of others
-use Rattle.std.proofs.Common.{◌≡◌, ◌≤◌, ℕ, suc, Bool, true, false, List, [], Result, Ok, Err, refl, if◌then◌else◌, arith}
+--     then_always, value_always, unevaluated_always, prototype_always    steps of others
+use Rattle.std.proofs.Common.{◌≡◌, ◌≤◌, ℕ, suc, Bool, true, false, List, [], Result, Ok, Err, refl, sym, ◌∙◌, if◌then◌else◌, arith}
 use Rattle.std.specs.List.{AllByRecursion}
-use Rattle.hs_expressions.specs.Expressions.{enter, leaving, inside}
+use Rattle.hs_expressions.specs.Expressions.{enter, ending, prototype}
 use Rattle.hs_expressions.specs.Laws.{HasMore, IsTagAt, IsScoped}
 use Rattle.hs_expressions.specs.Laws.Grown.{Growing, lifted_grows, loaded_grows}
 use Rattle.hs_expressions.specs.Laws.Reached.{IsAllowedAt, Reaches, all_so, left_entered, reaches_self, reaches_then, reaches_types, scoped_after, reaches_wider}
 use Rattle.hs_expressions.specs.Operations.{value_of}
-use Rattle.hs_expressions.specs.Steps.{Step, then_with, ◌>>=◌, ◌>>◌, give, refuse, kept, with_types, look, of_types, on_types, lifted, restored, unevaluated}
-use Rattle.hs_expressions.specs.declared.type_error.TypeError.{TypeError}
-use Rattle.hs_expressions.specs.declared.typer.Entity.{Entity}
-use Rattle.hs_expressions.specs.declared.typer.Typer.{Typer}
+use Rattle.hs_typer.specs.Steps.{Step, then_with, ◌>>=◌, ◌>>◌, give, refuse, kept, with_types, look, of_types, on_types, lifted, restored, unevaluated}
+use Rattle.hs_typer.specs.declared.type_error.TypeError.{TypeError}
+use Rattle.hs_typer.specs.declared.typer.Entity.{Entity}
+use Rattle.hs_typer.specs.declared.typer.Typer.{Typer}
 use Rattle.hs_names.specs.Scopes.{Scoped, Declared, left}
 use Rattle.hs_operands.specs.Objects.{loaded}
 use Rattle.hs_operands.specs.Operands.{TypedOperand}
@@ -40,9 +40,17 @@ deeper level its are = all_so (λ it. it.level ≤ level) (λ it. it.level ≤ s
     one : (n : ℕ) → n ≤ level → n ≤ suc level
     one n is = omega (arith, is)
 
-scoped_inside : (s : Typer) → IsScoped s → IsScoped (enter s)
+-- the place of the first parameter
+abbrev inside : Typer → Typer
+inside s = enter (record s { keeps = false })
+
+scoped_inside : (s : Typer) → IsScoped s → IsScoped (inside s)
 scoped_inside s scoped =
-    record { names = deeper s.names.level s.names.declarations scoped.names; tags = deeper s.tags.level s.tags.declarations scoped.tags }
+    record {
+      names = deeper s.names.level s.names.declarations scoped.names;
+      tags = deeper s.tags.level s.tags.declarations scoped.tags;
+      closed = refl;
+    }
 
 -- What ends leaves the names and the tags as they were.
 same_more : {E : Type 0} → (Holds : Declared E → Type 0) (old new : Scoped E) → new ≡ old → HasMore Holds old new
@@ -86,13 +94,15 @@ module _ (allowed : Entity → Type 0) where
         calls = reached.calls;
         table = reached.table;
         counts = refl;
+        keeps = reached.keeps;
       }
   restored_reaches s (Err why) reached = tt
 
-  -- what is known when a scope ends
-  leaving_reaches : {A : Type 0} → (s : Typer) (given : Result (A × Typer) TypeError) → IsScoped s → Reaching Anything (enter s) given
-      → Reaching allowed s (leaving given)
-  leaving_reaches s (Ok p) scoped reached =
+  -- what is known when a scope ends, as it is not kept
+  ending_reaches : {A : Type 0} → (kept : Bool) (s : Typer) (given : Result (A × Typer) TypeError) → kept ≡ false → IsScoped s
+      → Reaching Anything (inside s) given → Reaching allowed s (ending kept given)
+  ending_reaches true s given ends scoped reached = absurd cc
+  ending_reaches false s (Ok p) ends scoped reached =
       record {
         types = reached.types;
         names = same_more (IsAllowedAt allowed s.names.level) s.names (left p.1.names)
@@ -104,8 +114,9 @@ module _ (allowed : Entity → Type 0) where
         calls = reached.calls;
         table = reached.table;
         counts = reached.counts;
+        keeps = reached.keeps ∙ sym scoped.closed;
       }
-  leaving_reaches s (Err why) scoped reached = tt
+  ending_reaches false s (Err why) ends scoped reached = tt
 
   -- where any sort of name may be declared
   wider_reaches : {A : Type 0} → (s : Typer) (given : Result (A × Typer) TypeError) → Reaching allowed s given → Reaching Anything s given
@@ -159,13 +170,15 @@ module _ {allowed : Entity → Type 0} where
   unevaluated_always {step = step} is =
       record {
         from = λ s scoped. restored_reaches allowed s (step (record s { counts = false }))
-            (is.from (record s { counts = false }) (record { names = scoped.names; tags = scoped.tags }));
+            (is.from (record s { counts = false }) (record { names = scoped.names; tags = scoped.tags; closed = scoped.closed }));
       }
 
   -- a prototype, in which names of any sort may be declared
-  pub inside_always : {A : Type 0} → {step : Step A} → Always Anything step → Always allowed (inside step)
-  inside_always {step = step} is =
-      record { from = λ s scoped. leaving_reaches allowed s (step (enter s)) scoped (is.from (enter s) (scoped_inside s scoped)) }
+  pub prototype_always : {A : Type 0} → {step : Step A} → Always Anything step → Always allowed (prototype step)
+  prototype_always {step = step} is =
+      record {
+        from = λ s scoped. ending_reaches allowed s.keeps s (step (inside s)) scoped.closed scoped (is.from (inside s) (scoped_inside s scoped));
+      }
 
   -- where any sort of name may be declared
   pub wider_always : {A : Type 0} → {step : Step A} → Always allowed step → Always Anything step

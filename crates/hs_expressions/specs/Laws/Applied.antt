@@ -8,10 +8,10 @@ use Rattle.hs_expressions.specs.Laws.Leaves.{addressed_always, call_with_always}
 use Rattle.hs_expressions.specs.Laws.Operating.{operators, stepped_typed}
 use Rattle.hs_expressions.specs.Operations.{addressed, prefix_object, stepped, bound_call, call_with, call_operand}
 use Rattle.hs_expressions.specs.Roles.{fits_role}
-use Rattle.hs_expressions.specs.Steps.{lifted}
-use Rattle.hs_expressions.specs.declared.type_error.TypeError.{TypeError}
-use Rattle.hs_expressions.specs.declared.type_error.TypeError.TheVariants.{Untyped, Clash}
-use Rattle.hs_expressions.specs.declared.typer.Typer.{Typer}
+use Rattle.hs_typer.specs.Steps.{lifted}
+use Rattle.hs_typer.specs.declared.type_error.TypeError.{TypeError}
+use Rattle.hs_typer.specs.declared.type_error.TypeError.TheVariants.{Untyped, Clash}
+use Rattle.hs_typer.specs.declared.typer.Typer.{Typer}
 use Rattle.hs_operands.specs.Assignments.{called}
 use Rattle.hs_operands.specs.Calls.{call_of, call_routine_of}
 use Rattle.hs_operands.specs.Laws.{IsTyped, IsTypedOperand}

@@ -2,20 +2,20 @@
 --     typed_always, typed_all_always, ..      a lemma for each step of typing
 --     typing_extends                          the law
 use Rattle.std.proofs.Common.{ℕ, suc, Bool, false, List, [], ◌∷◌, ◌++◌, Option, Some, subst}
-use Rattle.hs_expressions.specs.Declarators.{formed, length_of, pointers_of, word_of, place_of}
+use Rattle.hs_typer.specs.Declarators.{formed, length_of, pointers_of, word_of, place_of}
 use Rattle.hs_expressions.specs.Expressions.{first_place, type_by, int_value_of, typed, typed_all, typed_lefts, type_named, specified, specifier, members_of, members_as, constants_of, derivations, derivations_of, parameter_types}
 use Rattle.hs_expressions.specs.Laws.{IsConstant, Extends, TypingExtends}
-use Rattle.hs_expressions.specs.Laws.Always.{Reaching, Always, Anything, gives_always, looks_always, of_types_always, on_types_always, then_always, and_always, either_always, value_always, unevaluated_always, inside_always, wider_always}
+use Rattle.hs_expressions.specs.Laws.Always.{Reaching, Always, Anything, gives_always, looks_always, of_types_always, on_types_always, then_always, and_always, either_always, value_always, unevaluated_always, prototype_always, wider_always}
 use Rattle.hs_expressions.specs.Laws.Grown.{formed_grows, member_grows}
 use Rattle.hs_expressions.specs.Laws.Leaves.{string_always, prefix_object_always, call_operand_always, struct_type_always, enumeration_type_always, tagged_struct_always, begun_struct_always, begun_enumeration_always, completed_struct_always, completed_enumeration_always, list_of_always, enumerator_always, parameter_always}
 use Rattle.hs_expressions.specs.Laws.Reached.{Reaches}
 use Rattle.hs_expressions.specs.Operations.{as_value, as_object, binary_of, is_arrow, member_operand, takes_object, prefix_value, postfix_of, assignment_of}
-use Rattle.hs_expressions.specs.Primaries.{named, number_of, character_of}
-use Rattle.hs_expressions.specs.Specifiers.{no_specifiers, with_basic, with_type, with_storage, type_from, typedef_of, tagged_enumeration, with_member, int_of, next_bits, then_next}
-use Rattle.hs_expressions.specs.Steps.{Step, mapped}
-use Rattle.hs_expressions.specs.declared.declarators.Derivation.TheVariants as derivation
-use Rattle.hs_expressions.specs.declared.specifiers.Specifiers.{Specifiers}
-use Rattle.hs_expressions.specs.declared.typer.Typer.{Typer}
+use Rattle.hs_typer.specs.Primaries.{named, number_of, character_of}
+use Rattle.hs_typer.specs.Specifiers.{no_specifiers, with_basic, with_type, with_storage, type_from, typedef_of, tagged_enumeration, with_member, int_of, next_bits, then_next}
+use Rattle.hs_typer.specs.Steps.{Step, mapped}
+use Rattle.hs_typer.specs.declared.declarators.Derivation.TheVariants as derivation
+use Rattle.hs_typer.specs.declared.specifiers.Specifiers.{Specifiers}
+use Rattle.hs_typer.specs.declared.typer.Typer.{Typer}
 use Rattle.hs_names.specs.Scopes.{find}
 use Rattle.hs_operands.specs.Assignments.{cast_of, conditional_of, comma_of}
 use Rattle.hs_operands.specs.Objects.{element_of, arrow_of, size_number, size_of_operand}
@@ -119,7 +119,7 @@ mutual
   specifier_always stored first done (syntax.struct_body at word brace members) =
       then_always (begun_struct_always word)
       (λ number. then_always (members_of_always at [] members)
-      (λ its. and_always (completed_struct_always first word number its)
+      (λ its. and_always (completed_struct_always first word brace number its)
       (then_always (struct_type_always number) (λ id. gives_always (with_type id done)))))
   specifier_always stored first done (syntax.enum_tag at word) =
       then_always (looks_always (λ s. tagged_enumeration word (find word.text s.tags)))
@@ -127,7 +127,7 @@ mutual
   specifier_always stored first done (syntax.enum_body at word brace constants comma) =
       then_always (begun_enumeration_always word)
       (λ number. then_always (constants_of_always [] (Some 0) constants)
-      (λ its. and_always (completed_enumeration_always first word number its)
+      (λ its. and_always (completed_enumeration_always first word brace number its)
       (then_always (enumeration_type_always number) (λ id. gives_always (with_type id done)))))
 
   -- members
@@ -170,7 +170,7 @@ mutual
       (λ e. then_always (of_types_always (λ types. length_of types e)) (λ number. gives_always (its ++ derivation.Array number ∷ []))))
   derivations_of_always at (syntax.function base parameters) =
       then_always (derivations_of_always at base)
-      (λ its. then_always (inside_always (parameter_types_always at 0 [] parameters))
+      (λ its. then_always (prototype_always (parameter_types_always at 0 [] parameters))
       (λ ids. then_always (list_of_always ids) (λ list. gives_always (its ++ derivation.Function list ∷ []))))
   derivations_of_always at (syntax.function_of_void base place) =
       then_always (derivations_of_always at base)
@@ -199,6 +199,7 @@ extends_of old new reached =
       calls = reached.calls;
       table = reached.table;
       counts = reached.counts;
+      keeps = reached.keeps;
     }
 
 -- of the answer that is given

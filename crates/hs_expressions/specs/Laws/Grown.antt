@@ -3,13 +3,13 @@
 use Rattle.std.proofs.Common.{◌≡◌, ℕ, zero, suc, Bool, true, false, ◌&&◌, ◌||◌, List, [], ◌∷◌, ◌++◌, Option, Some, None, Result, Ok, Err, refl, ap, if◌then◌else◌}
 use Rattle.std.specs.Prelude.{slice_get, slice_set, is_some, not}
 use Rattle.std.specs.List.{list_any}
-use Rattle.hs_expressions.specs.Declarators.{is_function_row, is_array_row, added, untyped_end, derived_of, derived_from, formed_onto, formed, parameter_row, parameter_of, parameter_type, with_first, listed_onto, listed}
-use Rattle.hs_expressions.specs.Specifiers.{has_member, member_as, with_member_of, with_member}
-use Rattle.hs_expressions.specs.Steps.{lifted}
-use Rattle.hs_expressions.specs.declared.declarators.Derivation.{Derivation}
-use Rattle.hs_expressions.specs.declared.declarators.Derivation.TheVariants as derivation
-use Rattle.hs_expressions.specs.declared.type_error.TypeError.{TypeError}
-use Rattle.hs_expressions.specs.declared.type_error.TypeError.TheVariants.{Untyped}
+use Rattle.hs_typer.specs.Declarators.{is_function_row, is_array_row, added, untyped_end, derived_of, derived_from, formed_onto, formed, parameter_row, parameter_of, parameter_type, with_first, listed_onto, listed}
+use Rattle.hs_typer.specs.Specifiers.{has_member, member_as, with_member_of, with_member}
+use Rattle.hs_typer.specs.Steps.{lifted}
+use Rattle.hs_typer.specs.declared.declarators.Derivation.{Derivation}
+use Rattle.hs_typer.specs.declared.declarators.Derivation.TheVariants as derivation
+use Rattle.hs_typer.specs.declared.type_error.TypeError.{TypeError}
+use Rattle.hs_typer.specs.declared.type_error.TypeError.TheVariants.{Untyped}
 use Rattle.hs_operands.specs.Objects.{loaded_as, loaded}
 use Rattle.hs_operands.specs.Operands as operand
 use Rattle.hs_operands.specs.Operands.{TypedOperand}

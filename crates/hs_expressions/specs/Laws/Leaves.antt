@@ -1,25 +1,27 @@
 -- The steps that change what is known: strings, addresses, calls, tags, bodies, constants and parameters.
 use Rattle.std.proofs.Common.{ℕ, Bool, true, false, List, [], ◌∷◌, ◌++◌, Option, Some, None, Result, Ok, Err, refl, if◌then◌else◌}
 use Rattle.std.specs.Prelude.{slice_get, length, is_some, ◌||◌}
-use Rattle.hs_expressions.specs.Declarators.{parameter_type, listed, word_of, place_of, is_typedef, declare}
-use Rattle.hs_expressions.specs.Declaring.{list_of, declare_parameter, parameter}
+use Rattle.hs_typer.specs.Declarators.{parameter_type, listed, word_of, place_of, is_typedef, declare}
+use Rattle.hs_typer.specs.Declaring.{list_of, declare_parameter, parameter}
 use Rattle.hs_expressions.specs.Laws.{IsConstant, IsTagAt}
 use Rattle.hs_expressions.specs.Laws.Always.{Reaching, Always, Anything, gives_always, refuses_always, of_types_always, on_types_always, then_always, and_always}
 use Rattle.hs_expressions.specs.Laws.Grown.{Growing, GrowsTo, grows_row, grows_struct, grows_enumeration, arrayed_grows, completed_grows, enumerated_grows, listed_grows, parameter_type_grows}
-use Rattle.hs_expressions.specs.Laws.Reached.{IsAllowedAt, prefix_self, prefix_if, more_self, more_one, reaches_self, reaches_types, reaches_named, reaches_noted}
+use Rattle.hs_expressions.specs.Laws.Reached.{IsAllowedAt, prefix_self, prefix_if, more_self, more_one, reaches_self, reaches_types, reaches_named, reaches_noted, reaches_origins}
 use Rattle.hs_expressions.specs.Operations.{taken_by, address_as, addressed, prefix_object, stepped, bound_call, call_with, call_operand}
-use Rattle.hs_expressions.specs.Primaries.{string_bytes, string_in, string_as, string_of}
+use Rattle.hs_typer.specs.Origins.{with_struct_origin, with_enumeration_origin, brace_of, kept_for, times_at, first_at, first_name, is_plain, joined, met, closed, tags_agree}
+use Rattle.hs_typer.specs.Primaries.{string_bytes, string_in, string_as, string_of}
 use Rattle.hs_expressions.specs.Roles.{fits_role}
-use Rattle.hs_expressions.specs.Specifiers.{struct_type, enumeration_type, new_struct, new_tagged_struct, tagged_struct_as, tagged_struct, begun_struct_as, begun_struct, new_enumeration, new_tagged_enumeration, begun_enumeration_as, begun_enumeration, with_body_in, completed_struct, completed_enumeration, enumerator}
-use Rattle.hs_expressions.specs.Steps.{lifted}
-use Rattle.hs_expressions.specs.declared.declarators.Derivation.{Derivation}
-use Rattle.hs_expressions.specs.declared.type_error.TypeError.{TypeError}
-use Rattle.hs_expressions.specs.declared.type_error.TypeError.TheVariants.{Untyped, Clash}
-use Rattle.hs_expressions.specs.declared.typer.Entity.{Entity}
-use Rattle.hs_expressions.specs.declared.typer.Entity.TheVariants as entity
-use Rattle.hs_expressions.specs.declared.typer.Tag.{Tag}
-use Rattle.hs_expressions.specs.declared.typer.Tag.TheVariants as tag
-use Rattle.hs_expressions.specs.declared.typer.Typer.{Typer}
+use Rattle.hs_typer.specs.Specifiers.{struct_type, enumeration_type, new_struct, new_tagged_struct, tagged_struct_as, tagged_struct, begun_struct_as, begun_struct, new_enumeration, new_tagged_enumeration, begun_enumeration_as, begun_enumeration, with_body_in, struct_with_body, completed_struct, enumeration_with_body, completed_enumeration, enumerator}
+use Rattle.hs_typer.specs.Steps.{lifted}
+use Rattle.hs_typer.specs.declared.declarators.Derivation.{Derivation}
+use Rattle.hs_typer.specs.declared.origins.Brace.{Brace}
+use Rattle.hs_typer.specs.declared.type_error.TypeError.{TypeError}
+use Rattle.hs_typer.specs.declared.type_error.TypeError.TheVariants.{Untyped, Clash}
+use Rattle.hs_typer.specs.declared.typer.Entity.{Entity}
+use Rattle.hs_typer.specs.declared.typer.Entity.TheVariants as entity
+use Rattle.hs_typer.specs.declared.typer.Tag.{Tag}
+use Rattle.hs_typer.specs.declared.typer.Tag.TheVariants as tag
+use Rattle.hs_typer.specs.declared.typer.Typer.{Typer}
 use Rattle.hs_names.specs.Scopes.{find, find_here, declared}
 use Rattle.hs_operands.specs.Assignments.{called}
 use Rattle.hs_operands.specs.Calls.{call_of, call_routine_of}
@@ -96,15 +98,21 @@ module _ (allowed : Entity → Type 0) where
 
   tagged_struct_reaches : (word : Word) (s : Typer) → Reaching allowed s (new_tagged_struct word s)
   tagged_struct_reaches word s =
-      reaches_named allowed s (with_struct s.types) s.names (declared word.text (tag.Struct (length s.types.structs)) s.tags) (grows_struct s.types)
+      reaches_origins allowed s
+      (record s { types = with_struct s.types; tags = declared word.text (tag.Struct (length s.types.structs)) s.tags })
+      (with_struct_origin (Some word.text) s.origins)
+      (reaches_named allowed s (with_struct s.types) s.names (declared word.text (tag.Struct (length s.types.structs)) s.tags) (grows_struct s.types)
       (more_self (IsAllowedAt allowed s.names.level) s.names)
-      (more_one (IsTagAt s.tags.level) word.text (tag.Struct (length s.types.structs)) s.tags refl)
+      (more_one (IsTagAt s.tags.level) word.text (tag.Struct (length s.types.structs)) s.tags refl))
 
   tagged_enumeration_reaches : (word : Word) (s : Typer) → Reaching allowed s (new_tagged_enumeration word s)
   tagged_enumeration_reaches word s =
-      reaches_named allowed s (with_enumeration s.types) s.names (declared word.text (tag.Enumeration (length s.types.enumerations)) s.tags)
+      reaches_origins allowed s
+      (record s { types = with_enumeration s.types; tags = declared word.text (tag.Enumeration (length s.types.enumerations)) s.tags })
+      (with_enumeration_origin s.origins)
+      (reaches_named allowed s (with_enumeration s.types) s.names (declared word.text (tag.Enumeration (length s.types.enumerations)) s.tags)
       (grows_enumeration s.types) (more_self (IsAllowedAt allowed s.names.level) s.names)
-      (more_one (IsTagAt s.tags.level) word.text (tag.Enumeration (length s.types.enumerations)) s.tags refl)
+      (more_one (IsTagAt s.tags.level) word.text (tag.Enumeration (length s.types.enumerations)) s.tags refl))
 
   -- a struct that a tag names
   tagged_reaches : (word : Word) (o : Option Tag) (s : Typer) → Reaching allowed s (tagged_struct_as word o s)
@@ -129,6 +137,20 @@ module _ (allowed : Entity → Type 0) where
       → Reaching allowed s (with_body_in s first word given)
   body_reaches s first word (Ok types) grows = reaches_types allowed s types grows
   body_reaches s first word (Err why) grows = tt
+
+  -- which may be one with another
+  joined_reaches : (at : Place) (it : Tag) (brace : Brace) (o : Option Tag) (s : Typer) → Reaching allowed s (joined at it brace o s)
+  joined_reaches at it brace None s = reaches_origins allowed s s (first_at brace it (met at it brace s.origins)) (reaches_self allowed s)
+  joined_reaches at it brace (Some first) s =
+      if_reaches {A = Unit {0}} (tags_agree s.types (met at it brace s.origins) first it) s (Ok (tt, record s { origins = met at it brace s.origins }))
+      (Err (Clash at (first_name s.types it))) (reaches_origins allowed s s (met at it brace s.origins) (reaches_self allowed s)) tt
+
+  closed_reaches : (at : Place) (it : Tag) (s : Typer) → Reaching allowed s (closed at it s)
+  closed_reaches at it s =
+      if_reaches {A = Unit {0}} (is_plain at.origin) s
+      (joined at it (brace_of at (times_at at s.origins)) (kept_for (brace_of at (times_at at s.origins)) s.origins.firsts) s) (Ok (tt, s))
+      (joined_reaches at it (brace_of at (times_at at s.origins)) (kept_for (brace_of at (times_at at s.origins)) s.origins.firsts) s)
+      (reaches_self allowed s)
 
   -- a name of an allowed sort
   declared_reaches : (nothing : Unit {0}) (word : Word) (it : Entity) → allowed it → (b : Bool) (s : Typer)
@@ -183,10 +205,18 @@ module _ {allowed : Entity → Type 0} where
 
   -- a new one, with a tag or without
   new_struct_always : Always allowed new_struct
-  new_struct_always = record { from = λ s scoped. reaches_types allowed s (with_struct s.types) (grows_struct s.types) }
+  new_struct_always =
+      record {
+        from = λ s scoped. reaches_origins allowed s (record s { types = with_struct s.types }) (with_struct_origin None s.origins)
+            (reaches_types allowed s (with_struct s.types) (grows_struct s.types));
+      }
 
   new_enumeration_always : Always allowed new_enumeration
-  new_enumeration_always = record { from = λ s scoped. reaches_types allowed s (with_enumeration s.types) (grows_enumeration s.types) }
+  new_enumeration_always =
+      record {
+        from = λ s scoped. reaches_origins allowed s (record s { types = with_enumeration s.types }) (with_enumeration_origin s.origins)
+            (reaches_types allowed s (with_enumeration s.types) (grows_enumeration s.types));
+      }
 
   pub tagged_struct_always : (word : Word) → Always allowed (tagged_struct word)
   tagged_struct_always word = record { from = λ s scoped. tagged_reaches allowed word (find word.text s.tags) s }
@@ -199,15 +229,28 @@ module _ {allowed : Entity → Type 0} where
   begun_enumeration_always None = new_enumeration_always
   begun_enumeration_always (Some word) = record { from = λ s scoped. begun_enumeration_reaches allowed word (find_here word.text s.tags) s }
 
-  pub completed_struct_always : (first : Place) (word : Option Word) (number : ℕ) (members : List Member)
-      → Always allowed (completed_struct first word number members)
-  completed_struct_always first word number members =
+  closed_always : (at : Place) (it : Tag) → Always allowed (closed at it)
+  closed_always at it = record { from = λ s scoped. closed_reaches allowed at it s }
+
+  struct_always : (first : Place) (word : Option Word) (number : ℕ) (members : List Member)
+      → Always allowed (struct_with_body first word number members)
+  struct_always first word number members =
       record { from = λ s scoped. body_reaches allowed s first word (completed number members s.types) (completed_grows number members s.types) }
 
-  pub completed_enumeration_always : (first : Place) (word : Option Word) (number : ℕ) (its : List Enumerator)
-      → Always allowed (completed_enumeration first word number its)
-  completed_enumeration_always first word number its =
+  pub completed_struct_always : (first : Place) (word : Option Word) (brace : Place) (number : ℕ) (members : List Member)
+      → Always allowed (completed_struct first word brace number members)
+  completed_struct_always first word brace number members =
+      and_always (struct_always first word number members) (closed_always brace (tag.Struct number))
+
+  enumeration_always : (first : Place) (word : Option Word) (number : ℕ) (its : List Enumerator)
+      → Always allowed (enumeration_with_body first word number its)
+  enumeration_always first word number its =
       record { from = λ s scoped. body_reaches allowed s first word (enumerated number its s.types) (enumerated_grows number its s.types) }
+
+  pub completed_enumeration_always : (first : Place) (word : Option Word) (brace : Place) (number : ℕ) (its : List Enumerator)
+      → Always allowed (completed_enumeration first word brace number its)
+  completed_enumeration_always first word brace number its =
+      and_always (enumeration_always first word number its) (closed_always brace (tag.Enumeration number))
 
   -- a list of parameter types
   pub list_of_always : (ids : List TypeId) → Always allowed (list_of ids)

@@ -1,8 +1,8 @@
 -- What typing makes of well-typed operands is well typed, for each operator of the syntax.
 use Rattle.std.proofs.Common.{◌≡◌, ℕ, List, Option, Some, None, Result, Ok, Err, refl, subst}
 use Rattle.hs_expressions.specs.Operations.{as_value, as_object, binary_of, member_operand, stepped, prefix_value, operation_of_postfix, postfix_of, operation_of_assignment, assigned_by, assignment_of}
-use Rattle.hs_expressions.specs.Steps.{lifted_end}
-use Rattle.hs_expressions.specs.declared.type_error.TypeError.{TypeError}
+use Rattle.hs_typer.specs.Steps.{lifted_end}
+use Rattle.hs_typer.specs.declared.type_error.TypeError.{TypeError}
 use Rattle.hs_operands.specs.Answers.{◌>>=◌}
 use Rattle.hs_operands.specs.Assignments.{update_of, post_update_of, one}
 use Rattle.hs_operands.specs.Laws.{IsTyped, IsTypedObject, IsTypedOperand, MakesTyped, MakesObject, OperatorsAreTyped}

@@ -7,13 +7,13 @@ use Rattle.hs_constants.specs.declared.number.Number.{Number}
 use Rattle.hs_expressions.specs.Laws.{IsPrefix, IsKnown, Knows}
 use Rattle.hs_expressions.specs.Laws.Keeping.{Giving, Keeps}
 use Rattle.hs_expressions.specs.Laws.Leaves.{string_always}
-use Rattle.hs_expressions.specs.Primaries.{number, named_as, named, is_wide, number_type, number_as, number_of, character_as, character_of, string_bytes, string_in, string_as, string_of}
+use Rattle.hs_typer.specs.Primaries.{number, named_as, named, is_wide, number_type, number_as, number_of, character_as, character_of, string_bytes, string_in, string_as, string_of}
 use Rattle.hs_constants.specs.Characters.{character_value}
 use Rattle.hs_constants.specs.Numbers.{number_value}
-use Rattle.hs_expressions.specs.declared.type_error.TypeError.{TypeError}
-use Rattle.hs_expressions.specs.declared.typer.Entity.{Entity}
-use Rattle.hs_expressions.specs.declared.typer.Entity.TheVariants as entity
-use Rattle.hs_expressions.specs.declared.typer.Typer.{Typer}
+use Rattle.hs_typer.specs.declared.type_error.TypeError.{TypeError}
+use Rattle.hs_typer.specs.declared.typer.Entity.{Entity}
+use Rattle.hs_typer.specs.declared.typer.Entity.TheVariants as entity
+use Rattle.hs_typer.specs.declared.typer.Typer.{Typer}
 use Rattle.hs_names.specs.Scopes.{Declared, newest, entity_of, find}
 use Rattle.hs_operands.specs.Conversions.{head_at}
 use Rattle.hs_operands.specs.Laws.{IsTypedOperand}

@@ -10,11 +10,12 @@ use Rattle.std.proofs.lemmas.Bool.Decides.{nat_tests}
 use Rattle.std.proofs.lemmas.List.{append_assoc, append-nil}
 use native.Mathlib.Numerals.{unary_clauses}
 use Rattle.hs_expressions.specs.Laws.{HasMore, IsTagAt, IsPrefix, AreOutside, IsScoped}
-use Rattle.hs_expressions.specs.declared.typer.Entity.{Entity}
-use Rattle.hs_expressions.specs.declared.typer.RoutineCall.{RoutineCall}
-use Rattle.hs_expressions.specs.declared.typer.Tag.{Tag}
-use Rattle.hs_expressions.specs.declared.typer.Taken.{Taken}
-use Rattle.hs_expressions.specs.declared.typer.Typer.{Typer}
+use Rattle.hs_typer.specs.declared.origins.Origins.{Origins}
+use Rattle.hs_typer.specs.declared.typer.Entity.{Entity}
+use Rattle.hs_typer.specs.declared.typer.RoutineCall.{RoutineCall}
+use Rattle.hs_typer.specs.declared.typer.Tag.{Tag}
+use Rattle.hs_typer.specs.declared.typer.Taken.{Taken}
+use Rattle.hs_typer.specs.declared.typer.Typer.{Typer}
 use Rattle.hs_names.specs.Scopes.{Scoped, Declared, declared, entered, left, outside}
 use Rattle.hs_types.specs.Growing.{grows_self, grows_then}
 use Rattle.hs_types.specs.TypeTables.{TypeTable, Grows}
@@ -135,6 +136,7 @@ pub record Reaches (allowed : Entity → Type 0) (old new : Typer) : Type 0 wher
   pub calls : IsPrefix old.calls new.calls
   pub table : new.table ≡ old.table
   pub counts : new.counts ≡ old.counts
+  pub keeps : new.keeps ≡ old.keeps
 
 module _ (allowed : Entity → Type 0) where
   -- by no step
@@ -149,6 +151,7 @@ module _ (allowed : Entity → Type 0) where
         calls = prefix_self s.calls;
         table = refl;
         counts = refl;
+        keeps = refl;
       }
 
   -- by one step after another
@@ -163,6 +166,7 @@ module _ (allowed : Entity → Type 0) where
         calls = prefix_then first.calls second.calls third.calls before.calls after.calls;
         table = after.table ∙ before.table;
         counts = after.counts ∙ before.counts;
+        keeps = after.keeps ∙ before.keeps;
       }
 
   -- with more types, names and tags
@@ -179,6 +183,7 @@ module _ (allowed : Entity → Type 0) where
         calls = prefix_self s.calls;
         table = refl;
         counts = refl;
+        keeps = refl;
       }
 
   -- with more types alone
@@ -200,6 +205,22 @@ module _ (allowed : Entity → Type 0) where
         calls = more'';
         table = refl;
         counts = refl;
+        keeps = refl;
+      }
+
+  -- Where structs and enumerations come from is no part of it.
+  pub reaches_origins : (old new : Typer) (origins : Origins) → Reaches allowed old new → Reaches allowed old (record new { origins = origins })
+  reaches_origins old new origins reached =
+      record {
+        types = reached.types;
+        names = reached.names;
+        tags = reached.tags;
+        literals = reached.literals;
+        taken = reached.taken;
+        calls = reached.calls;
+        table = reached.table;
+        counts = reached.counts;
+        keeps = reached.keeps;
       }
 
   -- The scopes are those that there were.
@@ -208,6 +229,7 @@ module _ (allowed : Entity → Type 0) where
       record {
         names = more_outside (IsAllowedAt allowed old.names.level) old.names new.names (λ it holds. holds.0) reached.names scoped.names;
         tags = more_outside (IsTagAt old.tags.level) old.tags new.tags (λ it holds. holds) reached.tags scoped.tags;
+        closed = reached.keeps ∙ scoped.closed;
       }
 
 -- names of an allowed sort are of any sort that has those
@@ -228,4 +250,5 @@ reaches_wider allowed wider so old new reached =
       calls = reached.calls;
       table = reached.table;
       counts = reached.counts;
+      keeps = reached.keeps;
     }

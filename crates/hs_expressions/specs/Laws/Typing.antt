@@ -12,7 +12,7 @@ use Rattle.hs_expressions.specs.Laws.Keeping.{Giving, Keeps, gives_keeps, looks_
 use Rattle.hs_expressions.specs.Laws.Operating.{value_given, object_given, operators, binary_typed, member_typed, postfix_typed, assignment_typed, prefix_typed, size_typed}
 use Rattle.hs_expressions.specs.Laws.Primary.{named_typed, number_of_typed, character_of_typed, string_keeps}
 use Rattle.hs_expressions.specs.Operations.{as_value, as_object, binary_of, is_arrow, member_operand, takes_object, prefix_value, postfix_of, assignment_of}
-use Rattle.hs_expressions.specs.Primaries.{named, number_of, character_of}
+use Rattle.hs_typer.specs.Primaries.{named, number_of, character_of}
 use Rattle.hs_operands.specs.Assignments.{cast_of, conditional_of, comma_of}
 use Rattle.hs_operands.specs.Laws.{IsTyped, IsTypedOperand}
 use Rattle.hs_operands.specs.Laws.Typed.{all_with_one}

@@ -1,8 +1,8 @@
-use Rattle.std.proofs.Common.{rules, ◌≡◌, List, [], ◌∷◌, ◌++◌, map, Ok, refl, ap, sym, ◌∙◌}
-use Rattle.hs_expressions.specs.Declaring.{list_of}
+use Rattle.std.proofs.Common.{rules, ◌≡◌, false, List, [], ◌∷◌, ◌++◌, map, Ok, refl, ap, sym, ◌∙◌, if◌then◌else◌}
+use Rattle.hs_typer.specs.Declaring.{list_of}
 use Rattle.hs_expressions.specs.Expressions.{first_place, derivations_of, parameter_types, enter, leave}
-use Rattle.hs_expressions.specs.declared.declarators.Derivation.{Derivation}
-use Rattle.hs_expressions.specs.declared.declarators.Derivation.TheVariants as derivation
+use Rattle.hs_typer.specs.declared.declarators.Derivation.{Derivation}
+use Rattle.hs_typer.specs.declared.declarators.Derivation.TheVariants as derivation
 use Rattle.hs_syntax.specs.RowLaws.{expressions_seen, specifiers_seen, members_seen, constants_seen, parameters_seen}
 use Rattle.hs_syntax.specs.RowViews.{view_parameter, parameters_from}
 use Rattle.hs_syntax.specs.Views.{view_direct, specification_of}
@@ -84,8 +84,10 @@ derivations_of-returns-in_ok-pushed_copy-in-Function t c =
     let list = c.in_ok-list-in-Function.list in
     let derived : derivations_of c.args.at (view_direct c.deref-in-Function.result.now) c.args.typer.now ≡ Ok (its, c.derivations_of-in-Function.new.typer) =
     search rules in
-    let typed : parameters (enter c.derivations_of-in-Function.new.typer) ≡ Ok (ids, c.parameter_types.new.typer) = search rules in
-    let listed : list_of ids (leave c.parameter_types.new.typer) ≡ Ok (list, c.list_of.new.typer) = search rules in
+    let first = c.derivations_of-in-Function.new.typer in
+    let second = c.parameter_types.new.typer in
+    let typed : parameters (enter (record first { keeps = false })) ≡ Ok (ids, second) = search rules in
+    let listed : list_of ids (if first.keeps then second else leave second) ≡ Ok (list, c.list_of.new.typer) = search rules in
     let pushed : its ++ derivation.Function list ∷ [] ≡ c.in_ok-pushed_copy-in-Function.field-0.items = search rules in
     rw (c.in-Function.is, parameters_seen c.in-Function.parameters, ← c.deref-in-Function-2.ensures.value, ← c.deref-in-Function.ensures)
     (function_derived (derivations_of c.args.at (view_direct c.deref-in-Function.result.now) c.args.typer.now) parameters its ids list

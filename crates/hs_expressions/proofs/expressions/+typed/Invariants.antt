@@ -1,6 +1,6 @@
 use Rattle.std.proofs.Common.{◌≡◌, map, drop, [], Some}
 use Rattle.hs_expressions.specs.Expressions.{typed_all, typed_lefts, specified, members_of, members_as, constants_of, parameter_types}
-use Rattle.hs_expressions.specs.Specifiers.{no_specifiers}
+use Rattle.hs_typer.specs.Specifiers.{no_specifiers}
 use Rattle.hs_syntax.specs.RowViews.{view_left, view_member, view_constant, view_parameter, expressions_from, lefts_from, members_from, constants_from, declarators_from, parameters_from}
 use Rattle.hs_syntax.specs.Views.{view, view_declarator, specification_of}
 use Rattle.hs_tree.specs.Views.{view_right}

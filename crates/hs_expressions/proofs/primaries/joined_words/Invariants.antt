@@ -1,5 +1,5 @@
 use Rattle.std.proofs.Common.{◌≡◌, drop, Some}
-use Rattle.hs_expressions.specs.Primaries.{joined_words}
+use Rattle.hs_typer.specs.Primaries.{joined_words}
 use Rattle.hs_expressions.proofs.primaries.joined_words.Given as goal
 
 -- the literals that are left come after the bytes so far

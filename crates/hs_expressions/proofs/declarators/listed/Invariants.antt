@@ -1,7 +1,0 @@
-use Rattle.std.proofs.Common.{◌≡◌}
-use Rattle.hs_expressions.specs.Declarators.{listed_onto, listed}
-use Rattle.hs_expressions.proofs.declarators.listed.Given as goal
-
--- the ids that are left come onto the list so far
-abbrev pub invariant-ids : goal.invariant-ids
-invariant-ids l = listed_onto l.id-iterator.iter.rest.now (l.list, l.types) ≡ listed l.ids l.fn.types

@@ -1,0 +1,5 @@
+mod Compared
+mod Kept
+mod Lists
+mod Named
+mod Rows
