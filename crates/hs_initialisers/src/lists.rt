@@ -1,0 +1,177 @@
+//! Lists of initialisers in braces (X3.159-1989 3.5.7).
+
+ghost use Rattle.std.specs.Prelude.{◌≡◌, ◌∷◌, [], map, option_map, IfOk};
+ghost use Rattle.hs_typer.specs.Steps.{Steps};
+ghost use Rattle.hs_initialisers.specs.Aggregates.{fresh};
+ghost use Rattle.hs_initialisers.specs.Initialisers.{placed_value, text_filled, placed, all_placed, braced};
+ghost use Rattle.hs_syntax.specs.StatementViews.{initialisers_from};
+ghost use Rattle.hs_syntax.specs.Views.{view, view_initialiser};
+
+use crate::aggregates::{Aggregate, Subobject, fresh};
+use crate::begun::Begun;
+use crate::kinds::text_kind;
+use crate::parts::{excess, joined, simple};
+use crate::texts::{is_string, lone_string, text_of};
+use crate::walking::{Destination, reached, whole_at};
+use hs_base::NoMemory;
+use hs_syntax::{Expr, Initialiser};
+use hs_tree::Part;
+use hs_typer::{TypeError, Typer};
+use hs_types::TypeId;
+use std::alloc::Global;
+
+/// The parts so far, and the aggregates that have begun.
+#[derive(Drop)]
+pub(crate) struct Filled {
+    pub(crate) parts: Vec<Part>,
+    pub(crate) begun: Begun,
+}
+
+/// A count of elements as a number. There are no more than 4294967295.
+pub(crate) fn number_of(count: usize) -> Result<u32, NoMemory>
+    ensures { IfOk result (λ number. number ≡ count) }
+{
+    match u32::try_from(count) {
+        Ok(number) => Ok(number),
+        Err(_) => Err(NoMemory),
+    }
+}
+
+/// One aggregate that has begun.
+fn one_begun(alloc: Global, it: Aggregate) -> Result<Begun, NoMemory>
+    ensures { IfOk result (λ begun. begun ≡ it ∷ []) }
+{
+    Begun::new(alloc).with(it)
+}
+
+/// The parts, with those of an expression in the list.
+fn placed_value(
+    alloc: Global,
+    typer: &mut Typer,
+    done: Vec<Part>,
+    e: &Expr,
+    to: Option<Destination>,
+) -> Result<Filled, TypeError>
+    ensures { Steps (λ all. (all.parts.items, all.begun)) typer.new
+        (placed_value done.items (view e.now) (option_map (λ to. (to.it, to.begun)) to) typer.old) result }
+{
+    match to {
+        Some(Destination { it, begun }) => {
+            let its = simple(alloc, typer, it, e)?;
+            let parts = joined(done, its)?;
+            Ok(Filled { parts, begun })
+        }
+        None => Err(excess(alloc, typer, e)),
+    }
+}
+
+/// The parts, and the characters of an array, all of which have begun.
+fn text_filled(
+    alloc: Global,
+    id: TypeId,
+    done: Vec<Part>,
+    its: Vec<Part>,
+) -> Result<Filled, NoMemory>
+    ensures { IfOk result (λ all. (all.parts.items, all.begun) ≡ text_filled id done.items its.items) }
+{
+    let count = number_of(its.len())?;
+    let it = Aggregate {
+        type_id: id,
+        offset: 0,
+        field: None,
+        begun: count,
+    };
+    let begun = one_begun(alloc, it)?;
+    let parts = joined(done, its)?;
+    Ok(Filled { parts, begun })
+}
+
+/// The parts, with those of one initialiser of a list.
+#[cycle(placed)]
+#[tactic(auto, using(hs_syntax::specs::StatementLaws::initialisers_seen))]
+fn placed(
+    alloc: Global,
+    typer: &mut Typer,
+    done: Filled,
+    next: &Initialiser,
+) -> Result<Filled, TypeError>
+    ensures { Steps (λ all. (all.parts.items, all.begun)) typer.new
+        (placed (done.parts.items, done.begun) (view_initialiser next.now) typer.old) result }
+{
+    let Filled { parts, begun } = done;
+    match next {
+        Initialiser::Value(e) => {
+            let to = reached(&typer.types, is_string(e), begun)?;
+            placed_value(alloc, typer, parts, e, to)
+        }
+        Initialiser::List { at, values, .. } => {
+            let to = whole_at(&typer.types, *at, begun)?;
+            let Destination { it, begun: outer } = to;
+            let inner = braced(alloc, typer, it, parts, values)?;
+            let Filled { parts: all, .. } = inner;
+            Ok(Filled {
+                parts: all,
+                begun: outer,
+            })
+        }
+    }
+}
+
+/// The parts, with those of the initialisers of a list, in their order.
+#[cycle(placed)]
+fn all_placed(
+    alloc: Global,
+    typer: &mut Typer,
+    done: Filled,
+    its: &[Initialiser],
+) -> Result<Filled, TypeError>
+    ensures { Steps (λ all. (all.parts.items, all.begun)) typer.new
+        (all_placed (done.parts.items, done.begun) (initialisers_from (map view_initialiser its.now)) typer.old) result }
+{
+    let mut all = done;
+    'its: for it in its {
+        all = placed(alloc, typer, all, it)?;
+    }
+    Ok(all)
+}
+
+/// The parts, with those of a list in braces that is for that object.
+#[cycle(placed)]
+pub(crate) fn braced(
+    alloc: Global,
+    typer: &mut Typer,
+    it: Subobject,
+    done: Vec<Part>,
+    its: &[Initialiser],
+) -> Result<Filled, TypeError>
+    ensures { Steps (λ all. (all.parts.items, all.begun)) typer.new
+        (braced it done.items (initialisers_from (map view_initialiser its.now)) typer.old) result }
+{
+    match lone_string(its) {
+        Some(e) => {
+            if text_kind(&typer.types, it.type_id).is_some() {
+                let characters = text_of(alloc, &typer.types, it, e)?;
+                Ok(text_filled(alloc, it.type_id, done, characters)?)
+            } else {
+                listed(alloc, typer, it, done, its)
+            }
+        }
+        None => listed(alloc, typer, it, done, its),
+    }
+}
+
+/// The parts, with those of a list in braces that goes through that object.
+#[cycle(placed)]
+fn listed(
+    alloc: Global,
+    typer: &mut Typer,
+    it: Subobject,
+    done: Vec<Part>,
+    its: &[Initialiser],
+) -> Result<Filled, TypeError>
+    ensures { Steps (λ all. (all.parts.items, all.begun)) typer.new
+        (all_placed (done.items, fresh it ∷ []) (initialisers_from (map view_initialiser its.now)) typer.old) result }
+{
+    let begun = one_begun(alloc, fresh(it))?;
+    all_placed(alloc, typer, Filled { parts: done, begun }, its)
+}
