@@ -61,5 +61,6 @@ list_refused view new s at its comma done to given result why is_at is same step
     let next : Filled → Step Filled = λ inner. give (inner.0, to.1) in
     subst (Steps view new (placed done (syntax.list at its comma) s)) (sym same)
     (subst
-    (λ (found : Result Reached TypeError). Refuses (then_with {B = Filled} (λ outer. braced outer.0 done.0 its >>= (λ inner. give (inner.0, outer.1))) (kept s found)) why)
+    (λ (found : Result Reached TypeError).
+    Refuses (then_with {B = Filled} (λ outer. braced outer.0 done.0 its >>= (λ inner. give (inner.0, outer.1))) (kept s found)) why)
     (sym is_at) (refused_then next (braced to.0 done.0 its s) why (subst (Steps view new (braced to.0 done.0 its s)) is steps)))

@@ -1,7 +1,6 @@
--- What objects start with (X3.159-1989 3.5.7). A list in braces holds constants, also for automatic objects (3.5.7).
+-- What objects start with (X3.159-1989 3.5.7). A list in braces holds constants, also for automatic objects (own for one scalar).
 --     initialised at id it       an object of static storage duration, or one that a list or a string initialises: its type and its parts
 --     starting at id it          an automatic object: its type, and a value or parts
---     inline_words it            the words of an inline trap after a prototype, which are dropped (own)
 use Rattle.std.specs.Prelude.{ℕ, suc, ◌==◌, nat_le, Bool, true, false, ◌&&◌, List, [], ◌∷◌, ◌++◌, length, take, Option, Some, None, is_some, Result, Ok, Err, if◌then◌else◌}
 use Rattle.hs_expressions.specs.Expressions.{typed}
 use Rattle.hs_expressions.specs.Operations.{value_of}
@@ -21,9 +20,9 @@ use Rattle.hs_tree.specs.Trees.{RightValue, Starting}
 use Rattle.hs_tree.specs.declared.constant.Constant.{Constant}
 use Rattle.hs_tree.specs.declared.constant.Constant.TheVariants as constant
 use Rattle.hs_tree.specs.declared.constant.Part.{Part}
-use Rattle.hs_typer.specs.Declarators.{constant_of, untyped_end}
+use Rattle.hs_typer.specs.Declarators.{untyped_end}
 use Rattle.hs_typer.specs.Primaries.{string_bytes}
-use Rattle.hs_typer.specs.Steps.{Step, ◌>>=◌, ◌>>◌, give, refuse, look, of_types, on_types, lifted}
+use Rattle.hs_typer.specs.Steps.{Step, ◌>>=◌, give, refuse, look, of_types, on_types, lifted}
 use Rattle.hs_typer.specs.declared.type_error.TypeError.{TypeError}
 use Rattle.hs_typer.specs.declared.type_error.TypeError.TheVariants.{Untyped}
 use Rattle.hs_types.specs.Integers.{converted}
@@ -243,25 +242,3 @@ starting at id (syntax.value e) s =
     then constant_start at id (syntax.value e) s
     else assigned_start id e s
 starting at id (syntax.list brace its comma) s = constant_start at id (syntax.list brace its comma) s
-
--- one word of an inline trap: an integral constant
-abbrev pub inline_word : Expression → Step (Unit {0})
-inline_word e = do
-  its ← value_of (typed e)
-  word ← of_types (λ types. constant_of types its)
-  give tt
-
--- one in a list, in which there is no list
-abbrev pub inline_in_list : Initialising → Step (Unit {0})
-inline_in_list (syntax.value e) = inline_word e
-inline_in_list (syntax.list at its comma) = refuse (Untyped at)
-
--- all of a list
-abbrev pub inline_list : Initialisers → Step (Unit {0})
-inline_list syntax.no_initialisers = give tt
-inline_list (syntax.more_initialisers first rest) = inline_in_list first >> inline_list rest
-
--- the words after a prototype
-abbrev pub inline_words : Initialising → Step (Unit {0})
-inline_words (syntax.value e) = inline_word e
-inline_words (syntax.list at its comma) = inline_list its

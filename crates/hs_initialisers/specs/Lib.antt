@@ -1,3 +1,4 @@
 pub mod Addresses
 pub mod Aggregates
 pub mod Initialisers
+pub mod InlineWords

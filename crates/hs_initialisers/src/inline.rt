@@ -2,7 +2,7 @@
 
 ghost use Rattle.std.specs.Prelude.{◌≡◌, map};
 ghost use Rattle.hs_typer.specs.Steps.{Steps};
-ghost use Rattle.hs_initialisers.specs.Initialisers.{inline_word, inline_in_list, inline_list, inline_words};
+ghost use Rattle.hs_initialisers.specs.InlineWords.{inline_word, inline_in_list, inline_list, inline_words};
 ghost use Rattle.hs_syntax.specs.StatementViews.{initialisers_from};
 ghost use Rattle.hs_syntax.specs.Views.{view, view_initialiser};
 

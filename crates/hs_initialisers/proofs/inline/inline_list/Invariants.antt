@@ -1,5 +1,5 @@
 use Rattle.std.proofs.Common.{◌≡◌, map, drop}
-use Rattle.hs_initialisers.specs.Initialisers.{inline_list}
+use Rattle.hs_initialisers.specs.InlineWords.{inline_list}
 use Rattle.hs_syntax.specs.StatementViews.{initialisers_from}
 use Rattle.hs_syntax.specs.Views.{view_initialiser}
 use Rattle.hs_initialisers.proofs.inline.inline_list.Given as goal
