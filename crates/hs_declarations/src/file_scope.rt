@@ -1,0 +1,243 @@
+//! Declarations of file scope (X3.159-1989 3.5 and 3.7.2).
+
+ghost use Rattle.std.specs.Prelude.{◌≡◌, map, option_map, option_copied};
+ghost use Rattle.hs_declarations.specs.Declarations.{may_be_tentative, file_object, with_inline_words, function_declared, file_entity, is_static, is_typedef_word, file_item_as, file_item, file_items, declared_alone, nothing_named, file_items_as, file_declared_at, file_declared};
+ghost use Rattle.hs_declarations.specs.Fronts.{lone_tag};
+ghost use Rattle.hs_linkage.specs.Works.{Works};
+ghost use Rattle.hs_syntax.specs.Views.{view_declaration, view_item, view_initialiser, specification_of};
+
+use crate::fronts::{Front, declares_any, first_place, front_of, item_type, lone_tag, tag_alone};
+use crate::starts::{must_be_object, object_with_start};
+use crate::typedefs::typedef_items;
+use hs_initialisers::inline_words;
+use hs_linkage::{Translator, is_complete, is_function, linked};
+use hs_syntax::{Decl, Initialiser, Item, Specifier, Storage, Word};
+use hs_tokens::Place;
+use hs_typer::{TypeError, word_of};
+use hs_types::TypeId;
+use std::alloc::Global;
+
+/// Refuses a tentative definition with internal linkage of an incomplete type (3.7.2).
+fn may_be_tentative(
+    m: &Translator,
+    internal: bool,
+    word: &Word,
+    id: TypeId,
+    it: Option<&Initialiser>,
+) -> Result<(), TypeError>
+    ensures { Works (λ it. it) m.now (may_be_tentative internal word.now id (option_map view_initialiser (option_copied it.entry)) m.now) result }
+{
+    if internal && it.is_none() && !is_complete(&m.typer.types, id) {
+        return Err(TypeError::Untyped(word.place));
+    }
+    Ok(())
+}
+
+/// An object of file scope.
+fn file_object(
+    alloc: Global,
+    m: &mut Translator,
+    internal: bool,
+    word: &Word,
+    id: TypeId,
+    it: Option<&Initialiser>,
+) -> Result<(), TypeError>
+    ensures { Works (λ it. it) m.new (file_object internal word.now id (option_map view_initialiser (option_copied it.entry)) m.old) result }
+{
+    must_be_object(m, word, id)?;
+    may_be_tentative(m, internal, word, id, it)?;
+    let its = linked(alloc, m, internal, word, id)?;
+    object_with_start(alloc, m, internal, word, id, it, its)
+}
+
+/// A function that is declared, at any level, with the words of an inline trap, if there are some.
+pub(crate) fn function_declared(
+    alloc: Global,
+    m: &mut Translator,
+    internal: bool,
+    word: &Word,
+    id: TypeId,
+    it: Option<&Initialiser>,
+) -> Result<(), TypeError>
+    ensures { Works (λ it. it) m.new (function_declared internal word.now id (option_map view_initialiser (option_copied it.entry)) m.old) result }
+{
+    linked(alloc, m, internal, word, id)?;
+    match it {
+        Some(words) => inline_words(alloc, &mut m.typer, words),
+        None => Ok(()),
+    }
+}
+
+/// An object or a function of file scope, by its type.
+fn file_entity(
+    alloc: Global,
+    m: &mut Translator,
+    internal: bool,
+    word: &Word,
+    id: TypeId,
+    it: Option<&Initialiser>,
+) -> Result<(), TypeError>
+    ensures { Works (λ it. it) m.new (file_entity internal word.now id (option_map view_initialiser (option_copied it.entry)) m.old) result }
+{
+    if is_function(&m.typer.types, id) {
+        function_declared(alloc, m, internal, word, id, it)
+    } else {
+        file_object(alloc, m, internal, word, id, it)
+    }
+}
+
+/// Whether the storage word is `static`.
+pub(crate) fn is_static(storage: Option<Storage>) -> bool
+    ensures { result ≡ is_static storage }
+{
+    match storage {
+        Some(Storage::Static) => true,
+        Some(Storage::Typedef | Storage::Extern) | None => false,
+    }
+}
+
+/// Whether the storage word is `typedef`.
+pub(crate) fn is_typedef_word(storage: Option<Storage>) -> bool
+    ensures { result ≡ is_typedef_word storage }
+{
+    match storage {
+        Some(Storage::Typedef) => true,
+        Some(Storage::Extern | Storage::Static) | None => false,
+    }
+}
+
+/// What a declarator of file scope names. Refused at the first specifier if it names nothing.
+fn file_item_as(
+    alloc: Global,
+    m: &mut Translator,
+    internal: bool,
+    at: Place,
+    word: Option<&Word>,
+    id: TypeId,
+    it: Option<&Initialiser>,
+) -> Result<(), TypeError>
+    ensures { Works (λ it. it) m.new
+        (file_item_as internal at (option_copied word.entry) id (option_map view_initialiser (option_copied it.entry)) m.old) result }
+{
+    match word {
+        Some(name) => file_entity(alloc, m, internal, name, id, it),
+        None => Err(TypeError::Untyped(at)),
+    }
+}
+
+/// One declarator of file scope.
+fn file_item(
+    alloc: Global,
+    m: &mut Translator,
+    internal: bool,
+    at: Place,
+    base: TypeId,
+    it: &Item,
+) -> Result<(), TypeError>
+    ensures { Works (λ it. it) m.new (file_item internal at base (view_item it.now) m.old) result }
+{
+    let id = item_type(alloc, &mut m.typer, at, base, &it.declarator)?;
+    let word = word_of(&it.declarator);
+    file_item_as(alloc, m, internal, at, word, id, it.initialiser.as_ref())
+}
+
+/// The declarators of a declaration of file scope, in their order.
+fn file_items(
+    alloc: Global,
+    m: &mut Translator,
+    internal: bool,
+    at: Place,
+    base: TypeId,
+    its: &[Item],
+) -> Result<(), TypeError>
+    ensures { Works (λ it. it) m.new (file_items internal at base (map view_item its.now) m.old) result }
+{
+    'its: for it in its {
+        file_item(alloc, m, internal, at, base, it)?;
+    }
+    Ok(())
+}
+
+/// Specifiers without a declarator, which must declare a tag or constants (3.5).
+fn declared_alone(
+    alloc: Global,
+    m: &mut Translator,
+    at: Place,
+    its: &[Specifier],
+) -> Result<(), TypeError>
+    ensures { Works (λ it. it) m.new (declared_alone at (specification_of its.now) m.old) result }
+{
+    front_of(alloc, &mut m.typer, at, its)?;
+    if !declares_any(its) {
+        return Err(TypeError::Untyped(at));
+    }
+    Ok(())
+}
+
+/// A declaration without declarators: `struct tag;`, or others.
+pub(crate) fn nothing_named(
+    alloc: Global,
+    m: &mut Translator,
+    at: Place,
+    its: &[Specifier],
+) -> Result<(), TypeError>
+    ensures { Works (λ it. it) m.new (nothing_named at (specification_of its.now) (lone_tag (specification_of its.now)) m.old) result }
+{
+    match lone_tag(its) {
+        Some(word) => tag_alone(alloc, &mut m.typer, word),
+        None => declared_alone(alloc, m, at, its),
+    }
+}
+
+/// The declarators of a declaration of file scope, by its storage word.
+fn file_items_as(
+    alloc: Global,
+    m: &mut Translator,
+    at: Place,
+    its: &[Item],
+    said: Front,
+) -> Result<(), TypeError>
+    ensures { Works (λ it. it) m.new (file_items_as at (map view_item its.now) said m.old) result }
+{
+    if is_typedef_word(said.storage) {
+        typedef_items(alloc, m, at, said.type_id, its)
+    } else {
+        file_items(alloc, m, is_static(said.storage), at, said.type_id, its)
+    }
+}
+
+/// A declaration of file scope, with or without declarators.
+fn file_declared_at(
+    alloc: Global,
+    m: &mut Translator,
+    at: Place,
+    specifiers: &[Specifier],
+    its: &[Item],
+) -> Result<(), TypeError>
+    ensures { Works (λ it. it) m.new (file_declared_at at (specification_of specifiers.now) (map view_item its.now) m.old) result }
+{
+    match its.split_first() {
+        Some(_) => {
+            let said = front_of(alloc, &mut m.typer, at, specifiers)?;
+            file_items_as(alloc, m, at, its, said)
+        }
+        None => nothing_named(alloc, m, at, specifiers),
+    }
+}
+
+/// A declaration of file scope (3.5). `other` is the place of one that begins with no specifier. Refused as `Untyped` if it does not meet
+/// the constraints of C, and as a `Clash` if it does not fit another declaration of the name, in any unit, or if an object gets a second
+/// initialiser.
+///
+/// Example: after `int x;`, `int x = 1;` gives the same object its initialiser, and then `int x = 2;` is refused at its `x`.
+pub fn file_declaration(
+    alloc: Global,
+    m: &mut Translator,
+    other: Place,
+    it: &Decl,
+) -> Result<(), TypeError>
+    ensures { Works (λ it. it) m.new (file_declared other (view_declaration it.now) m.old) result }
+{
+    let at = first_place(other, &it.specifiers);
+    file_declared_at(alloc, m, at, &it.specifiers, &it.items)
+}

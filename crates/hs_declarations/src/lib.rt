@@ -1,0 +1,11 @@
+//! Declarations of file scope and of blocks (X3.159-1989 3.5 and 3.7.2). `specs/Declarations.antt` has the definition.
+#![tactic(auto)]
+
+mod block_scope;
+mod file_scope;
+mod fronts;
+mod starts;
+mod typedefs;
+
+pub use block_scope::block_declaration;
+pub use file_scope::file_declaration;

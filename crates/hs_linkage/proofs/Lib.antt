@@ -1,0 +1,5 @@
+mod Chained
+mod Indexed
+mod KeptChains
+mod Named
+mod Onward
