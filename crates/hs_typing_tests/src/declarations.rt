@@ -11,7 +11,7 @@ use std::alloc::Global;
 use std::test::Fail;
 
 /// The unit that a text is.
-fn parsed(alloc: Global, text: &str) -> Result<Unit, Refusal> {
+pub(crate) fn parsed(alloc: Global, text: &str) -> Result<Unit, Refusal> {
     let tokens = tokens_of(alloc, text.as_bytes())?;
     match unit(alloc, &tokens) {
         Ok(it) => Ok(it),
@@ -83,7 +83,7 @@ fn last_size(m: &Translator) -> u32 {
 }
 
 /// What is known before the first declaration of a unit.
-fn beginning(alloc: Global, units: &[Unit]) -> Result<Translator, Refusal> {
+pub(crate) fn beginning(alloc: Global, units: &[Unit]) -> Result<Translator, Refusal> {
     let definitions = Definitions::of(alloc, units)?;
     Ok(Translator::new(alloc, built_in(alloc)?, definitions)?)
 }

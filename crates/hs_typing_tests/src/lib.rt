@@ -7,3 +7,5 @@ mod declarations;
 mod expressions;
 #[cfg(test)]
 mod initialisers;
+#[cfg(test)]
+mod statements;

@@ -1,0 +1,2 @@
+mod NewCases
+mod StatementsNext
