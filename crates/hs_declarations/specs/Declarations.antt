@@ -8,7 +8,8 @@ use Rattle.hs_linkage.specs.Objects.{is_defined, local_as}
 use Rattle.hs_linkage.specs.Works.{Work, ◌>>=◌, ◌>>◌, pass, stop, typing, unless}
 use Rattle.hs_declarations.specs.declared.fronts.Front.{Front}
 use Rattle.hs_expressions.specs.Expressions.{first_place}
-use Rattle.hs_initialisers.specs.Initialisers.{initialised, starting, inline_words}
+use Rattle.hs_initialisers.specs.InlineWords.{inline_words}
+use Rattle.hs_initialisers.specs.Initialisers.{initialised, starting}
 use Rattle.hs_operands.specs.Types.{designates, is_open}
 use Rattle.hs_syntax.specs.Trees.{Declaring, Declaration, Initialising, Specification}
 use Rattle.hs_syntax.specs.declared.operators.Storage.{Storage}

@@ -17,7 +17,7 @@ use std::test::Fail;
 
 /// Why a text has no type.
 #[derive(Clone, Copy, Debug, PartialEq, Eq)]
-pub(crate) enum Why {
+enum Why {
     Untyped,
     Undeclared,
     Unknown,
@@ -29,13 +29,13 @@ pub(crate) enum Why {
 
 /// Why a text has no type, and the column, or 0 if there is none.
 #[derive(Clone, Copy, Debug, PartialEq, Eq)]
-pub(crate) struct Refusal {
-    pub(crate) why: Why,
-    pub(crate) column: u32,
+struct Refusal {
+    why: Why,
+    column: u32,
 }
 
 /// A refusal without a column.
-pub(crate) fn placeless(why: Why) -> Refusal {
+fn placeless(why: Why) -> Refusal {
     Refusal { why, column: 0 }
 }
 
@@ -99,7 +99,7 @@ fn with_origins(alloc: Global, tokens: Vec<Token>) -> Result<Vec<SourceToken>, R
 }
 
 /// The tokens of a text that are shallow.
-pub(crate) fn tokens_of(alloc: Global, text: &[u8]) -> Result<Vec<SourceToken>, Refusal>
+fn tokens_of(alloc: Global, text: &[u8]) -> Result<Vec<SourceToken>, Refusal>
     ensures { IfOk result (λ tokens. IsShallow tokens.items) }
 {
     if text.len() > 1000 {

@@ -2,10 +2,4 @@
 #![tactic(auto)]
 
 #[cfg(test)]
-mod declarations;
-#[cfg(test)]
 mod expressions;
-#[cfg(test)]
-mod initialisers;
-#[cfg(test)]
-mod statements;
