@@ -4,7 +4,7 @@ use Rattle.std.specs.Prelude.{slice_get, option_map}
 use Rattle.std.specs.Cmp.Lexicographic.{pointwise}
 use Rattle.hs_names.specs.Entries.{declaration, onto, declarations_of, place}
 use Rattle.hs_names.specs.Lists.{IsLast}
-use Rattle.hs_names.specs.Scopes.{Declared, newest, is_of_level, older_than}
+use Rattle.hs_names.specs.Scopes.{Declared, newest, inside, is_of_level, older_than}
 use Rattle.hs_names.specs.declared.scopes.Entry.{Entry}
 
 module _ {E : Type 0} where
@@ -112,3 +112,27 @@ module _ {E : Type 0} where
   older-last level entries rest it is here =
       ap (λ its. older_than level (declarations_of its)) is ∙ ap (older_than level) (onto-push [] rest it)
       ∙ older-if level (declaration it) (declarations_of rest) (it.level == level) (level-last level entries it (rest, is) ∙ here)
+
+  here-if : (level : ℕ) (it : Declared E) (older : List (Declared E)) (b : Bool) → b ≡ true
+      → (if b then it ∷ inside level older else []) ≡ it ∷ inside level older
+  here-if level it older true same = refl
+  here-if level it older false same = absurd cc
+
+  -- the last entry is the newest declaration of the innermost scope
+  pub inside_here : (level : ℕ) (entries front : List (Entry E)) (it : Entry E) → entries ≡ front ++ it ∷ [] → (it.level == level) ≡ true
+      → inside level (declarations_of entries) ≡ declaration it ∷ inside level (declarations_of front)
+  inside_here level entries front it is here =
+      ap (λ its. inside level (declarations_of its)) is ∙ ap (inside level) (onto-push [] front it)
+      ∙ here-if level (declaration it) (declarations_of front) (it.level == level) here
+
+  gone-if : (level : ℕ) (it : Declared E) (older : List (Declared E)) (b : Bool) → b ≡ false
+      → (if b then it ∷ inside level older else []) ≡ []
+  gone-if level it older true same = absurd cc
+  gone-if level it older false same = refl
+
+  -- or the innermost scope declares no more
+  pub inside_gone : (level : ℕ) (entries front : List (Entry E)) (it : Entry E) → entries ≡ front ++ it ∷ [] → (it.level == level) ≡ false
+      → inside level (declarations_of entries) ≡ []
+  inside_gone level entries front it is other =
+      ap (λ its. inside level (declarations_of its)) is ∙ ap (inside level) (onto-push [] front it)
+      ∙ gone-if level (declaration it) (declarations_of front) (it.level == level) other

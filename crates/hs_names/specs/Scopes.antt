@@ -4,7 +4,8 @@
 --     find_here name scopes     what the name was declared as in the innermost scope
 --     declared name entity      with one declaration more, in the innermost scope
 --     entered, left             with one scope more, and without the innermost one
-use Rattle.std.specs.Prelude.{ℕ, suc, ◌-◌, ◌==◌, Bool, false, nat_eq, List, [], ◌∷◌, Option, Some, None, if◌then◌else◌}
+--     declared_outside name entity scopes      with one declaration more, in the scope around the innermost one
+use Rattle.std.specs.Prelude.{ℕ, suc, ◌-◌, ◌==◌, Bool, false, nat_eq, List, [], ◌∷◌, ◌++◌, Option, Some, None, if◌then◌else◌}
 use Rattle.std.specs.Cmp.Lexicographic.{pointwise}
 
 pub record Declared (E : Type 0) : Type 0 where
@@ -51,6 +52,25 @@ module _ {E : Type 0} where
 
   abbrev pub left : Scoped E → Scoped E
   left scopes = record { declarations = outside scopes.level scopes.declarations; level = scopes.level - 1 }
+
+  -- the declarations of the scope of that level
+  abbrev pub inside : ℕ → List (Declared E) → List (Declared E)
+  inside level [] = []
+  inside level (it ∷ older) = if it.level == level then it ∷ inside level older else []
+
+  -- what the innermost scope declares still hides it
+  abbrev pub declared_outside : List ℕ → E → Scoped E → Scoped E
+  declared_outside name entity scopes =
+      record {
+        declarations =
+            inside scopes.level scopes.declarations
+            ++ record { name = name; entity = entity; level = scopes.level - 1 } ∷ outside scopes.level scopes.declarations;
+        level = scopes.level;
+      }
+
+  -- without the declarations of the innermost scope
+  abbrev pub cleared : Scoped E → Scoped E
+  cleared scopes = record { declarations = outside scopes.level scopes.declarations; level = scopes.level }
 
   -- the newest declaration is of the innermost scope
   abbrev pub is_of_level : ℕ → List (Declared E) → Bool

@@ -1,8 +1,9 @@
 //! Scopes.
 
-ghost use Rattle.std.specs.Prelude.{◌≡◌, [], ◌∷◌, ◌++◌, OnOk, OnErr, IfSome, IfNone, IsTrue, option_map, option_copied, slice_get};
+ghost use Rattle.std.specs.Prelude.{◌≡◌, [], ◌∷◌, ◌++◌, OnOk, OnErr, IfSome, IfNone, IfOk, IsTrue, map, option_map, option_copied, slice_get};
+ghost use Rattle.hs_names.specs.Entries.{declaration, named_at};
 ghost use Rattle.hs_names.specs.Lists.{IsLast};
-ghost use Rattle.hs_names.specs.Scopes.{find, find_here, declared, entered, left, newest, is_newest_here, without_newest};
+ghost use Rattle.hs_names.specs.Scopes.{find, find_here, declared, declared_outside, entered, left, cleared, inside, newest, is_newest_here, without_newest};
 
 use crate::index::Index;
 use hs_base::NoMemory;
@@ -19,6 +20,13 @@ struct Entry<E: Copy + Drop> {
     entity: E,
     level: u32,
     hidden: Option<u32>,
+}
+
+/// A name, and what it means.
+#[derive(Drop)]
+struct Named<E: Copy + Drop> {
+    name: Vec<u8>,
+    entity: E,
 }
 
 /// The names that are declared, each with what it means. To look for a name takes no longer if there are many.
@@ -41,7 +49,7 @@ impl<E: Copy + Drop> Model for Scopes<E> {
 }
 
 impl<E: Copy + Drop> Scopes<E> {
-    ghost use Rattle.hs_names.specs.Entries.{declaration};
+    ghost use Rattle.hs_names.specs.Entries.{declaration, named_at};
 
     /// No names, in file scope. Takes no memory.
     pub fn new(alloc: Global) -> Scopes<E>
@@ -121,6 +129,52 @@ impl<E: Copy + Drop> Scopes<E> {
         }
     }
 
+    /// The names, with one more in the scope around the innermost one. What the innermost scope declares still hides it. Fails if memory
+    /// runs out.
+    ///
+    /// Example: a function that is being defined, while the scope of its parameters is the innermost one.
+    pub fn with_outer(self, alloc: Global, name: &[u8], entity: E) -> Result<Scopes<E>, NoMemory>
+        ensures { IfOk result (λ all. all ≡ declared_outside name.now entity self) }
+    {
+        let inner = self.inner(alloc)?;
+        let level = self.level;
+        let mut all = self;
+        all.leave();
+        all.declare(alloc, name, entity)?;
+        all.level = level;
+        all.with_all(alloc, inner)
+    }
+
+    /// Copies of the declarations of the innermost scope, the newest first.
+    #[tactic(auto, using(crate::proofs::Newest::inside_here, crate::proofs::Newest::inside_gone))]
+    fn inner(&self, alloc: Global) -> Result<Vec<Named<E>>, NoMemory>
+        ensures { IfOk result (λ its. map (named_at self.now.level) its.items ≡ inside self.now.level self.now.declarations) }
+    {
+        let mut done = Vec::new(alloc);
+        let mut rest = self.entries.as_slice();
+        'rest: while let Some((last, front)) = parted(rest) {
+            if last.level != self.level {
+                return Ok(done);
+            }
+            done = with_copy(alloc, done, last)?;
+            rest = front;
+        }
+        Ok(done)
+    }
+
+    /// The names, with these in the innermost scope, the last one first.
+    fn with_all(self, alloc: Global, its: Vec<Named<E>>) -> Result<Scopes<E>, NoMemory>
+        ensures { IfOk result
+            (λ all. all ≡ record { declarations = map (named_at self.level) its.items ++ self.declarations; level = self.level }) }
+    {
+        let mut all = self;
+        let mut rest = its;
+        'rest: while let Some(it) = last_named(&mut rest) {
+            all.declare(alloc, &it.name, it.entity)?;
+        }
+        Ok(all)
+    }
+
     /// Begins a scope inside the innermost one. Fails if there are more scopes than memory could hold.
     pub fn enter(&mut self) -> Result<(), NoMemory>
         ensures entered { OnOk result (self.new ≡ entered self.old) }
@@ -135,10 +189,17 @@ impl<E: Copy + Drop> Scopes<E> {
     pub fn leave(&mut self)
         ensures { self.new ≡ left self.old }
     {
+        self.clear();
+        self.level = self.level.saturating_sub(1);
+    }
+
+    /// Takes away what the innermost scope declared.
+    fn clear(&mut self)
+        ensures { self.new ≡ cleared self.old }
+    {
         'entries: while self.is_newest_here() {
             self.drop_newest();
         }
-        self.level = self.level.saturating_sub(1);
     }
 
     /// Whether the newest declaration is of the innermost scope.
@@ -187,10 +248,44 @@ fn last_of<E: Copy + Drop>(entries: &[Entry<E>]) -> Option<&Entry<E>>
     }
 }
 
+/// The names, and a copy of that of an entry.
+fn with_copy<E: Copy + Drop>(
+    alloc: Global,
+    names: Vec<Named<E>>,
+    entry: &Entry<E>,
+) -> Result<Vec<Named<E>>, NoMemory>
+    ensures { IfOk result
+        (λ all. map (named_at entry.now.level) all.items ≡ map (named_at entry.now.level) names.items ++ declaration entry.now ∷ []) }
+{
+    let mut all = names;
+    let name = entry.name.to_vec(alloc)?;
+    all.push(Named {
+        name,
+        entity: entry.entity,
+    })?;
+    Ok(all)
+}
+
+/// The last entry, and those before it, if there is one.
+fn parted<E: Copy + Drop>(entries: &[Entry<E>]) -> Option<(&Entry<E>, &[Entry<E>])>
+    ensures some { IfSome result (λ it. entries.now ≡ it.1.now ++ it.0.now ∷ []) }
+    ensures none { IfNone result (entries.now ≡ []) }
+{
+    entries.split_last()
+}
+
 /// Takes the last entry, if there is one.
 fn popped<E: Copy + Drop>(entries: &mut Vec<Entry<E>>) -> Option<Entry<E>>
     ensures some { IfSome result (λ it. entries.old.items ≡ entries.new.items ++ it ∷ []) }
     ensures none { IfNone result (entries.old.items ≡ []) }
 {
     entries.pop()
+}
+
+/// Takes the last name, if there is one.
+fn last_named<E: Copy + Drop>(names: &mut Vec<Named<E>>) -> Option<Named<E>>
+    ensures some { IfSome result (λ it. names.old.items ≡ names.new.items ++ it ∷ []) }
+    ensures none { IfNone result (names.old.items ≡ []) }
+{
+    names.pop()
 }

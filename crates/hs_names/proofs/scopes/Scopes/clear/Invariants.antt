@@ -1,6 +1,6 @@
 use Rattle.std.proofs.Common.{◌≡◌, length}
 use Rattle.hs_names.specs.Scopes.{outside}
-use Rattle.hs_names.proofs.scopes.Scopes.leave.Given as goal
+use Rattle.hs_names.proofs.scopes.Scopes.clear.Given as goal
 
 -- what is outside the innermost scope is still there
 abbrev pub invariant-entries : goal.invariant-entries
