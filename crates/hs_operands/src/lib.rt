@@ -29,4 +29,4 @@ pub use operand::{Bound, Designator, Operand};
 pub use operand_end::OperandEnd;
 pub use operators::{and, arithmetic, not, or, unary};
 pub use pointers::{compared, minus, plus};
-pub use types::{are_compatible, is_void, number_kind, pointed};
+pub use types::{are_compatible, is_readable, is_void, number_kind, pointed};

@@ -91,7 +91,9 @@ pub fn is_void(types: &Types, id: TypeId) -> bool
 }
 
 /// Whether the value of an object of the type can be read and written.
-pub(crate) fn is_readable(types: &Types, id: TypeId) -> bool
+///
+/// Example: `false` for an array.
+pub fn is_readable(types: &Types, id: TypeId) -> bool
     ensures { result ≡ is_readable types.now id }
 {
     match types.row(id) {
