@@ -19,8 +19,15 @@ use hs_typer::{Entity, TypeError, copied, declare, word_of};
 use hs_types::TypeId;
 use std::alloc::Global;
 
-/// A new automatic variable.
-fn new_local(alloc: Global, m: &mut Translator, word: &Word, id: TypeId) -> Result<u32, TypeError>
+/// A new automatic variable, and its place among those of its function.
+///
+/// Example: the first one has the place 0.
+pub fn new_local(
+    alloc: Global,
+    m: &mut Translator,
+    word: &Word,
+    id: TypeId,
+) -> Result<u32, TypeError>
     ensures { Works (λ place. place) m.new (new_local word.now id m.old) result }
 {
     let name = copied(alloc, word.text.items())?;

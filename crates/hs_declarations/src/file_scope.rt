@@ -87,7 +87,9 @@ fn file_entity(
 }
 
 /// Whether the storage word is `static`.
-pub(crate) fn is_static(storage: Option<Storage>) -> bool
+///
+/// Example: `false` if there is none.
+pub fn is_static(storage: Option<Storage>) -> bool
     ensures { result ≡ is_static storage }
 {
     match storage {
@@ -97,7 +99,9 @@ pub(crate) fn is_static(storage: Option<Storage>) -> bool
 }
 
 /// Whether the storage word is `typedef`.
-pub(crate) fn is_typedef_word(storage: Option<Storage>) -> bool
+///
+/// Example: `false` if there is none.
+pub fn is_typedef_word(storage: Option<Storage>) -> bool
     ensures { result ≡ is_typedef_word storage }
 {
     match storage {

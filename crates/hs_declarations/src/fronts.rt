@@ -15,13 +15,16 @@ use std::alloc::Global;
 
 /// What the specifiers of a declaration say: the storage word, and the type.
 #[derive(Clone, Copy, Debug, PartialEq, Eq)]
-pub(crate) struct Front {
-    pub(crate) storage: Option<Storage>,
-    pub(crate) type_id: TypeId,
+pub struct Front {
+    pub storage: Option<Storage>,
+    /// The type that they name.
+    pub type_id: TypeId,
 }
 
 /// The first of the specifiers, or the other place if there are none.
-pub(crate) fn first_place(other: Place, its: &[Specifier]) -> Place
+///
+/// Example: the place of `static` in `static int x;`.
+pub fn first_place(other: Place, its: &[Specifier]) -> Place
     ensures { result ≡ first_place other (specification_of its.now) }
 {
     match first_of_specifiers(its) {
@@ -30,8 +33,11 @@ pub(crate) fn first_place(other: Place, its: &[Specifier]) -> Place
     }
 }
 
-/// What the specifiers of a declaration say (3.5.1 to 3.5.3). `at` is the place of the first one.
-pub(crate) fn front_of(
+/// What the specifiers of a declaration say (3.5.1 to 3.5.3). `at` is the place of the first one. Refused as `Untyped` at that place if
+/// they do not go together.
+///
+/// Example: no storage word and the type `int` for no specifiers.
+pub fn front_of(
     alloc: Global,
     typer: &mut Typer,
     at: Place,
@@ -47,8 +53,10 @@ pub(crate) fn front_of(
     })
 }
 
-/// The type that a declarator makes of that of the specifiers (3.5.4).
-pub(crate) fn item_type(
+/// The type that a declarator makes of that of the specifiers (3.5.4). Refused at its name, or at that place if it names nothing.
+///
+/// Example: an array of three pointers for `*a[3]`.
+pub fn item_type(
     alloc: Global,
     typer: &mut Typer,
     at: Place,
@@ -129,7 +137,9 @@ pub(crate) fn declares_any(its: &[Specifier]) -> bool
 }
 
 /// The place of the storage word, or the other one if there is none.
-pub(crate) fn storage_place(other: Place, its: &[Specifier]) -> Place
+///
+/// Example: the place of `typedef` in `typedef int T;`.
+pub fn storage_place(other: Place, its: &[Specifier]) -> Place
     ensures { result ≡ storage_place other (specification_of its.now) }
 {
     'its: for it in its {

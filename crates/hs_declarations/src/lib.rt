@@ -7,5 +7,7 @@ mod fronts;
 mod starts;
 mod typedefs;
 
-pub use block_scope::block_declaration;
-pub use file_scope::file_declaration;
+pub use block_scope::{block_declaration, new_local};
+pub use file_scope::{file_declaration, is_static, is_typedef_word};
+pub use fronts::{Front, first_place, front_of, item_type, storage_place};
+pub use starts::must_be_whole;

@@ -23,8 +23,10 @@ pub(crate) fn must_be_object(m: &Translator, word: &Word, id: TypeId) -> Result<
     Ok(())
 }
 
-/// Refuses an incomplete type.
-pub(crate) fn must_be_whole(m: &Translator, word: &Word, id: TypeId) -> Result<(), TypeError>
+/// Refuses an incomplete type, at the name of what is of that type.
+///
+/// Example: a struct without its body.
+pub fn must_be_whole(m: &Translator, word: &Word, id: TypeId) -> Result<(), TypeError>
     ensures { Works (λ it. it) m.now (is_whole word.now id m.now) result }
 {
     if !is_complete(&m.typer.types, id) {

@@ -1,5 +1,7 @@
 mod Chained
 mod Indexed
 mod KeptChains
+mod Marked
 mod Named
 mod Onward
+mod Unfit

@@ -1,11 +1,13 @@
 -- Declarations with linkage, by their names, the newest first.
 --     all_agree types o name id its      each declaration of the name is of a type that is compatible with this one
 --     newest_external name its           the newest declaration of the name
---     with_external name it its          with one more
-use Rattle.std.specs.Prelude.{ℕ, Bool, false, not, ◌||◌, List, [], ◌∷◌, Option, Some, None, if◌then◌else◌}
+--     with_external word unit it its     with one more
+--     unfit types o all its              the oldest one of this unit that does not fit all of them
+use Rattle.std.specs.Prelude.{ℕ, ◌==◌, Bool, false, not, ◌||◌, ◌&&◌, List, [], ◌∷◌, Option, Some, None, if◌then◌else◌}
 use Rattle.std.specs.List.{list_all}
 use Rattle.hs_linkage.specs.Definitions.{same_name}
 use Rattle.hs_linkage.specs.declared.externals.External.{External}
+use Rattle.hs_syntax.specs.declared.word.Word.{Word}
 use Rattle.hs_typer.specs.Origins.{agree}
 use Rattle.hs_typer.specs.contracts.typer.EntityPartialEq.TheImpl as entity_eq
 use Rattle.hs_typer.specs.declared.origins.Origins.{Origins}
@@ -35,9 +37,9 @@ abbrev pub newest_external : List ℕ → List External → Option Entity
 newest_external name [] = None
 newest_external name (it ∷ older) = if same_name it.name name then Some it.entity else newest_external name older
 
--- one more declaration of the name
-abbrev pub external_of : List ℕ → Entity → External
-external_of name it = record { name = name; entity = it }
+-- one more declaration of the name, in that unit
+abbrev pub external_of : Word → ℕ → Entity → External
+external_of word unit it = record { name = word.text; at = word.place; unit = unit; entity = it }
 
 -- the newest declaration says the same
 abbrev pub says_same : Option Entity → Entity → Bool
@@ -45,5 +47,28 @@ says_same None it = false
 says_same (Some old) it = (entity_eq.ghosts).eq old it
 
 -- with one more, unless the newest one says the same
-abbrev pub with_external : List ℕ → Entity → List External → List External
-with_external name it its = if says_same (newest_external name its) it then its else external_of name it ∷ its
+abbrev pub with_external : Word → ℕ → Entity → List External → List External
+with_external word unit it its = if says_same (newest_external word.text its) it then its else external_of word unit it ∷ its
+
+-- compatible with each of the declarations of that name, if there is a type
+abbrev pub agree_if : TypeTable → Origins → List ℕ → Option TypeId → List External → Bool
+agree_if types o name None its = false
+agree_if types o name (Some id) its = all_agree types o name id its
+
+-- a declaration of this unit that does not fit one of the others
+abbrev pub is_unfit : TypeTable → Origins → List External → External → Bool
+is_unfit types o all it = it.unit == o.unit && not (agree_if types o it.name (type_of_entity it.entity) all)
+
+-- the first one, or else the second one
+abbrev pub or_later : Option External → Option External → Option External
+or_later None later = later
+or_later (Some it) later = Some it
+
+-- of these, if it does not fit
+abbrev pub if_unfit : TypeTable → Origins → List External → External → Option External
+if_unfit types o all it = if is_unfit types o all it then Some it else None
+
+-- Tags may have got their bodies after a declaration was made.
+abbrev pub unfit : TypeTable → Origins → List External → List External → Option External
+unfit types o all [] = None
+unfit types o all (it ∷ older) = or_later (unfit types o all older) (if_unfit types o all it)

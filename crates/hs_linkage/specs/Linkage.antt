@@ -4,11 +4,12 @@
 --     link static word id                the object or the function that a declaration with linkage refers to
 --     linked static word id              which the name then means in its scope
 --     define_object place id parts       the object of that place starts with these parts
+--     rechecked                          what the unit declared fits the other declarations also at its end
 use Rattle.std.specs.Prelude.{ℕ, Bool, true, false, not, ◌&&◌, ◌||◌, List, [], ◌∷◌, ◌++◌, length, slice_get, Option, Some, None, Ok, if◌then◌else◌}
 use Rattle.hs_linkage.specs.Definitions.{same_name, first_place, is_definition_of}
-use Rattle.hs_linkage.specs.Externals.{type_of_entity, agrees_in, all_agree, newest_external, with_external}
+use Rattle.hs_linkage.specs.Externals.{type_of_entity, agrees_in, all_agree, newest_external, with_external, unfit}
 use Rattle.hs_linkage.specs.Objects.{object_as, object_with}
-use Rattle.hs_linkage.specs.Works.{Work, ◌>>=◌, ◌>>◌, pass, typing, knowing, unless}
+use Rattle.hs_linkage.specs.Works.{Work, ◌>>=◌, ◌>>◌, pass, stop, typing, knowing, unless}
 use Rattle.hs_linkage.specs.declared.definitions.Definition.{Definition}
 use Rattle.hs_linkage.specs.declared.externals.External.{External}
 use Rattle.hs_linkage.specs.declared.translator.Linked.{Linked}
@@ -178,8 +179,8 @@ noted word it m =
       it.entity,
       record m {
         links = declared word.text it m.links;
-        externals = if it.internal then m.externals else with_external word.text it.entity m.externals;
-        routines = if is_routine_entity it.entity then with_external word.text it.entity m.routines else m.routines;
+        externals = if it.internal then m.externals else with_external word m.typer.origins.unit it.entity m.externals;
+        routines = if is_routine_entity it.entity then with_external word m.typer.origins.unit it.entity m.routines else m.routines;
       },
     )
 
@@ -227,3 +228,16 @@ completed_link static word id = do
 -- of the object of that place
 abbrev pub define_object : ℕ → TypeId → List Part → Work (Unit {0})
 define_object place id parts m = Ok (tt, record m { objects = object_with id parts (slice_get m.objects place) m.objects place })
+
+-- the declaration does not fit another one
+abbrev pub unless_unfit : Option External → Work (Unit {0})
+unless_unfit None = pass tt
+unless_unfit (Some it) = stop (Clash it.at it.name)
+
+-- those of this unit
+abbrev pub rechecked_all : List External → Work (Unit {0})
+rechecked_all its m = unless_unfit (unfit m.typer.types m.typer.origins its its) m
+
+-- At the end of a unit each of its declarations with linkage fits the others, now that its tags have got their bodies (own).
+abbrev pub rechecked : Work (Unit {0})
+rechecked m = (rechecked_all m.externals >> rechecked_all m.routines) m

@@ -2,13 +2,15 @@
 
 ghost use Rattle.std.specs.Prelude.{◌≡◌, ◌∷◌, ◌++◌, [], OnOk, OnErr, IfSome, IfNone, option_copied};
 ghost use Rattle.hs_linkage.specs.Chains.{newest_first, externals_of, place, entry_at, IsChained};
-ghost use Rattle.hs_linkage.specs.Externals.{all_agree, newest_external, says_same};
+ghost use Rattle.hs_linkage.specs.Externals.{all_agree, agree_if, is_unfit, newest_external, says_same, unfit};
 
 use crate::entities::type_of;
 use crate::questions::agrees;
 use hs_base::{Bytes, NoMemory};
 use hs_names::Index;
-use hs_typer::{Entity, Origins};
+use hs_syntax::Word;
+use hs_tokens::Place;
+use hs_typer::{Entity, Origins, copied};
 use hs_types::{TypeId, Types};
 use std::alloc::Global;
 use std::marker::Model;
@@ -20,6 +22,10 @@ const MOST: usize = 4_000_000_000;
 #[derive(Drop)]
 pub struct External {
     pub name: Bytes,
+    /// The place of the name.
+    pub at: Place,
+    /// The number of its unit.
+    pub unit: u32,
     /// An object or a function.
     pub entity: Entity,
 }
@@ -88,26 +94,74 @@ impl Externals {
     pub(crate) fn note(
         &mut self,
         alloc: Global,
-        name: &[u8],
+        word: &Word,
+        unit: u32,
         entity: Entity,
     ) -> Result<(), NoMemory>
-        ensures noted { OnOk result (self.new ≡ with_external name.now entity self.old) }
+        ensures noted { OnOk result (self.new ≡ with_external word.now unit entity self.old) }
         ensures unchanged { OnErr result (self.new ≡ self.old) }
     {
-        if says_same(self.newest(name), entity) {
+        if says_same(self.newest(word.text.items()), entity) {
             return Ok(());
         }
-        self.push(alloc, name, entity)
+        self.push(alloc, word, unit, entity)
     }
 
     /// One more declaration. Fails if memory runs out.
-    fn push(&mut self, alloc: Global, name: &[u8], entity: Entity) -> Result<(), NoMemory>
-        ensures pushed { OnOk result (self.new ≡ external_of name.now entity ∷ self.old) }
+    fn push(
+        &mut self,
+        alloc: Global,
+        word: &Word,
+        unit: u32,
+        entity: Entity,
+    ) -> Result<(), NoMemory>
+        ensures pushed { OnOk result (self.new ≡ external_of word.now unit entity ∷ self.old) }
         ensures unchanged { OnErr result (self.new ≡ self.old) }
     {
+        let name = word.text.items();
         let key = name.to_vec(alloc)?;
-        let name = Bytes::from_vec(name.to_vec(alloc)?);
-        self.put(key, External { name, entity })
+        let name = copied(alloc, name)?;
+        let at = word.place;
+        self.put(
+            key,
+            External {
+                name,
+                at,
+                unit,
+                entity,
+            },
+        )
+    }
+
+    /// The first declaration of this unit that does not fit one of the others, if there is one.
+    #[tactic(auto, using(crate::proofs::Unfit::unfit_entries))]
+    pub(crate) fn unfit(&self, types: &Types, origins: &Origins) -> Option<&External>
+        ensures { option_copied result ≡ unfit types.now origins.now self.now self.now }
+    {
+        'entries: for entry in &self.entries {
+            if self.is_unfit(types, origins, &entry.external) {
+                return Some(&entry.external);
+            }
+        }
+        None
+    }
+
+    /// Whether a declaration is of this unit and does not fit one of the others.
+    fn is_unfit(&self, types: &Types, origins: &Origins, it: &External) -> bool
+        ensures { result ≡ is_unfit types.now origins.now self.now it.now }
+    {
+        it.unit == origins.unit
+            && !self.agree_if(types, origins, it.name.items(), type_of(it.entity))
+    }
+
+    /// Whether each declaration of the name is of a type that is compatible with this one, if there is one.
+    fn agree_if(&self, types: &Types, origins: &Origins, name: &[u8], id: Option<TypeId>) -> bool
+        ensures { result ≡ agree_if types.now origins.now name.now id self.now }
+    {
+        match id {
+            Some(id) => self.agree(types, origins, name, id),
+            None => false,
+        }
     }
 
     /// One more declaration, of whose name there are two copies.

@@ -14,8 +14,8 @@ mod translator;
 
 pub use definitions::{Definition, Definitions};
 pub use externals::{External, Externals};
-pub use linkage::{clash, new_object};
-pub use linking::{completed_link, linked, renamed};
+pub use linkage::{clash, link, new_object};
+pub use linking::{completed_link, linked, may_name, rechecked, renamed};
 pub use objects::{Locals, Objects};
 pub use questions::{designates, is_complete, is_function, is_open};
 pub use translator::{Linked, StaticObject, Translator};

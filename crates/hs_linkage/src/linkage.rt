@@ -243,13 +243,13 @@ fn compatible_routines(
 fn noted(alloc: Global, m: &mut Translator, word: &Word, it: Linked) -> Result<Entity, TypeError>
     ensures { Works (λ it. it) m.new (noted word.now it m.old) result }
 {
-    let name = word.text.items();
-    m.links.declare(alloc, name, it)?;
+    let unit = m.typer.origins.unit;
+    m.links.declare(alloc, word.text.items(), it)?;
     if !it.internal {
-        m.externals.note(alloc, name, it.entity)?;
+        m.externals.note(alloc, word, unit, it.entity)?;
     }
     if is_routine(it.entity) {
-        m.routines.note(alloc, name, it.entity)?;
+        m.routines.note(alloc, word, unit, it.entity)?;
     }
     Ok(it.entity)
 }
@@ -258,7 +258,7 @@ fn noted(alloc: Global, m: &mut Translator, word: &Word, it: Linked) -> Result<E
 /// name, as a `Clash` if it does not fit another declaration of the name.
 ///
 /// Example: `extern int x;` after `static int x;` refers to the same object.
-pub(crate) fn link(
+pub fn link(
     alloc: Global,
     m: &mut Translator,
     internal: bool,

@@ -1,11 +1,12 @@
 //! The objects of a program, and the automatic variables of a function.
 
 ghost use Rattle.std.specs.Prelude.{◌≡◌, ◌++◌, ◌∷◌, [], length, slice_get, IfOk, OnOk};
-ghost use Rattle.hs_linkage.specs.Objects.{object_as, object_with, is_defined, is_settled, local_as};
+ghost use Rattle.hs_linkage.specs.Objects.{object_as, object_with, is_defined, is_settled, local_as, marked, marked_at};
 
 use crate::translator::StaticObject;
 use hs_base::NoMemory;
-use hs_tree::{Part, Parts, VariableDecl};
+use hs_tree::{Part, Parts, Variable, VariableDecl, Variables};
+use hs_typer::Taken;
 use hs_types::{TypeId, Types};
 use std::alloc::Global;
 use std::marker::Model;
@@ -36,6 +37,13 @@ impl Objects {
         Objects {
             vec: Vec::new(alloc),
         }
+    }
+
+    /// The objects as a `Vec`. Takes no memory.
+    pub fn into_vec(self) -> Vec<StaticObject>
+        ensures { result.items ≡ self }
+    {
+        self.vec
     }
 
     /// Lends the objects.
@@ -147,6 +155,40 @@ impl Locals {
         }
         self.vec.push(variable)?;
         Ok(count as u32)
+    }
+
+    /// The variables, each marked if its address is among these.
+    ///
+    /// Example: after `&x` the variable `x` is marked.
+    #[tactic(auto, using(crate::proofs::Marked::marked_none, crate::proofs::Marked::marked_next))]
+    pub fn marked(self, its: &[Taken]) -> Variables
+        ensures { result ≡ marked its.now 0 self }
+    {
+        let mut all = self;
+        'its: for it in its {
+            all.mark(*it);
+        }
+        Variables::from_vec(all.vec)
+    }
+
+    /// Marks the variable whose address it is, if it is that of a variable.
+    #[tactic(auto, using(crate::proofs::Marked::marked_global, crate::proofs::Marked::marked_field, crate::proofs::Marked::marked_local))]
+    fn mark(&mut self, it: Taken)
+        ensures { self.new ≡ marked (it ∷ []) 0 self.old }
+    {
+        match it {
+            Taken::Variable(Variable::Local(place)) => self.mark_at(place),
+            Taken::Variable(Variable::Global(_)) | Taken::Field(_) => {}
+        }
+    }
+
+    /// Marks the variable of that place, if there is one.
+    fn mark_at(&mut self, place: u32)
+        ensures { self.new ≡ marked_at (slice_get self.old place) self.old place }
+    {
+        if (place as usize) < self.vec.len() {
+            self.vec[place as usize].taken = true;
+        }
     }
 
     /// The variable of that place is of this type.
