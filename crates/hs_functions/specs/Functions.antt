@@ -147,16 +147,16 @@ defined_with number static word parameters id body its list = do
 
 -- by the type that its declarator gives it
 abbrev pub defined_of : ℕ → Bool → Word → Parameters → TypeId → Compound → Option Row → Work TypedFunction
-defined_of number static word parameters id body None = stop (Untyped word.place)
-defined_of number static word parameters id body (Some row.Void) = stop (Untyped word.place)
-defined_of number static word parameters id body (Some (row.Integer kind)) = stop (Untyped word.place)
-defined_of number static word parameters id body (Some (row.Pointer of)) = stop (Untyped word.place)
-defined_of number static word parameters id body (Some (row.Enumeration tag)) = stop (Untyped word.place)
-defined_of number static word parameters id body (Some (row.Struct tag)) = stop (Untyped word.place)
-defined_of number static word parameters id body (Some (row.Array of length layout)) = stop (Untyped word.place)
-defined_of number static word parameters id body (Some (row.OpenArray of)) = stop (Untyped word.place)
-defined_of number static word parameters id body (Some (row.Function its list)) =
-    defined_with number static word parameters id body its list
+defined_of number static word them id body None = stop (Untyped word.place)
+defined_of number static word them id body (Some row.Void) = stop (Untyped word.place)
+defined_of number static word them id body (Some (row.Integer kind)) = stop (Untyped word.place)
+defined_of number static word them id body (Some (row.Pointer of)) = stop (Untyped word.place)
+defined_of number static word them id body (Some (row.Enumeration tag)) = stop (Untyped word.place)
+defined_of number static word them id body (Some (row.Struct tag)) = stop (Untyped word.place)
+defined_of number static word them id body (Some (row.Array of length layout)) = stop (Untyped word.place)
+defined_of number static word them id body (Some (row.OpenArray of)) = stop (Untyped word.place)
+defined_of number static word them id body (Some (row.Function its list)) =
+    defined_with number static word them id body its list
 
 -- of that type
 abbrev pub defined_as : ℕ → Bool → Word → Parameters → Compound → TypeId → Work TypedFunction
@@ -182,7 +182,7 @@ defined_at number at specifiers it body = typing (front at specifiers) >>= defin
 
 -- the place of the `{` of a block
 abbrev pub brace_of : Compound → Place
-brace_of (syntax.compound opening declarations statements closing) = opening
+brace_of (syntax.compound opening before its closing) = opening
 
 -- 3.7.1: without specifiers the function gives an `int`
 abbrev pub defined : ℕ → Specification → Declared → Compound → Work TypedFunction

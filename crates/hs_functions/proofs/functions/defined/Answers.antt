@@ -1,4 +1,3 @@
-use Rattle.std.proofs.Common.{rules, ap}
 use Rattle.hs_functions.proofs.functions.defined.Goals as goal
 
 -- after the specifiers

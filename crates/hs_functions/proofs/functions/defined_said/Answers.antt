@@ -1,4 +1,3 @@
-use Rattle.std.proofs.Common.{rules}
 use Rattle.hs_functions.proofs.functions.defined_said.Goals as goal
 
 -- the name and the parameters are those of the declarator
