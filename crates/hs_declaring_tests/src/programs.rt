@@ -1,0 +1,205 @@
+//! Whole programs: what they are made of, or why they are none.
+
+use crate::functions::units_of;
+use crate::texts::{Refusal, Why, placeless};
+use hs_table::built_in;
+use hs_tree::{BoundRoutine, Global as Object};
+use hs_types::FieldId;
+use hs_typing::{ProgramError, Typed, program_of};
+use std::alloc::Global;
+use std::test::Fail;
+
+impl From<ProgramError> for Refusal {
+    fn from(why: ProgramError) -> Refusal {
+        match why {
+            ProgramError::Refused(why) => Refusal::from(why),
+            ProgramError::NoMain => placeless(Why::NoMain),
+            ProgramError::Limit(_) => placeless(Why::Limit),
+            ProgramError::NoMemory => placeless(Why::NoMemory),
+        }
+    }
+}
+
+/// The program that a text is.
+fn program(alloc: Global, text: &str) -> Result<Typed, Refusal> {
+    let units = units_of(alloc, &[text])?;
+    Ok(program_of(alloc, built_in(alloc)?, &units)?)
+}
+
+/// How many functions the program has, and the number of its `main`.
+fn functions(alloc: Global, text: &str) -> Result<(usize, u32), Refusal> {
+    let it = program(alloc, text)?;
+    Ok((it.functions.len(), it.main))
+}
+
+/// A refusal without a place.
+fn no(why: Why) -> Result<(usize, u32), Refusal> {
+    Err(placeless(why))
+}
+
+// X3.159-1989 2.1.2.2. Own: `main` has no parameters, and gives a number or nothing.
+#[test]
+fn a_program_has_a_main(rt: HostRuntime) -> Result<(), Fail> {
+    let alloc = rt.alloc();
+    assert_eq!(rt;
+        functions(
+            alloc,
+            "int f(void) { return 0; } int main(void) { return 0; }"
+        ),
+        Ok((2, 1))
+    );
+    assert_eq!(rt; functions(alloc, "void main() { }"), Ok((1, 0)));
+    assert_eq!(rt;
+        functions(alloc, "int f(void) { return 0; }"),
+        no(Why::NoMain)
+    );
+    Ok(())
+}
+
+#[test]
+fn other_functions_are_no_main(rt: HostRuntime) -> Result<(), Fail> {
+    let alloc = rt.alloc();
+    assert_eq!(rt;
+        functions(alloc, "static int main(void) { return 0; }"),
+        no(Why::NoMain)
+    );
+    assert_eq!(rt;
+        functions(alloc, "int main(int a) { return a; }"),
+        no(Why::NoMain)
+    );
+    assert_eq!(rt;
+        functions(alloc, "char *main(void) { return 0; }"),
+        no(Why::NoMain)
+    );
+    Ok(())
+}
+
+// Own: `main` is looked for after all else.
+#[test]
+fn refusals_come_before_no_main(rt: HostRuntime) -> Result<(), Fail> {
+    let alloc = rt.alloc();
+    assert_eq!(rt;
+        functions(alloc, "int f(void) { return x; }"),
+        Err(Refusal {
+            why: Why::Undeclared,
+            column: 22
+        })
+    );
+    Ok(())
+}
+
+// Own: the objects and the strings of a program have at most 16777216 bytes. A string has a byte 0 at its end.
+#[test]
+fn the_bytes_of_a_program_are_limited(rt: HostRuntime) -> Result<(), Fail> {
+    let alloc = rt.alloc();
+    assert_eq!(rt;
+        functions(
+            alloc,
+            "char a[16777208]; char *p = \"abc\"; void main() { }"
+        ),
+        Ok((1, 0))
+    );
+    assert_eq!(rt;
+        functions(
+            alloc,
+            "char a[16777208]; char *p = \"abcd\"; void main() { }"
+        ),
+        no(Why::Limit)
+    );
+    assert_eq!(rt;
+        functions(alloc, "char a[16777216]; void f() { static char b; }"),
+        no(Why::NoMain)
+    );
+    assert_eq!(rt;
+        functions(alloc, "char a[16777216]; void main() { static char b; }"),
+        no(Why::Limit)
+    );
+    Ok(())
+}
+
+/// The sizes of the objects, added up, each with ten times the one before; and how many are marked.
+fn weighed(its: &[Object]) -> (u32, u32) {
+    let mut sizes = 0u32;
+    let mut marks = 0u32;
+    for it in its {
+        sizes = sizes.saturating_mul(10).saturating_add(it.size);
+        marks = marks.saturating_add(u32::from(it.variable.taken));
+    }
+    (sizes, marks)
+}
+
+/// The sizes of the objects of a program, one digit each, and how many are marked.
+fn objects(alloc: Global, text: &str) -> Result<(u32, u32), Refusal> {
+    let it = program(alloc, text)?;
+    Ok(weighed(it.globals.items()))
+}
+
+// X3.159-1989 3.7.2: an array whose length is in no declaration has one element. Own: a struct that stays incomplete has no bytes.
+#[test]
+fn objects_have_their_sizes(rt: HostRuntime) -> Result<(), Fail> {
+    let alloc = rt.alloc();
+    assert_eq!(rt;
+        objects(
+            alloc,
+            "int a[]; extern struct S s; short t; void main() { }"
+        ),
+        Ok((402, 0))
+    );
+    assert_eq!(rt;
+        objects(alloc, "int x; char y; void main() { char *p; p = &y; }"),
+        Ok((41, 1))
+    );
+    Ok(())
+}
+
+/// Whether the program takes the addresses of the first and the second field of its first struct.
+fn fields(alloc: Global, text: &str) -> Result<(bool, bool), Refusal> {
+    let it = program(alloc, text)?;
+    let first = it.taken.has(FieldId { of: 0, place: 0 });
+    let second = it.taken.has(FieldId { of: 0, place: 1 });
+    Ok((first, second))
+}
+
+// Own: a field is marked if its address is taken in any object.
+#[test]
+fn fields_are_marked(rt: HostRuntime) -> Result<(), Fail> {
+    let alloc = rt.alloc();
+    let text = "struct S { int a; int b; } s; void main() { int *p; p = &s.b; }";
+    assert_eq!(rt; fields(alloc, text), Ok((false, true)));
+    Ok(())
+}
+
+/// How many parameters the routine is declared with, if it is called.
+fn count_of(it: &BoundRoutine) -> Option<usize> {
+    match &it.prototype {
+        Some(its) => Some(its.parameters.items().len()),
+        None => None,
+    }
+}
+
+/// How many routines the program calls, and how many parameters they have.
+fn called(alloc: Global, text: &str) -> Result<(usize, usize), Refusal> {
+    let it = program(alloc, text)?;
+    let mut routines = 0usize;
+    let mut parameters = 0usize;
+    for routine in it.routines.items() {
+        if let Some(count) = count_of(routine) {
+            routines = routines.saturating_add(1);
+            parameters = parameters.saturating_add(count);
+        }
+    }
+    Ok((routines, parameters))
+}
+
+// Own: a routine that is called has the declaration of its first call, and the others have none.
+#[test]
+fn called_routines_have_their_declarations(rt: HostRuntime) -> Result<(), Fail> {
+    let alloc = rt.alloc();
+    let text = "void HLock(char **h); void HUnlock(char **h); void main() { HLock(0); HLock(0); }";
+    assert_eq!(rt; called(alloc, text), Ok((1, 1)));
+    assert_eq!(rt;
+        called(alloc, "void HLock(char **h); void main() { }"),
+        Ok((0, 0))
+    );
+    Ok(())
+}

@@ -1,0 +1,10 @@
+use Rattle.std.proofs.Common.{◌≡◌, ◌+◌, length}
+use Rattle.hs_typing.specs.Ends.{bytes_of_literals}
+use Rattle.hs_typing.proofs.bytes.bytes_with_literals.Given as goal
+
+-- the bytes so far, with those of the strings that are left, are all
+abbrev pub invariant-rest : goal.invariant-rest
+invariant-rest l = l.total + bytes_of_literals l.rest ≡ l.fn.start + bytes_of_literals l.fn.its
+
+abbrev pub decreases-rest : goal.decreases-rest
+decreases-rest l = length l.rest

@@ -1,0 +1,245 @@
+//! From units to a typed program.
+
+ghost use Rattle.std.specs.Prelude.{◌≡◌, [], map, IfOk};
+ghost use Rattle.hs_functions.specs.Units.{units_of};
+ghost use Rattle.hs_linkage.specs.Definitions.{all_definitions};
+ghost use Rattle.hs_linkage.specs.Works.{before_units};
+ghost use Rattle.hs_syntax.specs.Views.{view_unit};
+ghost use Rattle.hs_tree.specs.Views.{view_function};
+ghost use Rattle.hs_typing.specs.Ends.{globals_of, taken_globals, no_types, first_types, bound_routines};
+ghost use Rattle.hs_typing.specs.Programs.{parts_of, assembled, usable_main, within, with_main, no_memory, refusal_of, ended, typed, view_typed, IsTyped};
+
+use crate::bytes::passes;
+use crate::ends::{taken_fields, taken_globals};
+use crate::main_function::{main_number, may_be_main};
+use crate::objects::globals_of;
+use crate::routines::{bound_routines, first_types};
+use hs_base::{Limit, LimitKind, NoMemory};
+use hs_functions::functions_of;
+use hs_linkage::{Definitions, Objects, Translator};
+use hs_syntax::Unit;
+use hs_table::Table;
+use hs_tree::{Function, Globals, Literals, Routines, TakenFields};
+use hs_typer::{TypeError, Typer};
+use hs_types::Types;
+use std::alloc::Global;
+use std::mem::replace;
+
+/// Why units are no program.
+#[derive(Debug, Drop)]
+pub enum ProgramError {
+    /// The first refusal of a unit, in the order of units and declarations. It is not that memory ran out.
+    Refused(TypeError),
+    /// No unit defines a function `main` with external linkage, without parameters, that gives a number or nothing. Tried after all else
+    /// but the limit.
+    NoMain,
+    /// The objects and the strings have more than 16777216 bytes.
+    Limit(Limit),
+    /// Memory ran out.
+    NoMemory,
+}
+
+impl From<NoMemory> for ProgramError {
+    ghost from_gives = { λ _ e. e ≡ no_memory };
+
+    fn from(_refused: NoMemory) -> ProgramError {
+        ProgramError::NoMemory
+    }
+}
+
+/// The parts of a typed program.
+#[derive(Drop)]
+pub struct Typed {
+    /// Its types, each once.
+    pub types: Types,
+    pub globals: Globals,
+    pub literals: Literals,
+    /// The functions that are defined, in the order of the text.
+    pub functions: Vec<Function>,
+    pub routines: Routines,
+    /// The fields whose addresses the program takes.
+    pub taken: TakenFields,
+    /// The number of the function `main`.
+    pub main: u32,
+}
+
+/// What the units leave at their end, but the types, the strings and the functions.
+#[derive(Drop)]
+struct Ends {
+    globals: Globals,
+    routines: Routines,
+    taken: TakenFields,
+}
+
+/// The objects, with the types that they have at the end.
+fn globals_at_end(alloc: Global, m: &mut Translator) -> Result<Globals, NoMemory>
+    ensures globals { IfOk result
+        (λ its. globals_of (taken_globals [] m.old.typer.taken) 0 [] m.old.objects m.old.typer.types ≡ (its, m.new.typer.types)) }
+    ensures others { m.new ≡ record m.old { typer = record m.old.typer { types = m.new.typer.types }; objects = [] } }
+{
+    let objects = replace(&mut m.objects, Objects::new(alloc));
+    let marks = taken_globals(alloc, m.typer.taken.items())?;
+    let its = globals_of(alloc, &mut m.typer.types, &marks, objects.into_vec())?;
+    Ok(Globals::from_vec(its))
+}
+
+/// The routines, with the types that are known at the end.
+fn routines_at_end(alloc: Global, m: &Translator) -> Result<Routines, NoMemory>
+    ensures { IfOk result
+        (λ its. its ≡ bound_routines m.now.typer.types [] m.now.typer.table (first_types (no_types m.now.typer.table) m.now.typer.calls)) }
+{
+    let ids = first_types(alloc, m.typer.table.routines(), m.typer.calls.items())?;
+    let its = bound_routines(alloc, &m.typer.types, m.typer.table.routines(), &ids)?;
+    Ok(Routines::from_vec(its))
+}
+
+/// What the units leave at their end.
+fn ends_of(alloc: Global, m: &mut Translator) -> Result<Ends, NoMemory>
+    ensures { IfOk result (λ it. parts_of m.old ≡ (m.new.typer.types, it.globals, m.new.typer.literals, it.routines, it.taken)) }
+{
+    let globals = globals_at_end(alloc, m)?;
+    let routines = routines_at_end(alloc, m)?;
+    let taken = taken_fields(alloc, m.typer.taken.items())?;
+    Ok(Ends {
+        globals,
+        routines,
+        taken,
+    })
+}
+
+/// A program of these parts.
+fn assembled(m: Translator, ends: Ends, functions: Vec<Function>, main: u32) -> Typed
+    ensures { view_typed result
+        ≡ assembled (m.typer.types, ends.globals, m.typer.literals, ends.routines, ends.taken) (map view_function functions.items) main }
+{
+    let Translator { typer, .. } = m;
+    let Typer {
+        types,
+        literals,
+        ..
+    } = typer;
+    let Ends {
+        globals,
+        routines,
+        taken,
+    } = ends;
+    Typed {
+        types,
+        globals,
+        literals,
+        functions,
+        routines,
+        taken,
+        main,
+    }
+}
+
+/// The program, unless its objects and strings have more bytes than a program may have.
+fn within(it: Typed) -> Result<Typed, ProgramError>
+    ensures { IsTyped (within (view_typed it)) result }
+{
+    if passes(it.globals.items(), it.literals.items()) {
+        return Err(ProgramError::Limit(Limit {
+            kind: LimitKind::Objects,
+            reached: LimitKind::Objects.number(),
+        }));
+    }
+    Ok(it)
+}
+
+/// The number of the function `main`, if that function can be one.
+fn usable_main(m: &Translator, functions: &[Function], main: Option<u32>) -> Option<u32>
+    ensures { result ≡ usable_main m.now.typer.types (map view_function functions.now) main }
+{
+    let number = main?;
+    if may_be_main(&m.typer.types, functions, number) {
+        Some(number)
+    } else {
+        None
+    }
+}
+
+/// The program with that function as its `main`.
+fn completed(
+    alloc: Global,
+    m: Translator,
+    functions: Vec<Function>,
+    number: u32,
+) -> Result<Typed, ProgramError>
+    ensures { IsTyped (within (assembled (parts_of m) (map view_function functions.items) number)) result }
+{
+    let mut all = m;
+    match ends_of(alloc, &mut all) {
+        Ok(ends) => within(assembled(all, ends, functions, number)),
+        Err(NoMemory) => Err(ProgramError::NoMemory),
+    }
+}
+
+/// The program with that function as its `main`, if there is one.
+fn with_main(
+    alloc: Global,
+    m: Translator,
+    functions: Vec<Function>,
+    main: Option<u32>,
+) -> Result<Typed, ProgramError>
+    ensures { IsTyped (with_main (map view_function functions.items) m main) result }
+{
+    match main {
+        Some(number) => completed(alloc, m, functions, number),
+        None => Err(ProgramError::NoMain),
+    }
+}
+
+/// A refusal of typing.
+fn refused(why: TypeError) -> ProgramError
+    ensures { result ≡ refusal_of why }
+{
+    match why {
+        TypeError::Untyped(at) => ProgramError::Refused(TypeError::Untyped(at)),
+        TypeError::Undeclared(at, name) => ProgramError::Refused(TypeError::Undeclared(at, name)),
+        TypeError::UnknownRoutine(at, name) => {
+            ProgramError::Refused(TypeError::UnknownRoutine(at, name))
+        }
+        TypeError::Clash(at, name) => ProgramError::Refused(TypeError::Clash(at, name)),
+        TypeError::NoMemory => ProgramError::NoMemory,
+    }
+}
+
+/// What is known before the first unit.
+fn beginning(alloc: Global, table: Table, units: &[Unit]) -> Result<Translator, NoMemory>
+    ensures { IfOk result (λ m. m ≡ before_units table (all_definitions 0 (map view_unit units.now))) }
+{
+    let definitions = Definitions::of(alloc, units)?;
+    Translator::new(alloc, table, definitions)
+}
+
+/// The program that units are, from what is known before the first one.
+fn translated(alloc: Global, m: Translator, units: &[Unit]) -> Result<Typed, ProgramError>
+    ensures { IsTyped (ended (units_of [] (map view_unit units.now) m)) result }
+{
+    let mut all = m;
+    match functions_of(alloc, &mut all, units) {
+        Ok(functions) => {
+            let main = usable_main(&all, &functions, main_number(&all.definitions));
+            with_main(alloc, all, functions, main)
+        }
+        Err(why) => Err(refused(why)),
+    }
+}
+
+/// The typed program that units are with a table of routines.
+///
+/// # Errors
+///
+/// [`ProgramError::Refused`] with the first refusal, in the order of units and declarations, and in an expression the operands first; then
+/// [`ProgramError::NoMain`]; then [`ProgramError::Limit`], of Objects.
+///
+/// Example: no units have no `main`.
+pub fn program_of(alloc: Global, table: Table, units: &[Unit]) -> Result<Typed, ProgramError>
+    ensures { IsTyped (typed table (map view_unit units.now)) result }
+{
+    match beginning(alloc, table, units) {
+        Ok(m) => translated(alloc, m, units),
+        Err(NoMemory) => Err(ProgramError::NoMemory),
+    }
+}
