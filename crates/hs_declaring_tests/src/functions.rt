@@ -9,7 +9,7 @@ use std::alloc::Global;
 use std::test::Fail;
 
 /// The units that texts are.
-pub(crate) fn units_of(alloc: Global, texts: &[&str]) -> Result<Vec<Unit>, Refusal> {
+fn units_of(alloc: Global, texts: &[&str]) -> Result<Vec<Unit>, Refusal> {
     let mut units = Vec::new(alloc);
     for text in texts {
         units.push(parsed(alloc, text)?)?;

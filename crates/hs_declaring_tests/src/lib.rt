@@ -1,4 +1,4 @@
-//! Tests of declarations, initialisers, statements, functions and programs. They are in a crate above these, because a crate that is proved with
+//! Tests of declarations, initialisers, statements and functions. They are in a crate above these, because a crate that is proved with
 //! its tests is proved twice.
 #![tactic(auto)]
 
@@ -8,8 +8,6 @@ mod declarations;
 mod functions;
 #[cfg(test)]
 mod initialisers;
-#[cfg(test)]
-mod programs;
 #[cfg(test)]
 mod statements;
 #[cfg(test)]

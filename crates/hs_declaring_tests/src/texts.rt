@@ -14,8 +14,6 @@ pub(crate) enum Why {
     Undeclared,
     Unknown,
     Clash,
-    NoMain,
-    Limit,
     /// The text is no unit, or not one of the form that a test asks for.
     Unread,
     NoMemory,

@@ -1,40 +1,95 @@
 //! Whole programs: what they are made of, or why they are none.
 
-use crate::functions::units_of;
-use crate::texts::{Refusal, Why, placeless};
+use hs_base::NoMemory;
+use hs_decl_parser::unit;
+use hs_syntax::Unit;
 use hs_table::built_in;
+use hs_tokens::{Origin, SourceToken, Token, scan};
 use hs_tree::{BoundRoutine, Global as Object};
 use hs_types::FieldId;
 use hs_typing::{ProgramError, Typed, program_of};
-use std::alloc::Global;
+use std::alloc::{AllocFailed, Global};
 use std::test::Fail;
 
-impl From<ProgramError> for Refusal {
-    fn from(why: ProgramError) -> Refusal {
+/// Why a text is no program.
+#[derive(Clone, Copy, Debug, PartialEq, Eq)]
+enum Why {
+    /// A unit is refused.
+    Refused,
+    NoMain,
+    Limit,
+    /// The text is no unit.
+    Unread,
+    NoMemory,
+}
+
+impl From<ProgramError> for Why {
+    fn from(why: ProgramError) -> Why {
         match why {
-            ProgramError::Refused(why) => Refusal::from(why),
-            ProgramError::NoMain => placeless(Why::NoMain),
-            ProgramError::Limit(_) => placeless(Why::Limit),
-            ProgramError::NoMemory => placeless(Why::NoMemory),
+            ProgramError::Refused(_) => Why::Refused,
+            ProgramError::NoMain => Why::NoMain,
+            ProgramError::Limit(_) => Why::Limit,
+            ProgramError::NoMemory => Why::NoMemory,
         }
     }
 }
 
+impl From<NoMemory> for Why {
+    fn from(_refused: NoMemory) -> Why {
+        Why::NoMemory
+    }
+}
+
+impl<T: Drop> From<AllocFailed<T>> for Why {
+    fn from(_refused: AllocFailed<T>) -> Why {
+        Why::NoMemory
+    }
+}
+
+/// Tokens that no macro made.
+fn with_origins(alloc: Global, tokens: Vec<Token>) -> Result<Vec<SourceToken>, Why> {
+    let mut sources = Vec::new(alloc);
+    for token in tokens {
+        sources.push(SourceToken {
+            token,
+            origin: Origin::Plain,
+        })?;
+    }
+    Ok(sources)
+}
+
+/// The tokens of a text.
+fn tokens_of(alloc: Global, text: &[u8]) -> Result<Vec<SourceToken>, Why> {
+    if text.len() > 1000 {
+        return Err(Why::Unread);
+    }
+    let Ok(tokens) = scan(alloc, text, 0, text.len()) else {
+        return Err(Why::Unread);
+    };
+    with_origins(alloc, tokens)
+}
+
+/// The unit that a text is, alone in a list.
+fn units_of(alloc: Global, text: &str) -> Result<Vec<Unit>, Why> {
+    let tokens = tokens_of(alloc, text.as_bytes())?;
+    let Ok(it) = unit(alloc, &tokens) else {
+        return Err(Why::Unread);
+    };
+    let mut units = Vec::new(alloc);
+    units.push(it)?;
+    Ok(units)
+}
+
 /// The program that a text is.
-fn program(alloc: Global, text: &str) -> Result<Typed, Refusal> {
-    let units = units_of(alloc, &[text])?;
+fn program(alloc: Global, text: &str) -> Result<Typed, Why> {
+    let units = units_of(alloc, text)?;
     Ok(program_of(alloc, built_in(alloc)?, &units)?)
 }
 
 /// How many functions the program has, and the number of its `main`.
-fn functions(alloc: Global, text: &str) -> Result<(usize, u32), Refusal> {
+fn functions(alloc: Global, text: &str) -> Result<(usize, u32), Why> {
     let it = program(alloc, text)?;
     Ok((it.functions.len(), it.main))
-}
-
-/// A refusal without a place.
-fn no(why: Why) -> Result<(usize, u32), Refusal> {
-    Err(placeless(why))
 }
 
 // X3.159-1989 2.1.2.2. Own: `main` has no parameters, and gives a number or nothing.
@@ -51,7 +106,7 @@ fn a_program_has_a_main(rt: HostRuntime) -> Result<(), Fail> {
     assert_eq!(rt; functions(alloc, "void main() { }"), Ok((1, 0)));
     assert_eq!(rt;
         functions(alloc, "int f(void) { return 0; }"),
-        no(Why::NoMain)
+        Err(Why::NoMain)
     );
     Ok(())
 }
@@ -61,15 +116,15 @@ fn other_functions_are_no_main(rt: HostRuntime) -> Result<(), Fail> {
     let alloc = rt.alloc();
     assert_eq!(rt;
         functions(alloc, "static int main(void) { return 0; }"),
-        no(Why::NoMain)
+        Err(Why::NoMain)
     );
     assert_eq!(rt;
         functions(alloc, "int main(int a) { return a; }"),
-        no(Why::NoMain)
+        Err(Why::NoMain)
     );
     assert_eq!(rt;
         functions(alloc, "char *main(void) { return 0; }"),
-        no(Why::NoMain)
+        Err(Why::NoMain)
     );
     Ok(())
 }
@@ -80,10 +135,7 @@ fn refusals_come_before_no_main(rt: HostRuntime) -> Result<(), Fail> {
     let alloc = rt.alloc();
     assert_eq!(rt;
         functions(alloc, "int f(void) { return x; }"),
-        Err(Refusal {
-            why: Why::Undeclared,
-            column: 22
-        })
+        Err(Why::Refused)
     );
     Ok(())
 }
@@ -104,15 +156,15 @@ fn the_bytes_of_a_program_are_limited(rt: HostRuntime) -> Result<(), Fail> {
             alloc,
             "char a[16777208]; char *p = \"abcd\"; void main() { }"
         ),
-        no(Why::Limit)
+        Err(Why::Limit)
     );
     assert_eq!(rt;
         functions(alloc, "char a[16777216]; void f() { static char b; }"),
-        no(Why::NoMain)
+        Err(Why::NoMain)
     );
     assert_eq!(rt;
         functions(alloc, "char a[16777216]; void main() { static char b; }"),
-        no(Why::Limit)
+        Err(Why::Limit)
     );
     Ok(())
 }
@@ -129,7 +181,7 @@ fn weighed(its: &[Object]) -> (u32, u32) {
 }
 
 /// The sizes of the objects of a program, one digit each, and how many are marked.
-fn objects(alloc: Global, text: &str) -> Result<(u32, u32), Refusal> {
+fn objects(alloc: Global, text: &str) -> Result<(u32, u32), Why> {
     let it = program(alloc, text)?;
     Ok(weighed(it.globals.items()))
 }
@@ -153,7 +205,7 @@ fn objects_have_their_sizes(rt: HostRuntime) -> Result<(), Fail> {
 }
 
 /// Whether the program takes the addresses of the first and the second field of its first struct.
-fn fields(alloc: Global, text: &str) -> Result<(bool, bool), Refusal> {
+fn fields(alloc: Global, text: &str) -> Result<(bool, bool), Why> {
     let it = program(alloc, text)?;
     let first = it.taken.has(FieldId { of: 0, place: 0 });
     let second = it.taken.has(FieldId { of: 0, place: 1 });
@@ -178,7 +230,7 @@ fn count_of(it: &BoundRoutine) -> Option<usize> {
 }
 
 /// How many routines the program calls, and how many parameters they have.
-fn called(alloc: Global, text: &str) -> Result<(usize, usize), Refusal> {
+fn called(alloc: Global, text: &str) -> Result<(usize, usize), Why> {
     let it = program(alloc, text)?;
     let mut routines = 0usize;
     let mut parameters = 0usize;
