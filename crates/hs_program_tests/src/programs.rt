@@ -69,20 +69,27 @@ fn tokens_of(alloc: Global, text: &[u8]) -> Result<Vec<SourceToken>, Why> {
     with_origins(alloc, tokens)
 }
 
-/// The unit that a text is, alone in a list.
-fn units_of(alloc: Global, text: &str) -> Result<Vec<Unit>, Why> {
+/// The unit that a text is.
+fn parsed(alloc: Global, text: &str) -> Result<Unit, Why> {
     let tokens = tokens_of(alloc, text.as_bytes())?;
-    let Ok(it) = unit(alloc, &tokens) else {
-        return Err(Why::Unread);
-    };
+    match unit(alloc, &tokens) {
+        Ok(it) => Ok(it),
+        Err(_) => Err(Why::Unread),
+    }
+}
+
+/// The units that texts are.
+fn units_of(alloc: Global, texts: &[&str]) -> Result<Vec<Unit>, Why> {
     let mut units = Vec::new(alloc);
-    units.push(it)?;
+    for text in texts {
+        units.push(parsed(alloc, text)?)?;
+    }
     Ok(units)
 }
 
 /// The program that a text is.
 fn program(alloc: Global, text: &str) -> Result<Typed, Why> {
-    let units = units_of(alloc, text)?;
+    let units = units_of(alloc, &[text])?;
     Ok(program_of(alloc, built_in(alloc)?, &units)?)
 }
 
@@ -165,6 +172,33 @@ fn the_bytes_of_a_program_are_limited(rt: HostRuntime) -> Result<(), Fail> {
     assert_eq!(rt;
         functions(alloc, "char a[16777216]; void main() { static char b; }"),
         Err(Why::Limit)
+    );
+    Ok(())
+}
+
+/// Whether two texts, each of which is a unit, are a program.
+fn both(alloc: Global, first: &str, second: &str) -> Result<(), Why> {
+    let units = units_of(alloc, &[first, second])?;
+    let _ = program_of(alloc, built_in(alloc)?, &units)?;
+    Ok(())
+}
+
+// Own: bodies that begin at one place of a file are one type in all units, as those of a header are. Here the file is that of all texts.
+#[test]
+fn a_body_at_one_place_is_one_type(rt: HostRuntime) -> Result<(), Fail> {
+    let alloc = rt.alloc();
+    let first = "struct S { int a; } s;";
+    assert_eq!(rt;
+        both(alloc, first, "struct S { int a; } s; void main() { }"),
+        Ok(())
+    );
+    assert_eq!(rt;
+        both(alloc, first, "struct S { char a; } s; void main() { }"),
+        Err(Why::Refused)
+    );
+    assert_eq!(rt;
+        both(alloc, first, " struct S { int a; } s; void main() { }"),
+        Err(Why::Refused)
     );
     Ok(())
 }

@@ -70,6 +70,7 @@ with_taken_global done (taken.Variable (variable.Global place)) = insert_key nat
 with_taken_global done (taken.Variable (variable.Local place)) = done
 with_taken_global done (taken.Field field) = done
 
+-- in the order of the text; `done` are those before
 abbrev pub taken_globals : List ℕ → List Taken → List ℕ
 taken_globals done [] = done
 taken_globals done (it ∷ rest) = taken_globals (with_taken_global done it) rest
@@ -79,6 +80,7 @@ abbrev pub with_taken_field : List FieldId → Taken → List FieldId
 with_taken_field done (taken.Variable variable) = done
 with_taken_field done (taken.Field field) = insert_key same_field done field
 
+-- in the order of the text; `done` are those before
 abbrev pub taken_fields : List FieldId → List Taken → List FieldId
 taken_fields done [] = done
 taken_fields done (it ∷ rest) = taken_fields (with_taken_field done it) rest
@@ -94,6 +96,7 @@ with_call done it None = done
 with_call done it (Some None) = slice_set done it.routine (Some it.type_id)
 with_call done it (Some (Some id)) = done
 
+-- after all calls; `done` is what those before came to
 abbrev pub first_types : List (Option TypeId) → List RoutineCall → List (Option TypeId)
 first_types done [] = done
 first_types done (it ∷ rest) = first_types (with_call done it (slice_get done it.routine)) rest

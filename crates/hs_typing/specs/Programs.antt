@@ -1,5 +1,9 @@
 -- Typed programs (X3.159-1989 3.7; own where docs/DECISIONS.md says so): what units come to with a table of routines.
 --     typed table units             the program, or why there is none
+--     translated table units        the functions of all units, and what is known then
+--     usable_main types functions main      the number of `main`, if that function can be one
+--     parts_of m                    what the units leave at their end; assembled, the program of these parts
+--     within program                the program, unless it has more bytes than it may have
 --     IsTyped given result          what an answer of the code says of the definition's
 use Rattle.std.specs.Prelude.{◌≡◌, ℕ, ◌==◌, Bool, false, ◌||◌, ◌&&◌, codes, List, [], Option, Some, None, slice_get, Result, Ok, Err, if◌then◌else◌}
 use Rattle.hs_base.specs.Limit.{number_of}
@@ -56,6 +60,7 @@ parts_with m p = (
 abbrev pub parts_of : Translator → Parts
 parts_of m = parts_with m (globals_of (taken_globals [] m.typer.taken) 0 [] m.objects m.typer.types)
 
+-- the program of these parts
 abbrev pub assembled : Parts → List TypedFunction → ℕ → TypedProgram
 assembled (types, globals, literals, routines, taken) functions main =
     record {
@@ -88,6 +93,7 @@ abbrev pub ended : Result (List TypedFunction × Translator) TypeError → Resul
 ended (Err why) = Err (Refused why)
 ended (Ok p) = with_main p.0 p.1 (usable_main p.1.typer.types p.0 (main_number p.1.definitions))
 
+-- what the units are with that table
 abbrev pub typed : List Routine → List (List ExternalDeclaration) → Result TypedProgram ProgramError
 typed table units = ended (translated table units)
 
