@@ -12,7 +12,7 @@ use Rattle.hs_words.specs.declared.command.WordsError.{WordsError}
 use Rattle.hs_words.specs.declared.command.WordsError.TheVariants as ends
 use Rattle.handlecheck.specs.Report.{text_of, Call, Written, IsVerdict, IsReport, IsPutAs, IsPutReport, IsAnswered}
 use Rattle.handlecheck.specs.declared.report.Report.{Report}
-use Rattle.handlecheck.specs.declared.report.Report.TheVariants.{Accepted, Hazards, Refused, Unbuilt, Usage, Missing, Unread, Limited, NoMemory}
+use Rattle.handlecheck.specs.declared.report.Report.TheVariants.{Accepted, Hazards, Refused, NoMain, Unbuilt, Usage, Missing, Unread, Limited, NoMemory}
 use Rattle.handlecheck.specs.declared.status.Status.{Status}
 use Rattle.handlecheck.specs.declared.status.Status.TheVariants as status
 use Rattle.handlecheck.proofs.RightReads.{right_of}
@@ -23,6 +23,7 @@ report_of : (words names : List (List ℕ)) (reads : List Read) (report : Report
 report_of words names reads Accepted is_check is = (names, is_check, is)
 report_of words names reads (Hazards count) is_check is = (names, is_check, is)
 report_of words names reads (Refused refusal) is_check is = (names, is_check, is)
+report_of words names reads NoMain is_check is = (names, is_check, is)
 report_of words names reads Unbuilt is_check is = (names, is_check, is)
 report_of words names reads Usage is_check is = absurd is
 report_of words names reads (Missing name) is_check is = (names, is_check, is)
@@ -49,24 +50,15 @@ answered_by call answer names report right is_check first judged (inr put) = rec
   is_put = put;
 }
 
--- pieces of a line, grouped otherwise
-grouped : (number words file line col : List ℕ)
-    → ((number ++ 32 ∷ words) ++ file) ++ 58 ∷ (line ++ 58 ∷ (col ++ 10 ∷ [])) ≡ (number ++ 32 ∷ (words ++ (file ++ 58 ∷ (line ++ 58 ∷ col)))) ++ 10 ∷ []
-grouped number words file line col =
-    append_assoc (number ++ 32 ∷ words) file (58 ∷ (line ++ 58 ∷ (col ++ 10 ∷ [])))
-    ∙ append_assoc number (32 ∷ words) (file ++ 58 ∷ (line ++ 58 ∷ (col ++ 10 ∷ [])))
-    ∙ sym (append_assoc number (32 ∷ (words ++ (file ++ 58 ∷ (line ++ 58 ∷ col)))) (10 ∷ [])
-    ∙ ap (λ (rest : List ℕ). number ++ 32 ∷ rest)
-    (append_assoc words (file ++ 58 ∷ (line ++ 58 ∷ col)) (10 ∷ [])
-    ∙ ap (λ (rest : List ℕ). words ++ rest)
-    (append_assoc file (58 ∷ (line ++ 58 ∷ col)) (10 ∷ [])
-    ∙ ap (λ (rest : List ℕ). file ++ 58 ∷ rest) (append_assoc line (58 ∷ col) (10 ∷ [])))))
-
--- the pieces of a refusal's line
-pub line_is : (number word file line col : List ℕ)
-    → ((codes "error " ++ number ++ 32 ∷ (word ++ codes " at ")) ++ file) ++ 58 ∷ (line ++ 58 ∷ (col ++ 10 ∷ []))
-    ≡ (codes "error " ++ number ++ 32 ∷ (word ++ codes " at " ++ (file ++ 58 ∷ (line ++ 58 ∷ col)))) ++ 10 ∷ []
-line_is number word file line col = ap (λ (rest : List ℕ). codes "error " ++ rest) (grouped number (word ++ codes " at ") file line col)
+-- the pieces of the text of a fault, grouped otherwise
+pub fault_is : (number word file line col : List ℕ)
+    → ((codes "error " ++ number ++ 32 ∷ (word ++ codes " at ")) ++ file) ++ 58 ∷ (line ++ 58 ∷ col)
+    ≡ codes "error " ++ number ++ 32 ∷ (word ++ codes " at " ++ (file ++ 58 ∷ (line ++ 58 ∷ col)))
+fault_is number word file line col =
+    append_assoc (codes "error " ++ number ++ 32 ∷ (word ++ codes " at ")) file (58 ∷ (line ++ 58 ∷ col))
+    ∙ ap (λ (rest : List ℕ). codes "error " ++ rest)
+    (append_assoc number (32 ∷ (word ++ codes " at ")) (file ++ 58 ∷ (line ++ 58 ∷ col))
+    ∙ ap (λ (rest : List ℕ). number ++ 32 ∷ rest) (append_assoc word (codes " at ") (file ++ 58 ∷ (line ++ 58 ∷ col))))
 
 -- the names that a command has
 abbrev pub asked_names : Command → List (List ℕ)

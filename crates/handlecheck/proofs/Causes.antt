@@ -1,13 +1,11 @@
 -- The causes of each status, from the report that was put: what is so where it came, and where it must come.
-use Rattle.std.proofs.Common.{◌≡◌, ◌⊎◌, ℕ, ◌<◌, List, sym, subst, ◌∙◌, inl, inr, arith, refl, if◌then◌else◌, ◌==◌, false, Some, None, Result, Ok, Err}
-use Rattle.std.proofs.lemmas.Bool.Decides.{nat_tests}
+use Rattle.std.proofs.Common.{◌≡◌, ◌⊎◌, ℕ, ◌<◌, List, sym, subst, ap, ◌∙◌, inl, inr, refl, Result, Ok, Err}
 use Rattle.hs_base.specs.Count.{HasRisen}
 use Rattle.hs_base.specs.Files.{Read}
 use Rattle.hs_base.specs.Reads.{Leads, AreRight}
 use Rattle.hs_base.specs.Sink.{IsPut}
 use Rattle.hs_base.specs.declared.errors.Failed.{Failed}
 use Rattle.hs_base.specs.declared.limit.Limit.{Limit}
-use Rattle.hs_base.specs.declared.pos.Pos.{Pos}
 use Rattle.hs_tree.specs.declared.straight.tree.Straight.{Straight}
 use Rattle.hs_meaning.specs.Straight.Run.{IsSafe}
 use Rattle.hs_meaning.specs.Straight.StaleUses.{HasStaleUses}
@@ -15,18 +13,18 @@ use Rattle.hs_directives.specs.declared.error.ReadError.{ReadError}
 use Rattle.hs_directives.specs.declared.error.ReadError.TheVariants as reading
 use Rattle.hs_directives.specs.declared.source.Source.{Source}
 use Rattle.hs_words.specs.Words.{IsCheck, IsNoCheck}
-use Rattle.hs_checker.specs.Source.{IsTheProgram, SpellsNone, AreParsed, HasSyntaxAt, IsTooDeep}
-use Rattle.handlecheck.specs.Causes.{Spells, IsBut, Checks, AreFaulty, HaveSyntax, ArePast, AreUnread, Headline, HasCauses, IsRejected}
-use Rattle.handlecheck.specs.Faults.{placed_by}
-use Rattle.handlecheck.specs.Report.{text_of, status_of, AreAsked, AreUnbuilt, AreTooDeep, IsReport, Written, IsPutAs, Call, IsAnswered, status_after}
-use Rattle.handlecheck.specs.declared.fault.Fault.{Fault}
+use Rattle.hs_typing.specs.declared.program.ProgramError.TheVariants as program
+use Rattle.hs_checker.specs.Laws.{are_parsed}
+use Rattle.hs_checker.specs.Source.{IsLimitOf}
+use Rattle.handlecheck.specs.Causes.{Spells, IsBut, Checks, AreFaulty, HaveSyntax, AreUntyped, HaveNoMain, AreLimited, AreUnread, Headline, HasCauses, IsRejected}
+use Rattle.handlecheck.specs.Report.{text_of, status_of, AreAsked, AreUnbuilt, IsReport, Written, IsPutAs, Call, IsAnswered, status_after}
 use Rattle.handlecheck.specs.declared.report.Report.{Report}
-use Rattle.handlecheck.specs.declared.report.Report.TheVariants.{Accepted, Hazards, Refused, Unbuilt, Usage, Missing, Unread, Limited, NoMemory}
+use Rattle.handlecheck.specs.declared.report.Report.TheVariants.{Accepted, Hazards, Refused, NoMain, Unbuilt, Usage, Missing, Unread, Limited, NoMemory}
 use Rattle.handlecheck.specs.declared.status.Status.{Status}
 use Rattle.handlecheck.specs.declared.status.Status.TheVariants as status
-use Rattle.handlecheck.proofs.Outcomes.{Agrees, agrees, same_count}
+use Rattle.handlecheck.proofs.Outcomes.{Comes, unread, syntax, deep, untyped, unbuilt, counted, status_by, Agrees, agrees, one_status, hazards_status, faulty_status, typed_status}
 use Rattle.handlecheck.proofs.RightReads.{miss_rose, fault_rose, fault_rose_last}
-use Rattle.handlecheck.proofs.Units.{parsed-no_syntax, parsed-not_deep, syntax-not_deep}
+use Rattle.handlecheck.proofs.Units.{AreUnique}
 
 -- an answer is Unwritten and a fault was counted, or it is the report's status
 pub data IsCause (report : Report) (answer : Status) (old new : Written) : Type 0 where
@@ -40,41 +38,6 @@ cause report answer old new done = go done.put done.is_put done.is_status
         → answer ≡ status_after (status_of report) put → IsCause report answer old new
     go (Ok unit) is_put is_status = whole is_status
     go (Err failed) is_put is_status = cut is_status is_put.2
-
--- a count above 0 is not 0
-pub above-zero : (count : ℕ) → 0 < count → (count == 0) ≡ false
-above-zero count above = grind (arith, nat_tests)
-
--- sources of one outcome
-same_source : (source other : Source) → ◌≡◌ {A = Result Source ReadError} (Ok source) (Ok other) → source ≡ other
-same_source source other same = cc
-
--- a program of the outcome's sources
-spelled : (source other : Source) (tree : Straight) → ◌≡◌ {A = Result Source ReadError} (Ok source) (Ok other) → Spells source tree → Spells other tree
-spelled source other tree same spells = subst (λ (it : Source). Spells it tree) (same_source source other same) spells
-
--- units of the grammar of the outcome's sources
-parsed : (source other : Source) → ◌≡◌ {A = Result Source ReadError} (Ok source) (Ok other) → AreParsed source.units → AreParsed other.units
-parsed source other same are = subst (λ (it : Source). AreParsed it.units) (same_source source other same) are
-
--- a unit of them that is not in the grammar
-refused_at : (source other : Source) (pos : Pos) → ◌≡◌ {A = Result Source ReadError} (Ok source) (Ok other)
-    → HasSyntaxAt source.units pos → HasSyntaxAt other.units pos
-refused_at source other pos same has = subst (λ (it : Source). HasSyntaxAt it.units pos) (same_source source other same) has
-
--- or that nests too deeply
-too_deep : (source other : Source) → ◌≡◌ {A = Result Source ReadError} (Ok source) (Ok other) → IsTooDeep source.units → IsTooDeep other.units
-too_deep source other same is = subst (λ (it : Source). IsTooDeep it.units) (same_source source other same) is
-
--- sources that spell a program do not spell none
-is_none : (source other : Source) (tree : Straight) → ◌≡◌ {A = Result Source ReadError} (Ok source) (Ok other) → IsTheProgram other tree → SpellsNone source → ⊥
-is_none source other tree same program none = subst (λ (it : Source). SpellsNone it) (same_source source other same) none program.0 tree program.1 program.2.0
-
--- a refusal without a place is none with one
-no_place : (error other : ReadError) (place : Fault × Pos) → ◌≡◌ {A = Result Source ReadError} (Err error) (Err other)
-    → placed_by error ≡ Some place → placed_by other ≡ None → ⊥
-no_place error other place same placed none =
-    let equal : error ≡ other = cc in absurd (cc (subst (λ (it : ReadError). placed_by it ≡ Some place) equal placed, none))
 
 -- words that are no command ask for nothing
 no_check : (words names : List (List ℕ)) → IsNoCheck words → IsCheck words names → ⊥
@@ -92,10 +55,11 @@ module _ (call : Call) (answer : Status) (right : AreRight call.told call.before
   -- accepted files are a safe program
   pub headline_by : (report : Report) → ((tree : Straight) → HasStaleUses tree 0 → IsSafe tree)
       → IsReport call.words call.reads report → answer ≡ status_of report → Headline call answer
-  headline_by Accepted safe (names, is_check, (source, read, are, (tree, program, counted))) is_status done =
-      (names, is_check, (source, read, are, (tree, program, safe tree counted)))
+  headline_by Accepted safe (names, is_check, (source, read, have, (tree, program, counted))) is_status done =
+      (names, is_check, (source, read, are_parsed source.units have.1.0 have.1.1, (tree, program, safe tree counted)))
   headline_by (Hazards count) safe is_report is_status done = absurd (cc)
   headline_by (Refused refusal) safe is_report is_status done = absurd (cc)
+  headline_by NoMain safe is_report is_status done = absurd (cc)
   headline_by Unbuilt safe is_report is_status done = absurd (cc)
   headline_by Usage safe is_report is_status done = absurd (cc)
   headline_by (Missing name) safe is_report is_status done = absurd (cc)
@@ -105,114 +69,12 @@ module _ (call : Call) (answer : Status) (right : AreRight call.told call.before
 
   -- ---- where a status must come
 
-  -- if a program is asked for, the answer is that of its count
-  judged : (report : Report) (source : Source) (tree : Straight) (count : ℕ) → Agrees report (Ok source) → AreParsed source.units → Spells source tree
-      → HasStaleUses tree count → answer ≡ status_of report → IsBut (if count == 0 then status.Done else status.Hazards) answer
-  judged Accepted source tree count (other, same, units, (program, is_program, counted')) are spells counted is_status =
-      let none : count ≡ 0 = same_count other tree count 0 (spelled source other tree same spells) counted program is_program counted' in
-      rw none (inl is_status)
-  judged (Hazards number) source tree count (some, (other, same, units, (program, is_program, counted'))) are spells counted is_status =
-      let equal : count ≡ number = same_count other tree count number (spelled source other tree same spells) counted program is_program counted' in
-      rw (above-zero count (rw equal some)) (inl is_status)
-  judged (Refused refusal) source tree count (inl (error, same, place)) are spells counted is_status = absurd cc
-  judged (Refused refusal) source tree count (inr (other, same, has)) are spells counted is_status =
-      absurd (parsed-no_syntax other.units refusal.pos (parsed source other same are) has)
-  judged Unbuilt source tree count (other, same, units, none) are spells counted is_status =
-      let it = spelled source other tree same spells in absurd (none it.0 tree it.1 it.2)
-  judged Usage source tree count is are spells counted is_status = absurd is
-  judged (Missing name) source tree count is are spells counted is_status = absurd cc
-  judged (Unread name) source tree count is are spells counted is_status = absurd is
-  judged (Limited limit) source tree count (inl same) are spells counted is_status = absurd cc
-  judged (Limited limit) source tree count (inr (other, same, deep)) are spells counted is_status =
-      absurd (parsed-not_deep other.units (parsed source other same are) deep)
-  judged NoMemory source tree count is are spells counted is_status = inr (inr is_status)
-
-  -- if reading refuses at a place, so does the answer
-  faulty : (report : Report) (error : ReadError) (place : Fault × Pos) → Agrees report (Err error) → placed_by error ≡ Some place
-      → answer ≡ status_of report → IsBut status.Refused answer
-  faulty Accepted error place (source, same, units, program) placed is_status = absurd cc
-  faulty (Hazards count) error place (some, (source, same, units, program)) placed is_status = absurd cc
-  faulty (Refused refusal) error place is placed is_status = inl is_status
-  faulty Unbuilt error place (source, same, units, none) placed is_status = absurd cc
-  faulty Usage error place is placed is_status = absurd is
-  faulty (Missing name) error place is placed is_status = absurd (no_place error (reading.Missing name) place is placed refl)
-  faulty (Unread name) error place is placed is_status = absurd is
-  faulty (Limited limit) error place (inl same) placed is_status = absurd (no_place error (reading.Limit limit) place same placed refl)
-  faulty (Limited limit) error place (inr (source, same, deep)) placed is_status = absurd cc
-  faulty NoMemory error place is placed is_status = inr (inr is_status)
-
-  -- if a unit is not in the grammar, the answer refuses it
-  syntax : (report : Report) (source : Source) (pos : Pos) → Agrees report (Ok source) → HasSyntaxAt source.units pos
-      → answer ≡ status_of report → IsBut status.Refused answer
-  syntax Accepted source pos (other, same, units, program) has is_status =
-      absurd (parsed-no_syntax other.units pos units (refused_at source other pos same has))
-  syntax (Hazards count) source pos (some, (other, same, units, program)) has is_status =
-      absurd (parsed-no_syntax other.units pos units (refused_at source other pos same has))
-  syntax (Refused refusal) source pos is has is_status = inl is_status
-  syntax Unbuilt source pos is has is_status = inl is_status
-  syntax Usage source pos is has is_status = absurd is
-  syntax (Missing name) source pos is has is_status = absurd cc
-  syntax (Unread name) source pos is has is_status = absurd is
-  syntax (Limited limit) source pos (inl same) has is_status = absurd cc
-  syntax (Limited limit) source pos (inr (other, same, deep)) has is_status =
-      absurd (syntax-not_deep other.units pos (refused_at source other pos same has) deep)
-  syntax NoMemory source pos is has is_status = inr (inr is_status)
-
-  -- if the files are no program, they are refused
-  unbuilt : (report : Report) (source : Source) → Agrees report (Ok source) → AreParsed source.units → SpellsNone source
-      → answer ≡ status_of report → IsBut status.Refused answer
-  unbuilt Accepted source (other, same, units, (program, is_program, counted)) are none is_status = absurd (is_none source other program same is_program none)
-  unbuilt (Hazards count) source (some, (other, same, units, (program, is_program, counted))) are none is_status =
-      absurd (is_none source other program same is_program none)
-  unbuilt (Refused refusal) source is are none is_status = inl is_status
-  unbuilt Unbuilt source is are none is_status = inl is_status
-  unbuilt Usage source is are none is_status = absurd is
-  unbuilt (Missing name) source is are none is_status = absurd cc
-  unbuilt (Unread name) source is are none is_status = absurd is
-  unbuilt (Limited limit) source (inl same) are none is_status = absurd cc
-  unbuilt (Limited limit) source (inr (other, same, deep)) are none is_status = absurd (parsed-not_deep other.units (parsed source other same are) deep)
-  unbuilt NoMemory source is are none is_status = inr (inr is_status)
-
-  -- if a file is missing, the answer says so
-  missing : (report : Report) (name : List ℕ) → Agrees report (Err (reading.Missing name)) → answer ≡ status_of report → IsBut status.Unread answer
-  missing Accepted name (source, same, units, program) is_status = absurd cc
-  missing (Hazards count) name (some, (source, same, units, program)) is_status = absurd cc
-  missing (Refused refusal) name (inl (error, same, (place, placed))) is_status = absurd (no_place error (reading.Missing name) place (sym same) placed refl)
-  missing (Refused refusal) name (inr (source, same, has)) is_status = absurd cc
-  missing Unbuilt name (source, same, units, none) is_status = absurd cc
-  missing Usage name is is_status = absurd is
-  missing (Missing other) name is is_status = inl is_status
-  missing (Unread other) name is is_status = absurd is
-  missing (Limited limit) name (inl same) is_status = absurd cc
-  missing (Limited limit) name (inr (source, same, deep)) is_status = absurd cc
-  missing NoMemory name is is_status = inr (inr is_status)
-
-  -- if a limit is passed, the answer says so
-  past : (report : Report) (limit : Limit) → Agrees report (Err (reading.Limit limit)) → answer ≡ status_of report → IsBut status.Limited answer
-  past Accepted limit (source, same, units, program) is_status = absurd cc
-  past (Hazards count) limit (some, (source, same, units, program)) is_status = absurd cc
-  past (Refused refusal) limit (inl (error, same, (place, placed))) is_status = absurd (no_place error (reading.Limit limit) place (sym same) placed refl)
-  past (Refused refusal) limit (inr (source, same, has)) is_status = absurd cc
-  past Unbuilt limit (source, same, units, none) is_status = absurd cc
-  past Usage limit is is_status = absurd is
-  past (Missing name) limit is is_status = absurd cc
-  past (Unread name) limit is is_status = absurd is
-  past (Limited other) limit is is_status = inl is_status
-  past NoMemory limit is is_status = inr (inr is_status)
-
-  -- if a unit nests too deeply, too
-  deep : (report : Report) (source : Source) → Agrees report (Ok source) → IsTooDeep source.units → answer ≡ status_of report → IsBut status.Limited answer
-  deep Accepted source (other, same, units, program) is is_status = absurd (parsed-not_deep other.units units (too_deep source other same is))
-  deep (Hazards count) source (some, (other, same, units, program)) is is_status = absurd (parsed-not_deep other.units units (too_deep source other same is))
-  deep (Refused refusal) source (inl (error, same, place)) is is_status = absurd cc
-  deep (Refused refusal) source (inr (other, same, has)) is is_status =
-      absurd (syntax-not_deep other.units refusal.pos has (too_deep source other same is))
-  deep Unbuilt source (other, same, units, none) is is_status = absurd (parsed-not_deep other.units units (too_deep source other same is))
-  deep Usage source agreed is is_status = absurd agreed
-  deep (Missing name) source agreed is is_status = absurd cc
-  deep (Unread name) source agreed is is_status = absurd agreed
-  deep (Limited limit) source agreed is is_status = inl is_status
-  deep NoMemory source agreed is is_status = inr (inr is_status)
+  -- if the outcome comes to this, the answer is its status
+  must : (unique : AreUnique) (outcome : Result Source ReadError) (report : Report) (it : Comes Spells outcome) → Agrees report outcome
+      → IsCause report answer call.old call.new → IsBut (status_by it) answer
+  must unique outcome report it (inl none) caused = but report (status_by it) caused (λ is_status. inr (inr (is_status ∙ ap status_of none)))
+  must unique outcome report it (inr said) caused =
+      but report (status_by it) caused (λ is_status. inl (is_status ∙ said.1 ∙ one_status unique outcome said.0 it))
 
   -- ---- what is so where a status came
 
@@ -223,6 +85,7 @@ module _ (call : Call) (answer : Status) (right : AreRight call.told call.before
       (names, is_check, (count, some, program, subst (IsPutAs (text_of (Hazards count)) status.Hazards call.old call.new) came put))
   hazards_only Accepted is_report put came is_status = absurd (cc)
   hazards_only (Refused refusal) is_report put came is_status = absurd (cc)
+  hazards_only NoMain is_report put came is_status = absurd (cc)
   hazards_only Unbuilt is_report put came is_status = absurd (cc)
   hazards_only Usage is_report put came is_status = absurd (cc)
   hazards_only (Missing name) is_report put came is_status = absurd (cc)
@@ -231,11 +94,16 @@ module _ (call : Call) (answer : Status) (right : AreRight call.told call.before
   hazards_only NoMemory is_report put came is_status = absurd (cc)
 
   refused_only : (report : Report) → IsReport call.words call.reads report
-      → answer ≡ status.Refused → answer ≡ status_of report → Checks call (λ names. AreFaulty call names ⊎ HaveSyntax call names ⊎ AreUnbuilt call.reads names)
-  refused_only (Refused refusal) (names, is_check, inl (error, placed, refused, named)) came is_status =
+      → answer ≡ status.Refused → answer ≡ status_of report
+      → Checks call (λ names. AreFaulty call names ⊎ HaveSyntax call names ⊎ AreUntyped call names ⊎ HaveNoMain call names ⊎ AreUnbuilt call.reads names)
+  refused_only (Refused refusal) (names, is_check, inl (error, placed, name, refused, named)) came is_status =
       (names, is_check, inl (error, ((refusal.fault, refusal.pos), placed), refused))
-  refused_only (Refused refusal) (names, is_check, inr (fault, have, named)) came is_status = (names, is_check, inr (inl (refusal.pos, have)))
-  refused_only Unbuilt (names, is_check, none) came is_status = (names, is_check, inr (inr none))
+  refused_only (Refused refusal) (names, is_check, inr (inl (fault, name, have, named))) came is_status =
+      (names, is_check, inr (inl (refusal.pos, have)))
+  refused_only (Refused refusal) (names, is_check, inr (inr (why, placed, come, named))) came is_status =
+      (names, is_check, inr (inr (inl (why, ((refusal.fault, refusal.pos, refusal.name), placed), come))))
+  refused_only NoMain (names, is_check, come) came is_status = (names, is_check, inr (inr (inr (inl come))))
+  refused_only Unbuilt (names, is_check, none) came is_status = (names, is_check, inr (inr (inr (inr none))))
   refused_only Accepted is_report came is_status = absurd (cc)
   refused_only (Hazards count) is_report came is_status = absurd (cc)
   refused_only Usage is_report came is_status = absurd (cc)
@@ -250,6 +118,7 @@ module _ (call : Call) (answer : Status) (right : AreRight call.told call.before
   usage_only Accepted is_report came is_status = absurd (cc)
   usage_only (Hazards count) is_report came is_status = absurd (cc)
   usage_only (Refused refusal) is_report came is_status = absurd (cc)
+  usage_only NoMain is_report came is_status = absurd (cc)
   usage_only Unbuilt is_report came is_status = absurd (cc)
   usage_only (Missing name) is_report came is_status = absurd (cc)
   usage_only (Unread name) is_report came is_status = absurd (cc)
@@ -264,6 +133,7 @@ module _ (call : Call) (answer : Status) (right : AreRight call.told call.before
   usage Accepted (names, is_check, is) none is_status = absurd (no_check call.words names none is_check)
   usage (Hazards count) (names, is_check, is) none is_status = absurd (no_check call.words names none is_check)
   usage (Refused refusal) (names, is_check, is) none is_status = absurd (no_check call.words names none is_check)
+  usage NoMain (names, is_check, is) none is_status = absurd (no_check call.words names none is_check)
   usage Unbuilt (names, is_check, is) none is_status = absurd (no_check call.words names none is_check)
   usage (Missing name) (names, is_check, is) none is_status = absurd (no_check call.words names none is_check)
   usage (Unread name) (names, is_check, is) none is_status = absurd (no_check call.words names none is_check)
@@ -288,18 +158,19 @@ module _ (call : Call) (answer : Status) (right : AreRight call.told call.before
   unread_only Accepted is_report came is_status = absurd (cc)
   unread_only (Hazards count) is_report came is_status = absurd (cc)
   unread_only (Refused refusal) is_report came is_status = absurd (cc)
+  unread_only NoMain is_report came is_status = absurd (cc)
   unread_only Unbuilt is_report came is_status = absurd (cc)
   unread_only Usage is_report came is_status = absurd (cc)
   unread_only (Limited limit) is_report came is_status = absurd (cc)
   unread_only NoMemory is_report came is_status = absurd (cc)
 
   limited_only : (report : Report) → IsReport call.words call.reads report → answer ≡ status.Limited → answer ≡ status_of report
-      → Checks call (λ names. ArePast call names ⊎ AreTooDeep call.reads names)
-  limited_only (Limited limit) (names, is_check, inl is) came is_status = (names, is_check, inl (limit, is))
-  limited_only (Limited limit) (names, is_check, inr (is, same)) came is_status = (names, is_check, inr is)
+      → Checks call (AreLimited call)
+  limited_only (Limited limit) (names, is_check, is) came is_status = (names, is_check, (limit, is))
   limited_only Accepted is_report came is_status = absurd (cc)
   limited_only (Hazards count) is_report came is_status = absurd (cc)
   limited_only (Refused refusal) is_report came is_status = absurd (cc)
+  limited_only NoMain is_report came is_status = absurd (cc)
   limited_only Unbuilt is_report came is_status = absurd (cc)
   limited_only Usage is_report came is_status = absurd (cc)
   limited_only (Missing name) is_report came is_status = absurd (cc)
@@ -311,6 +182,7 @@ module _ (call : Call) (answer : Status) (right : AreRight call.told call.before
   no_cut Accepted came is_status = absurd (cc)
   no_cut (Hazards count) came is_status = absurd (cc)
   no_cut (Refused refusal) came is_status = absurd (cc)
+  no_cut NoMain came is_status = absurd (cc)
   no_cut Unbuilt came is_status = absurd (cc)
   no_cut Usage came is_status = absurd (cc)
   no_cut (Missing name) came is_status = absurd (cc)
@@ -328,28 +200,48 @@ module _ (call : Call) (answer : Status) (right : AreRight call.told call.before
   unwritten_only report (cut unwritten fault) came = fault
   unwritten_only report (whole is_status) came = absurd (no_cut report came is_status)
 
+  -- a limit of the units
+  pub past_by : (unique : AreUnique) (report : Report) (source : Source) (limit : Limit) → Agrees report (Ok source)
+      → IsCause report answer call.old call.new → IsLimitOf source.units limit → IsBut status.Limited answer
+  past_by unique report source limit agreed caused (inl deeply) = must unique (Ok source) report (deep source refl deeply.0) agreed caused
+  past_by unique report source limit agreed caused (inr are) =
+      must unique (Ok source) report (untyped source (program.Limit limit) refl are) agreed caused
+
   -- each status has its cause
-  pub causes_by : (report : Report) → IsReport call.words call.reads report
+  pub causes_by : (unique : AreUnique) (report : Report) → IsReport call.words call.reads report
       → IsPutAs (text_of report) (status_of report) call.old call.new answer
       → IsCause report answer call.old call.new → HasCauses call answer
-  causes_by report is_report put caused = record {
-    accepted = λ source tree asks are spells counted. but report status.Done caused
-        (judged report source tree 0 (agrees call (Ok source) asks right report is_report) are spells counted);
+  causes_by unique report is_report put caused = record {
+    accepted = λ source tree asks have spells has.
+        must unique (Ok source) report (counted source tree 0 refl have spells has) (agrees call (Ok source) asks right report is_report) caused;
     hazards_only = λ came. hazards_only report is_report put came (whole_put report status.Hazards caused came (λ is. absurd cc));
-    hazards = λ source tree count asks are spells counted some. but report status.Hazards caused (λ is_status.
-        rw (above-zero count some) at (judged report source tree count (agrees call (Ok source) asks right report is_report) are spells counted is_status));
+    hazards = λ source tree count asks have spells has some.
+        subst (λ (it : Status). IsBut it answer) (sym (hazards_status count some))
+        (must unique (Ok source) report (counted source tree count refl have spells has) (agrees call (Ok source) asks right report is_report) caused);
     refused_only = λ came. refused_only report is_report came (whole_put report status.Refused caused came (λ is. absurd cc));
     refused = λ error place asks placed.
-        but report status.Refused caused (faulty report error place (agrees call (Err error) asks right report is_report) placed);
-    syntax = λ source pos asks has. but report status.Refused caused (syntax report source pos (agrees call (Ok source) asks right report is_report) has);
-    unbuilt = λ source asks are none. but report status.Refused caused (unbuilt report source (agrees call (Ok source) asks right report is_report) are none);
+        subst (λ (it : Status). IsBut it answer) (faulty_status error place placed)
+        (must unique (Err error) report (unread error refl) (agrees call (Err error) asks right report is_report) caused);
+    syntax = λ source pos asks has.
+        must unique (Ok source) report (syntax source pos refl has) (agrees call (Ok source) asks right report is_report) caused;
+    untyped = λ source why place asks are placed.
+        subst (λ (it : Status). IsBut it answer) (sym (typed_status why place placed))
+        (must unique (Ok source) report (untyped source (program.Refused why) refl are) (agrees call (Ok source) asks right report is_report) caused);
+    no_main = λ source asks are.
+        must unique (Ok source) report (untyped source program.NoMain refl are) (agrees call (Ok source) asks right report is_report) caused;
+    unbuilt = λ source asks have none.
+        must unique (Ok source) report (unbuilt source refl have none) (agrees call (Ok source) asks right report is_report) caused;
     usage_only = λ came. usage_only report is_report came (whole_put report status.Usage caused came (λ is. absurd cc));
     usage = λ none. but report status.Usage caused (usage report is_report none);
     unread_only = λ came. unread_only report is_report came (whole_put report status.Unread caused came (λ is. absurd cc));
-    missing = λ name asks. but report status.Unread caused (missing report name (agrees call (Err (reading.Missing name)) asks right report is_report));
+    missing = λ name asks.
+        must unique (Err (reading.Missing name)) report (unread (reading.Missing name) refl)
+        (agrees call (Err (reading.Missing name)) asks right report is_report) caused;
     limited_only = λ came. limited_only report is_report came (whole_put report status.Limited caused came (λ is. absurd cc));
-    limited = λ limit asks. but report status.Limited caused (past report limit (agrees call (Err (reading.Limit limit)) asks right report is_report));
-    deep = λ source asks is. but report status.Limited caused (deep report source (agrees call (Ok source) asks right report is_report) is);
+    limited = λ limit asks.
+        must unique (Err (reading.Limit limit)) report (unread (reading.Limit limit) refl)
+        (agrees call (Err (reading.Limit limit)) asks right report is_report) caused;
+    past = λ source limit asks is. past_by unique report source limit (agrees call (Ok source) asks right report is_report) caused is;
     unwritten_only = unwritten_only report caused;
   }
 
@@ -362,9 +254,10 @@ headline_of call answer safe answered =
       go (cut unwritten fault) = λ done. absurd (cc)
       go (whole is_status) = headline_by call answer answered.right answered.report safe answered.is_report is_status
 
-pub causes_of : (call : Call) (answer : Status) → IsAnswered call answer → HasCauses call answer
-causes_of call answer answered =
-    causes_by call answer answered.right answered.report answered.is_report answered.is_put (cause answered.report answer call.old call.new answered.is_put)
+pub causes_of : (call : Call) (answer : Status) → AreUnique → IsAnswered call answer → HasCauses call answer
+causes_of call answer unique answered =
+    causes_by call answer answered.right unique answered.report answered.is_report answered.is_put
+    (cause answered.report answer call.old call.new answered.is_put)
 
 -- if the words are no command, nothing is read
 pub nothing_read : {F : Type 0} (leads : F → Read → F → Type 0) (first last : F) (call : Call) (answer : Status)

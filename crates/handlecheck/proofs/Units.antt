@@ -1,10 +1,17 @@
--- Units of the grammar have none that is not in it, and the first that is wrong is so in one way.
-use Rattle.std.proofs.Common.{◌≡◌, List, [], ◌∷◌, ◌++◌, sym, subst, ◌∙◌}
+-- Units of the grammar have none that is not in it, and the first that is wrong is so in one way. Typing them comes to one outcome.
+use Rattle.std.proofs.Common.{◌≡◌, List, [], ◌∷◌, ◌++◌, Result, sym, subst, ap, ap₂, ◌∙◌, refl}
 use Rattle.hs_base.specs.declared.pos.Pos.{Pos}
 use Rattle.hs_tokens.specs.declared.token.SourceToken.{SourceToken}
+use Rattle.hs_syntax.specs.Grammar.{IsUnit}
 use Rattle.hs_syntax.specs.Nesting.{IsShallow}
+use Rattle.hs_syntax.specs.Trees.{TranslationUnit}
 use Rattle.hs_decl_parser.specs.Units.{IsParsed, IsRefusedAt}
-use Rattle.hs_checker.specs.Source.{AreParsed, IsFirst, HasSyntaxAt, IsTooDeep}
+use Rattle.hs_table.specs.Tables.{built_in_table}
+use Rattle.hs_tree.specs.Trees.{TypedProgram}
+use Rattle.hs_typing.specs.Programs.{typed}
+use Rattle.hs_typing.specs.declared.program.ProgramError.{ProgramError}
+use Rattle.hs_checker.specs.Laws.{are_parsed}
+use Rattle.hs_checker.specs.Source.{AreParsed, AreTrees, AreTyped, IsFirst, HasSyntaxAt, IsTooDeep}
 
 -- units with the same front have the same first one and the same others
 first_is : (one other : List SourceToken) (rest behind : List (List SourceToken)) → one ∷ rest ≡ other ∷ behind → one ≡ other
@@ -50,11 +57,11 @@ deep_is_none : (tokens : List SourceToken) → IsParsed tokens → (IsShallow to
 deep_is_none tokens parsed deep = deep parsed.0
 
 -- if all units are of the grammar, none is refused at a place
-pub parsed-no_syntax : (units : List (List SourceToken)) (pos : Pos) → AreParsed units → HasSyntaxAt units pos → ⊥
+parsed-no_syntax : (units : List (List SourceToken)) (pos : Pos) → AreParsed units → HasSyntaxAt units pos → ⊥
 parsed-no_syntax units pos = no_first (λ tokens. IsRefusedAt tokens pos) IsParsed (refused_is_none pos) units
 
 -- and none nests too deeply
-pub parsed-not_deep : (units : List (List SourceToken)) → AreParsed units → IsTooDeep units → ⊥
+parsed-not_deep : (units : List (List SourceToken)) → AreParsed units → IsTooDeep units → ⊥
 parsed-not_deep units = no_first (λ tokens. IsShallow tokens → ⊥) IsParsed deep_is_none units
 
 -- if the first that is wrong is refused at a place, it does not nest too deeply
@@ -62,3 +69,32 @@ pub syntax-not_deep : (units : List (List SourceToken)) (pos : Pos) → HasSynta
 syntax-not_deep units pos =
     no_other (λ tokens. IsRefusedAt tokens pos) (λ tokens. IsShallow tokens → ⊥) (refused_is_none pos) deep_is_none
     (λ tokens refused deep. deep refused.0) units
+
+-- if units are typed, none of them is refused at a place
+pub typed-no_syntax : (units : List (List SourceToken)) (outcome : Result TypedProgram ProgramError) (pos : Pos)
+    → AreTyped units outcome → HasSyntaxAt units pos → ⊥
+typed-no_syntax units outcome pos are = parsed-no_syntax units pos (are_parsed units are.0 are.1)
+
+-- and none nests too deeply
+pub typed-not_deep : (units : List (List SourceToken)) (outcome : Result TypedProgram ProgramError) → AreTyped units outcome → IsTooDeep units → ⊥
+typed-not_deep units outcome are = parsed-not_deep units (are_parsed units are.0 are.1)
+
+-- the grammar is not ambiguous
+abbrev pub AreUnique : Type 0
+AreUnique = (tokens : List SourceToken) (one other : TranslationUnit) → IsUnit tokens one → IsUnit tokens other → one ≡ other
+
+module _ (unique : AreUnique) where
+  -- so the trees of units are known
+  same_trees : (units : List (List SourceToken)) (one other : List TranslationUnit) → AreTrees units one → AreTrees units other → one ≡ other
+  same_trees [] [] [] are too = refl
+  same_trees [] [] (tree ∷ trees) are too = absurd too
+  same_trees [] (tree ∷ trees) other are too = absurd are
+  same_trees (tokens ∷ units) [] other are too = absurd are
+  same_trees (tokens ∷ units) (tree ∷ trees) [] are too = absurd too
+  same_trees (tokens ∷ units) (tree ∷ trees) (tree' ∷ trees') are too =
+      ap₂ (λ (t : TranslationUnit) (ts : List TranslationUnit). t ∷ ts) (unique tokens tree tree' are.1 too.1) (same_trees units trees trees' are.2 too.2)
+
+  -- and what they come to
+  pub same_outcome : (units : List (List SourceToken)) (one other : Result TypedProgram ProgramError) → AreTyped units one → AreTyped units other → one ≡ other
+  same_outcome units one other are too =
+      sym are.2 ∙ ap (typed built_in_table) (same_trees units are.0 too.0 are.1 too.1) ∙ too.2

@@ -3,7 +3,7 @@
 --     Asks call outcome           the words ask for files that are known, and reading gives this outcome
 --     Headline call answer        an accepted program is safe
 --     HasCauses call answer       when each status comes, and when it must come
-use Rattle.std.specs.Prelude.{◌≡◌, ◌⊎◌, ℕ, ◌<◌, List, [], ◌∷◌, Some, Result, Ok, Err}
+use Rattle.std.specs.Prelude.{◌≡◌, ◌⊎◌, ℕ, ◌<◌, List, [], ◌∷◌, Option, Some, Result, Ok, Err}
 use Rattle.hs_base.specs.Count.{HasRisen, IsSteady}
 use Rattle.hs_base.specs.Files.{Listing, Read}
 use Rattle.hs_base.specs.Reads.{OnLast}
@@ -20,9 +20,11 @@ use Rattle.hs_directives.specs.declared.error.ReadError.TheVariants as reading
 use Rattle.hs_directives.specs.declared.source.Source.{Source}
 use Rattle.hs_words.specs.Words.{IsCheck, IsNoCheck}
 use Rattle.hs_checker.specs.Straight.Grammar.{IsStraight}
-use Rattle.hs_checker.specs.Source.{IsTheProgram, SpellsNone, AreParsed, HasSyntaxAt, IsTooDeep}
-use Rattle.handlecheck.specs.Faults.{placed_by}
-use Rattle.handlecheck.specs.Report.{Call, IsPutAs, text_of, HasProgramOf, AreUnbuilt, HaveSyntaxAt, AreTooDeep}
+use Rattle.hs_typer.specs.declared.type_error.TypeError.{TypeError}
+use Rattle.hs_typing.specs.declared.program.ProgramError.TheVariants as program
+use Rattle.hs_checker.specs.Source.{IsTheProgram, SpellsNone, AreParsed, AreTyped, HaveProgram, HasSyntaxAt, IsLimitOf}
+use Rattle.handlecheck.specs.Faults.{placed_by, typed_by}
+use Rattle.handlecheck.specs.Report.{Call, IsPutAs, text_of, HasProgramOf, AreUnbuilt, HaveSyntaxAt, ComeTo, ArePast}
 use Rattle.handlecheck.specs.declared.fault.Fault.{Fault}
 use Rattle.handlecheck.specs.declared.report.Report.TheVariants.{Hazards}
 use Rattle.handlecheck.specs.declared.status.Status.{Status}
@@ -73,6 +75,15 @@ AreFaulty call names =
 abbrev pub HaveSyntax : Call → List (List ℕ) → Type 0
 HaveSyntax call names = (pos : Pos) × HaveSyntaxAt call.reads names pos
 
+-- typing refuses the units, at a place
+abbrev pub AreUntyped : Call → List (List ℕ) → Type 0
+AreUntyped call names =
+    (why : TypeError) × ((place : Fault × Pos × Option (List ℕ)) × (typed_by why ≡ Some place)) × ComeTo (Err (program.Refused why)) call.reads names
+
+-- no unit defines a usable `main`
+abbrev pub HaveNoMain : Call → List (List ℕ) → Type 0
+HaveNoMain call names = ComeTo (Err program.NoMain) call.reads names
+
 -- the file that is asked for last is missing: a miss was counted
 abbrev pub IsMissing : Call → List (List ℕ) → List ℕ → Type 0
 IsMissing call names name = IsRefusedAs call.reads names (reading.Missing name) × HasRisen call.before.misses call.now.misses
@@ -88,34 +99,39 @@ IsUnread call names name =
 abbrev pub AreUnread : Call → List (List ℕ) → Type 0
 AreUnread call names = (name : List ℕ) × (IsMissing call names name ⊎ IsUnread call names name)
 
--- a quantity passed its limit in reading
-abbrev pub ArePast : Call → List (List ℕ) → Type 0
-ArePast call names = (limit : Limit) × IsRefusedAs call.reads names (reading.Limit limit)
+-- a quantity passed its limit, in reading or in the units
+abbrev pub AreLimited : Call → List (List ℕ) → Type 0
+AreLimited call names = (limit : Limit) × (IsRefusedAs call.reads names (reading.Limit limit) ⊎ ArePast limit call.reads names)
 
 -- The causes of each status. A field with `only` in its name says what is so where the status came; its fellow says where
 -- it must come, unless the write failed or memory ran out.
 pub record HasCauses (call : Call) (answer : Status) : Type 0 where
   -- Done
-  pub accepted : (source : Source) (tree : Straight) → Asks call (Ok source) → AreParsed source.units → Spells source tree → HasStaleUses tree 0
+  pub accepted : (source : Source) (tree : Straight) → Asks call (Ok source) → HaveProgram source.units → Spells source tree → HasStaleUses tree 0
       → IsBut status.Done answer
   -- Hazards: a stale use exists, and the number that was put is their count
   pub hazards_only : answer ≡ status.Hazards → Checks call (IsRejected call)
-  pub hazards : (source : Source) (tree : Straight) (count : ℕ) → Asks call (Ok source) → AreParsed source.units → Spells source tree
+  pub hazards : (source : Source) (tree : Straight) (count : ℕ) → Asks call (Ok source) → HaveProgram source.units → Spells source tree
       → HasStaleUses tree count → 0 < count → IsBut status.Hazards answer
-  -- Refused: reading refuses at a place, or a unit is not in the grammar, or the files are no straight program
-  pub refused_only : answer ≡ status.Refused → Checks call (λ names. AreFaulty call names ⊎ HaveSyntax call names ⊎ AreUnbuilt call.reads names)
+  -- Refused: reading refuses at a place, or a unit is not in the grammar, or typing refuses the units, or they have no `main`, or they
+  -- are no straight program
+  pub refused_only : answer ≡ status.Refused
+      → Checks call (λ names. AreFaulty call names ⊎ HaveSyntax call names ⊎ AreUntyped call names ⊎ HaveNoMain call names ⊎ AreUnbuilt call.reads names)
   pub refused : (error : ReadError) (place : Fault × Pos) → Asks call (Err error) → placed_by error ≡ Some place → IsBut status.Refused answer
   pub syntax : (source : Source) (pos : Pos) → Asks call (Ok source) → HasSyntaxAt source.units pos → IsBut status.Refused answer
-  pub unbuilt : (source : Source) → Asks call (Ok source) → AreParsed source.units → SpellsNone source → IsBut status.Refused answer
+  pub untyped : (source : Source) (why : TypeError) (place : Fault × Pos × Option (List ℕ)) → Asks call (Ok source)
+      → AreTyped source.units (Err (program.Refused why)) → typed_by why ≡ Some place → IsBut status.Refused answer
+  pub no_main : (source : Source) → Asks call (Ok source) → AreTyped source.units (Err program.NoMain) → IsBut status.Refused answer
+  pub unbuilt : (source : Source) → Asks call (Ok source) → HaveProgram source.units → SpellsNone source → IsBut status.Refused answer
   -- Usage: the first word is no command, or `clap` refuses the words
   pub usage_only : answer ≡ status.Usage → IsNoCheck call.words
   pub usage : IsNoCheck call.words → IsBut status.Usage answer
   -- Unread: a file is missing, or its read failed
   pub unread_only : answer ≡ status.Unread → Checks call (AreUnread call)
   pub missing : (name : List ℕ) → Asks call (Err (reading.Missing name)) → IsBut status.Unread answer
-  -- Limited: a quantity passed its limit in reading, or a unit nests too deeply
-  pub limited_only : answer ≡ status.Limited → Checks call (λ names. ArePast call names ⊎ AreTooDeep call.reads names)
+  -- Limited: a quantity passed its limit in reading, or a unit nests too deeply, or the objects have too many bytes
+  pub limited_only : answer ≡ status.Limited → Checks call (AreLimited call)
   pub limited : (limit : Limit) → Asks call (Err (reading.Limit limit)) → IsBut status.Limited answer
-  pub deep : (source : Source) → Asks call (Ok source) → IsTooDeep source.units → IsBut status.Limited answer
+  pub past : (source : Source) (limit : Limit) → Asks call (Ok source) → IsLimitOf source.units limit → IsBut status.Limited answer
   -- Unwritten: the sink failed
   pub unwritten_only : answer ≡ status.Unwritten → HasRisen call.old.faults call.new.faults

@@ -1,14 +1,17 @@
 -- What a source is refused for: the number and the word of each fault, and where reading found it. Own to this project.
 --     number_of fault, word_of fault      how a line names it
---     placed_by error                     the fault of a refusal, and its place, if the refusal has one
+--     placed_by error                     the fault of a refusal of reading, and its place, if the refusal has one
+--     typed_by error                      the fault of a refusal of typing, its place, and the name that is told
 use Rattle.std.specs.Prelude.{ℕ, List, codes, Option, Some, None}
 use Rattle.hs_base.specs.declared.pos.Pos.{Pos}
 use Rattle.hs_directives.specs.declared.error.ReadError.{ReadError}
 use Rattle.hs_directives.specs.declared.error.ReadError.TheVariants as reading
 use Rattle.hs_directives.specs.declared.error.ScanKind.TheVariants as scanning
 use Rattle.hs_directives.specs.declared.error.MacroKind.TheVariants as macro
+use Rattle.hs_typer.specs.declared.type_error.TypeError.{TypeError}
+use Rattle.hs_typer.specs.declared.type_error.TypeError.TheVariants as typing
 use Rattle.handlecheck.specs.declared.fault.Fault.{Fault}
-use Rattle.handlecheck.specs.declared.fault.Fault.TheVariants.{BadByte, OpenComment, OpenString, BadMacro, ArgCount, BadDirective, OpenIf, IncludeDepth, BadCondition, Syntax}
+use Rattle.handlecheck.specs.declared.fault.Fault.TheVariants.{BadByte, OpenComment, OpenString, BadMacro, ArgCount, BadDirective, OpenIf, IncludeDepth, BadCondition, Syntax, Untyped, Undeclared, UnknownRoutine, Clash}
 
 -- its number
 abbrev pub number_of : Fault → ℕ
@@ -22,6 +25,10 @@ number_of OpenIf = 7
 number_of IncludeDepth = 8
 number_of BadCondition = 9
 number_of Syntax = 10
+number_of Untyped = 11
+number_of Undeclared = 12
+number_of UnknownRoutine = 13
+number_of Clash = 15
 
 -- its word
 abbrev pub word_of : Fault → List ℕ
@@ -35,6 +42,10 @@ word_of OpenIf = codes "OpenIf"
 word_of IncludeDepth = codes "IncludeDepth"
 word_of BadCondition = codes "BadCondition"
 word_of Syntax = codes "Syntax"
+word_of Untyped = codes "Untyped"
+word_of Undeclared = codes "Undeclared"
+word_of UnknownRoutine = codes "UnknownRoutine"
+word_of Clash = codes "Clash"
 
 -- the fault that a refusal of reading is, and its place
 abbrev pub placed_by : ReadError → Option (Fault × Pos)
@@ -51,3 +62,11 @@ placed_by (reading.Missing name) = None
 placed_by (reading.ReadFault name) = None
 placed_by (reading.Limit limit) = None
 placed_by reading.NoMemory = None
+
+-- the fault that a refusal of typing is, its place, and the name that its line tells, if it tells one
+abbrev pub typed_by : TypeError → Option (Fault × Pos × Option (List ℕ))
+typed_by (typing.Untyped at) = Some (Untyped, at.pos, None)
+typed_by (typing.Undeclared at name) = Some (Undeclared, at.pos, Some name)
+typed_by (typing.UnknownRoutine at name) = Some (UnknownRoutine, at.pos, Some name)
+typed_by (typing.Clash at name) = Some (Clash, at.pos, Some name)
+typed_by typing.NoMemory = None

@@ -7,13 +7,14 @@
 --     IsAnswered call answer      what a call did: the files that it read, and a report that is right, put whole or cut by a
 --                                 write fault
 -- The causes of each status, and the headline, are in `Causes.antt`.
-use Rattle.std.specs.Prelude.{◌≡◌, ◌⊎◌, ℕ, ◌<◌, List, [], ◌∷◌, ◌++◌, codes, map, Option, Some, Result, Ok, Err, IfSome, IsSomeAnd, slice_get}
+use Rattle.std.specs.Prelude.{◌≡◌, ◌⊎◌, ℕ, ◌<◌, List, [], ◌∷◌, ◌++◌, codes, map, Option, Some, None, Result, Ok, Err, IfSome, IsSomeAnd, slice_get}
 use Rattle.std.specs.Fmt.{decimal}
 use Rattle.hs_base.specs.Files.{Listing, Counts, Read}
 use Rattle.hs_base.specs.Limit as limits
 use Rattle.hs_base.specs.Reads.{AreRight}
 use Rattle.hs_base.specs.Sink.{IsPut}
 use Rattle.hs_base.specs.declared.errors.Failed.{Failed}
+use Rattle.hs_base.specs.declared.limit.Limit.{Limit}
 use Rattle.hs_base.specs.declared.pos.Pos.{Pos}
 use Rattle.hs_tree.specs.declared.straight.tree.Straight.{Straight}
 use Rattle.hs_meaning.specs.Straight.StaleUses.{HasStaleUses}
@@ -22,16 +23,19 @@ use Rattle.hs_directives.specs.declared.error.ReadError.{ReadError}
 use Rattle.hs_directives.specs.declared.error.ReadError.TheVariants as reading
 use Rattle.hs_directives.specs.declared.source.Source.{Source}
 use Rattle.hs_words.specs.Words.{IsCheck, IsNoCheck}
-use Rattle.hs_decl_parser.specs.Units.{depth}
-use Rattle.hs_checker.specs.Source.{IsTheProgram, SpellsNone, AreParsed, HasSyntaxAt, IsTooDeep, IsSource}
+use Rattle.hs_tree.specs.Trees.{TypedProgram}
+use Rattle.hs_typer.specs.declared.type_error.TypeError.{TypeError}
+use Rattle.hs_typing.specs.declared.program.ProgramError.{ProgramError}
+use Rattle.hs_typing.specs.declared.program.ProgramError.TheVariants as program
+use Rattle.hs_checker.specs.Source.{IsTheProgram, SpellsNone, AreTyped, HaveProgram, HasSyntaxAt, IsLimitOf, IsSource}
 use Rattle.hs_checker.specs.declared.source.SourceError.{SourceError}
 use Rattle.handlecheck.specs.Names.{Names}
-use Rattle.handlecheck.specs.Faults.{number_of, word_of, placed_by}
+use Rattle.handlecheck.specs.Faults.{number_of, word_of, placed_by, typed_by}
 use Rattle.handlecheck.specs.declared.fault.Fault.{Fault}
 use Rattle.handlecheck.specs.declared.fault.Fault.TheVariants.{Syntax}
 use Rattle.handlecheck.specs.declared.report.Refusal.{Refusal}
 use Rattle.handlecheck.specs.declared.report.Report.{Report}
-use Rattle.handlecheck.specs.declared.report.Report.TheVariants.{Accepted, Hazards, Refused, Unbuilt, Usage, Missing, Unread, Limited, NoMemory}
+use Rattle.handlecheck.specs.declared.report.Report.TheVariants.{Accepted, Hazards, Refused, NoMain, Unbuilt, Usage, Missing, Unread, Limited, NoMemory}
 use Rattle.handlecheck.specs.declared.status.Status.{Status}
 use Rattle.handlecheck.specs.declared.status.Status.TheVariants as status
 
@@ -43,12 +47,21 @@ line text = text ++ 10 ∷ []
 abbrev pub place_of : Refusal → List ℕ
 place_of refusal = refusal.file ++ 58 ∷ (decimal refusal.pos.line ++ 58 ∷ decimal refusal.pos.col)
 
+-- the fault of a refusal and its place
+abbrev pub fault_of : Refusal → List ℕ
+fault_of refusal = codes "error " ++ decimal (number_of refusal.fault) ++ 32 ∷ (word_of refusal.fault ++ codes " at " ++ place_of refusal)
+
+-- a space and the name, if one is told
+abbrev pub name_told : Option (List ℕ) → List ℕ
+name_told None = []
+name_told (Some name) = 32 ∷ name
+
 -- the line that is put for a report
 abbrev pub text_of : Report → List ℕ
 text_of Accepted = line (codes "accepted")
 text_of (Hazards count) = line (codes "hazards " ++ decimal count)
-text_of (Refused refusal) =
-    line (codes "error " ++ decimal (number_of refusal.fault) ++ 32 ∷ (word_of refusal.fault ++ codes " at " ++ place_of refusal))
+text_of (Refused refusal) = line (fault_of refusal ++ name_told refusal.name)
+text_of NoMain = line (codes "error 14 NoMain")
 text_of Unbuilt = line (codes "error 24 Unbuilt")
 text_of Usage = line (codes "usage: handlecheck check|repair|run|gen [options] FILE...")
 text_of (Missing name) = line (codes "missing " ++ name)
@@ -61,6 +74,7 @@ abbrev pub status_of : Report → Status
 status_of Accepted = status.Done
 status_of (Hazards count) = status.Hazards
 status_of (Refused refusal) = status.Refused
+status_of NoMain = status.Refused
 status_of Unbuilt = status.Refused
 status_of Usage = status.Usage
 status_of (Missing name) = status.Unread
@@ -70,22 +84,26 @@ status_of NoMemory = status.NoMemory
 
 -- What follows speaks of the bytes that the reads of a call gave: `IsReadAs` and `IsRefusedAs` say what these come to.
 
--- the named files are one straight program, which has n stale uses; its unit is one of the grammar
+-- the named files are a typed program and one straight program, which has n stale uses
 abbrev pub HasProgramOf : ℕ → List Read → List (List ℕ) → Type 0
 HasProgramOf n reads names =
-    (source : Source) × IsReadAs reads names source × AreParsed source.units × ((tree : Straight) × IsTheProgram source tree × HasStaleUses tree n)
+    (source : Source) × IsReadAs reads names source × HaveProgram source.units × ((tree : Straight) × IsTheProgram source tree × HasStaleUses tree n)
 
--- the named files are read, their units are of the grammar, and they are no straight program
+-- the named files are a typed program, and no straight one
 abbrev pub AreUnbuilt : List Read → List (List ℕ) → Type 0
-AreUnbuilt reads names = (source : Source) × IsReadAs reads names source × AreParsed source.units × SpellsNone source
+AreUnbuilt reads names = (source : Source) × IsReadAs reads names source × HaveProgram source.units × SpellsNone source
 
 -- the named files are read, and of the first unit that is not in the grammar this is the place
 abbrev pub HaveSyntaxAt : List Read → List (List ℕ) → Pos → Type 0
 HaveSyntaxAt reads names pos = (source : Source) × IsReadAs reads names source × HasSyntaxAt source.units pos
 
--- the named files are read, and the first unit that is not in the grammar nests too deeply
-abbrev pub AreTooDeep : List Read → List (List ℕ) → Type 0
-AreTooDeep reads names = (source : Source) × IsReadAs reads names source × IsTooDeep source.units
+-- the named files are read, their units are of the grammar, and typing them comes to this
+abbrev pub ComeTo : Result TypedProgram ProgramError → List Read → List (List ℕ) → Type 0
+ComeTo outcome reads names = (source : Source) × IsReadAs reads names source × AreTyped source.units outcome
+
+-- the named files are read, and their units pass this limit
+abbrev pub ArePast : Limit → List Read → List (List ℕ) → Type 0
+ArePast limit reads names = (source : Source) × IsReadAs reads names source × IsLimitOf source.units limit
 
 -- the names of the files that were read, in their order
 abbrev pub names_of : List Read → List (List ℕ)
@@ -95,12 +113,19 @@ names_of reads = map (λ read. read.name) reads
 -- 0, among the reads of the call.
 abbrev pub IsSyntaxOf : List Read → List (List ℕ) → Refusal → Type 0
 IsSyntaxOf reads names refusal =
-    (refusal.fault ≡ Syntax) × HaveSyntaxAt reads names refusal.pos × (slice_get (names_of reads) refusal.pos.file ≡ Some refusal.file)
+    (refusal.fault ≡ Syntax) × (refusal.name ≡ None) × HaveSyntaxAt reads names refusal.pos
+    × (slice_get (names_of reads) refusal.pos.file ≡ Some refusal.file)
 
 -- reading refuses with this fault at this place, in the file that has the place's number
 abbrev pub IsRefusalOf : List Read → List (List ℕ) → Refusal → Type 0
 IsRefusalOf reads names refusal =
-    (error : ReadError) × (placed_by error ≡ Some (refusal.fault, refusal.pos)) × IsRefusedAs reads names error
+    (error : ReadError) × (placed_by error ≡ Some (refusal.fault, refusal.pos)) × (refusal.name ≡ None) × IsRefusedAs reads names error
+    × (slice_get (names_of reads) refusal.pos.file ≡ Some refusal.file)
+
+-- typing refuses the units with this fault at this place, in the file that has the place's number, and tells this name
+abbrev pub IsTypingOf : List Read → List (List ℕ) → Refusal → Type 0
+IsTypingOf reads names refusal =
+    (why : TypeError) × (typed_by why ≡ Some (refusal.fault, refusal.pos, refusal.name)) × ComeTo (Err (program.Refused why)) reads names
     × (slice_get (names_of reads) refusal.pos.file ≡ Some refusal.file)
 
 -- what a report says of the named files
@@ -109,17 +134,18 @@ abbrev pub IsVerdict : List Read → List (List ℕ) → Report → Type 0
 IsVerdict reads names Accepted = HasProgramOf 0 reads names
 -- they are one, which has so many stale uses
 IsVerdict reads names (Hazards count) = (0 < count) × HasProgramOf count reads names
--- reading refuses them, at a place; or a unit is not in the grammar
-IsVerdict reads names (Refused refusal) = IsRefusalOf reads names refusal ⊎ IsSyntaxOf reads names refusal
--- they are read, their units are of the grammar, and they are no straight program
+-- reading refuses them, at a place; or a unit is not in the grammar; or typing refuses the units
+IsVerdict reads names (Refused refusal) = IsRefusalOf reads names refusal ⊎ IsSyntaxOf reads names refusal ⊎ IsTypingOf reads names refusal
+-- they are typed, and no unit defines a usable `main`
+IsVerdict reads names NoMain = ComeTo (Err program.NoMain) reads names
+-- they are a typed program, and no straight one
 IsVerdict reads names Unbuilt = AreUnbuilt reads names
 -- the file that is asked for last is missing
 IsVerdict reads names (Missing name) = IsRefusedAs reads names (reading.Missing name)
 -- the read of the file that is asked for last failed
 IsVerdict reads names (Unread name) = IsRefusedAs reads names (reading.ReadFault name)
--- a quantity passed its limit: in reading, or the nesting of a unit
-IsVerdict reads names (Limited limit) =
-    IsRefusedAs reads names (reading.Limit limit) ⊎ (AreTooDeep reads names × (limit ≡ depth))
+-- a quantity passed its limit: in reading, or the nesting of a unit, or the bytes of objects
+IsVerdict reads names (Limited limit) = IsRefusedAs reads names (reading.Limit limit) ⊎ ArePast limit reads names
 -- memory ran out: the one answer that may always come
 IsVerdict reads names NoMemory = Unit {0}
 -- no answer on files
@@ -135,11 +161,12 @@ IsReport words reads report = (names : List (List ℕ)) × IsCheck words names �
 abbrev pub AreNoted : Names → List Read → Type 0
 AreNoted noted reads = IfSome noted (λ names. names ≡ names_of reads)
 
--- a refusal with this fault at this place, in the file that has the place's number; or that memory ran out
-abbrev pub IsFaultAt : Names → Fault → Pos → Report → Type 0
-IsFaultAt noted fault pos (Refused refusal) =
-    (refusal.fault ≡ fault) × (refusal.pos ≡ pos) × IsSomeAnd noted (λ names. slice_get names pos.file ≡ Some refusal.file)
-IsFaultAt noted fault pos report = report ≡ NoMemory
+-- a refusal with this fault at this place, in the file that has the place's number, which tells this name; or that memory ran out
+abbrev pub IsFaultAt : Names → Fault → Pos → Option (List ℕ) → Report → Type 0
+IsFaultAt noted fault pos name (Refused refusal) =
+    (refusal.fault ≡ fault) × (refusal.pos ≡ pos) × (refusal.name ≡ name)
+    × IsSomeAnd noted (λ names. slice_get names pos.file ≡ Some refusal.file)
+IsFaultAt noted fault pos name report = report ≡ NoMemory
 
 -- the report of a refusal that has no place
 abbrev pub unplaced : ReadError → Report

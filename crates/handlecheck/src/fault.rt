@@ -1,12 +1,14 @@
 //! What a source is refused for, with the number and the word of each fault.
 
 ghost use Rattle.std.specs.Prelude.{◌≡◌};
-ghost use Rattle.handlecheck.specs.Faults.{number_of, word_of, placed_by};
+ghost use Rattle.handlecheck.specs.Faults.{number_of, word_of, placed_by, typed_by};
 
-use hs_base::Pos;
+use hs_base::{Bytes, Pos};
 use hs_directives::{MacroKind, ReadError, ScanKind};
+use hs_typer::TypeError;
 
-/// What a source is refused for. `docs/READING.md` and `docs/SYNTAX.md` say when each comes, and where it stands.
+/// What a source is refused for, at a place. `docs/READING.md`, `docs/SYNTAX.md` and `docs/TYPING.md` say when each comes, and where it
+/// stands.
 #[derive(Clone, Copy, Debug, PartialEq, Eq)]
 pub enum Fault {
     /// A byte that begins no token, or a malformed escape (X3.159-1989 3.1, 3.1.3.4).
@@ -29,6 +31,14 @@ pub enum Fault {
     BadCondition,
     /// Tokens that are not a translation unit: at the first external declaration that is wrong (3.5 to 3.7).
     Syntax,
+    /// A constraint of C is not met, or a form is left out (3.1 to 3.7).
+    Untyped,
+    /// A name that is not declared (3.3.1).
+    Undeclared,
+    /// A call of a function that is neither defined nor in the table.
+    UnknownRoutine,
+    /// Two declarations that are not compatible, two definitions, or a routine whose declaration does not fit its role (3.1.2.6, 3.7).
+    Clash,
 }
 
 impl Fault {
@@ -47,6 +57,10 @@ impl Fault {
             Fault::IncludeDepth => 8,
             Fault::BadCondition => 9,
             Fault::Syntax => 10,
+            Fault::Untyped => 11,
+            Fault::Undeclared => 12,
+            Fault::UnknownRoutine => 13,
+            Fault::Clash => 15,
         }
     }
 
@@ -67,6 +81,10 @@ impl Fault {
             Fault::IncludeDepth => "IncludeDepth",
             Fault::BadCondition => "BadCondition",
             Fault::Syntax => "Syntax",
+            Fault::Untyped => "Untyped",
+            Fault::Undeclared => "Undeclared",
+            Fault::UnknownRoutine => "UnknownRoutine",
+            Fault::Clash => "Clash",
         }
     }
 }
@@ -89,5 +107,18 @@ pub(crate) fn placed_by(error: &ReadError) -> Option<(Fault, Pos)>
         | ReadError::ReadFault(_)
         | ReadError::Limit(_)
         | ReadError::NoMemory => None,
+    }
+}
+
+/// The fault that a refusal of typing is, its place, and the name that its line tells, if it tells one.
+pub(crate) fn typed_by(error: TypeError) -> Option<(Fault, Pos, Option<Bytes>)>
+    ensures { result ≡ typed_by error }
+{
+    match error {
+        TypeError::Untyped(at) => Some((Fault::Untyped, at.pos, None)),
+        TypeError::Undeclared(at, name) => Some((Fault::Undeclared, at.pos, Some(name))),
+        TypeError::UnknownRoutine(at, name) => Some((Fault::UnknownRoutine, at.pos, Some(name))),
+        TypeError::Clash(at, name) => Some((Fault::Clash, at.pos, Some(name))),
+        TypeError::NoMemory => None,
     }
 }

@@ -9,7 +9,7 @@ ghost use Rattle.hs_checker.specs.Source.{IsSource};
 ghost use Rattle.handlecheck.specs.Names.{Names};
 ghost use Rattle.handlecheck.specs.Report.{AreNoted, IsFaultAt, IsReportOf, IsVerdict, unplaced};
 
-use crate::fault::placed_by;
+use crate::fault::{placed_by, typed_by};
 use crate::file_names::FileNames;
 use crate::named_files::NamedFiles;
 use crate::{Fault, Refusal, Report};
@@ -18,6 +18,7 @@ use hs_checker::{SourceError, check, read_program};
 use hs_decl_parser::ParseError;
 use hs_directives::ReadError;
 use hs_tree::straight::Straight;
+use hs_typer::TypeError;
 use std::alloc::Global;
 
 /// Reads the program of the named files, and notes the names of the files that are read.
@@ -56,18 +57,19 @@ fn read_noting<F: Files>(
     read_named(alloc, &mut named, roots)
 }
 
-/// The report of a fault at a place, with the name of the place's file.
-fn fault_at(alloc: Global, names: &FileNames, fault: Fault, pos: Pos) -> Report
-    ensures { IsFaultAt names.now fault pos result }
+/// The report of a fault at a place, with the name of the place's file, and the name that it tells.
+fn fault_at(alloc: Global, names: &FileNames, fault: Fault, pos: Pos, name: Option<Bytes>) -> Report
+    ensures { IsFaultAt names.now fault pos name result }
 {
-    let Some(name) = names.get(pos.file) else {
+    let Some(file) = names.get(pos.file) else {
         return Report::NoMemory;
     };
-    match name.items().to_vec(alloc) {
+    match file.items().to_vec(alloc) {
         Ok(bytes) => Report::Refused(Refusal {
             fault,
             file: Bytes::from_vec(bytes),
             pos,
+            name,
         }),
         Err(_) => Report::NoMemory,
     }
@@ -90,8 +92,18 @@ fn unparsed(alloc: Global, names: &FileNames, error: ParseError) -> Report
     ensures { IsReportOf names.now (Err (SourceError.Parse error)) result }
 {
     match error {
-        ParseError::Syntax(pos) => fault_at(alloc, names, Fault::Syntax, pos),
+        ParseError::Syntax(pos) => fault_at(alloc, names, Fault::Syntax, pos, None),
         ParseError::Limit(_) | ParseError::NoMemory => Report::NoMemory,
+    }
+}
+
+/// The report of units that typing refuses.
+fn untyped(alloc: Global, names: &FileNames, why: TypeError) -> Report
+    ensures { IsReportOf names.now (Err (SourceError.Typing why)) result }
+{
+    match typed_by(why) {
+        Some((fault, pos, name)) => fault_at(alloc, names, fault, pos, name),
+        None => Report::NoMemory,
     }
 }
 
@@ -101,10 +113,12 @@ fn refused(alloc: Global, names: &FileNames, error: SourceError) -> Report
 {
     match error {
         SourceError::Read(error) => match placed_by(&error) {
-            Some((fault, pos)) => fault_at(alloc, names, fault, pos),
+            Some((fault, pos)) => fault_at(alloc, names, fault, pos, None),
             None => unplaced(error),
         },
         SourceError::Parse(error) => unparsed(alloc, names, error),
+        SourceError::Typing(why) => untyped(alloc, names, why),
+        SourceError::NoMain => Report::NoMain,
         SourceError::Limit(limit) => Report::Limited(limit),
         SourceError::Unbuilt => Report::Unbuilt,
         SourceError::NoMemory => Report::NoMemory,

@@ -1,9 +1,7 @@
 //! The reports, and the line of each.
 
-ghost use Rattle.std.specs.Prelude.{◌≡◌, ◌∷◌, ◌++◌, IfOk, codes};
-ghost use Rattle.std.specs.Fmt.{decimal};
-ghost use Rattle.handlecheck.specs.Faults.{number_of, word_of};
-ghost use Rattle.handlecheck.specs.Report.{line, place_of, text_of, status_of};
+ghost use Rattle.std.specs.Prelude.{◌≡◌, ◌∷◌, ◌++◌, IfOk};
+ghost use Rattle.handlecheck.specs.Report.{fault_of, line, name_told, status_of, text_of};
 
 use crate::{Fault, Status};
 use hs_base::{Bytes, Limit, Pos};
@@ -16,6 +14,8 @@ pub struct Refusal {
     /// The name of the file of the place.
     pub file: Bytes,
     pub pos: Pos,
+    /// The name that is told, of a fault that tells one.
+    pub name: Option<Bytes>,
 }
 
 /// What a call of the program answers. `specs/Report.antt` says what each one means, and what its line is.
@@ -25,9 +25,11 @@ pub enum Report {
     Accepted,
     /// They are one, which has so many stale uses.
     Hazards(u64),
-    /// Reading refuses the files, at a place, or a unit is not in the grammar.
+    /// Reading refuses the files, at a place, or a unit is not in the grammar, or typing refuses the units.
     Refused(Refusal),
-    /// The files are read, and are no straight program.
+    /// The units are typed, and none defines a usable function `main`.
+    NoMain,
+    /// The files are a typed program, and no straight one.
     Unbuilt,
     /// The first word is no command, or the command refuses the words.
     Usage,
@@ -58,19 +60,32 @@ fn named(alloc: Global, word: &str, name: &[u8]) -> Result<Vec<u8>, AllocError>
 }
 
 impl Refusal {
-    /// The line of the refusal.
-    fn text(&self, alloc: Global) -> Result<Vec<u8>, AllocError>
-        ensures { IfOk result (λ text. text.items ≡ line (codes "error " ++ decimal (number_of self.now.fault) ++ 32 ∷ (word_of self.now.fault ++ codes " at " ++ place_of self.now))) }
+    /// The fault and its place.
+    fn placed(&self, alloc: Global) -> Result<Vec<u8>, AllocError>
+        ensures { IfOk result (λ text. text.items ≡ fault_of self.now) }
     {
         let number = self.fault.number();
         let word = self.fault.word();
         let line = self.pos.line;
         let col = self.pos.col;
         let front = format!(in alloc; "error {number} {word} at ")?;
-        let back = format!(in alloc; ":{line}:{col}\n")?;
+        let back = format!(in alloc; ":{line}:{col}")?;
         let mut text = front.as_bytes().to_vec(alloc)?;
         text.extend_from_slice(self.file.items())?;
         text.extend_from_slice(back.as_bytes())?;
+        Ok(text)
+    }
+
+    /// The line of the refusal.
+    fn text(&self, alloc: Global) -> Result<Vec<u8>, AllocError>
+        ensures { IfOk result (λ text. text.items ≡ line (fault_of self.now ++ name_told self.now.name)) }
+    {
+        let mut text = self.placed(alloc)?;
+        if let Some(name) = &self.name {
+            text.push(b' ')?;
+            text.extend_from_slice(name.items())?;
+        }
+        text.push(b'\n')?;
         Ok(text)
     }
 }
@@ -83,7 +98,7 @@ impl Report {
         match self {
             Report::Accepted => Status::Done,
             Report::Hazards(_) => Status::Hazards,
-            Report::Refused(_) | Report::Unbuilt => Status::Refused,
+            Report::Refused(_) | Report::NoMain | Report::Unbuilt => Status::Refused,
             Report::Usage => Status::Usage,
             Report::Missing(_) | Report::Unread(_) => Status::Unread,
             Report::Limited(_) => Status::Limited,
@@ -104,6 +119,7 @@ impl Report {
                 named(alloc, "hazards", digits.as_bytes())
             }
             Report::Refused(refusal) => refusal.text(alloc),
+            Report::NoMain => b"error 14 NoMain\n".to_vec(alloc),
             Report::Unbuilt => b"error 24 Unbuilt\n".to_vec(alloc),
             Report::Usage => USAGE.as_bytes().to_vec(alloc),
             Report::Missing(name) => named(alloc, "missing", name.items()),

@@ -12,6 +12,7 @@ use crate::judge::judge;
 use crate::report::{NO_MEMORY, USAGE};
 use crate::{Report, Status};
 use hs_base::{Files, Sink};
+use hs_decl_parser::units_are_unambiguous;
 use hs_meaning::straight::safe_without_stale_uses;
 use hs_words::{Command, WordsError, command_of};
 use std::alloc::Global;
@@ -149,5 +150,6 @@ pub fn run<F: Files, O: Sink>(alloc: Global, words: &[String], files: &mut F, ou
     }) result) }
 {
     safe_without_stale_uses();
+    units_are_unambiguous();
     answer(alloc, words, files, out)
 }

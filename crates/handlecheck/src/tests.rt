@@ -130,18 +130,168 @@ fn straight_programs_are_accepted_or_their_stale_uses_counted(rt: HostRuntime) -
     Ok(())
 }
 
-// What is read, is of the grammar and is no straight program has one answer.
+// What is a typed program and no straight one has one answer.
 #[test]
 fn other_programs_are_unbuilt(rt: HostRuntime) -> Result<(), Fail> {
     let alloc = rt.alloc();
     let texts = [
-        "",
         "int main(void) { return 0; }",
         "char **NewHandle(long n); void HLock(char **h); void HUnlock(char **h); int putchar(int c); int main(void) { return 1; }",
-        "typedef int T; pascal void f(T) = 0xA9C8; int main(void) { do f((T)1); while (2); return 0; }",
+        "typedef int T; pascal void f(T) = 0xA9C8; void f(T x) { } int main(void) { do f((T)1); while (2); return 0; }",
     ];
     for text in texts {
         assert_eq!(rt; check_text(alloc, text)?.as_str(), "2 error 24 Unbuilt\n");
+    }
+    Ok(())
+}
+
+// X3.159-1989 3.1 to 3.7: a unit that is not typed is refused at the first place, with the name that is not known or does not fit; then
+// `main` is looked for.
+#[test]
+fn units_are_typed(rt: HostRuntime) -> Result<(), Fail> {
+    let alloc = rt.alloc();
+    let rows = [
+        ("", "2 error 14 NoMain\n"),
+        ("static int main(void) { return 0; }", "2 error 14 NoMain\n"),
+        (
+            "int main(void) { return x; }",
+            "2 error 12 Undeclared at main.c:1:25 x\n",
+        ),
+        (
+            "void Foo(void); int main(void) { Foo(); return 0; }",
+            "2 error 13 UnknownRoutine at main.c:1:34 Foo\n",
+        ),
+        (
+            "int main(void) {\n  return *1; }",
+            "2 error 11 Untyped at main.c:2:10\n",
+        ),
+        (
+            "int f(void) { return 1; }\nint f(void) { return y; }",
+            "2 error 15 Clash at main.c:2:5 f\n",
+        ),
+        // The grammar is tried first, in all units.
+        (
+            "int main(void) { return x; } )",
+            "2 error 10 Syntax at main.c:1:30\n",
+        ),
+    ];
+    for (text, line) in rows {
+        assert_eq!(rt; check_text(alloc, text)?.as_str(), line, "{text}");
+    }
+    Ok(())
+}
+
+// X3.159-1989 3.5: what a declaration makes of `v`, by its size in bytes.
+#[test]
+fn declarations_have_their_types(rt: HostRuntime) -> Result<(), Fail> {
+    let alloc = rt.alloc();
+    let rows = [
+        ("char v;", 1),
+        ("short v;", 2),
+        ("unsigned short int v;", 2),
+        ("int v;", 4),
+        ("static const volatile long v = 5;", 4),
+        ("unsigned v;", 4),
+        ("enum { A, B } v;", 4),
+        ("char *v;", 4),
+        ("char **v[3];", 12),
+        ("char (*v)[3];", 4),
+        ("char v[2][3];", 6),
+        ("short v[] = {1, 2, 3};", 6),
+        ("char v[] = \"abc\";", 4),
+        ("char v[sizeof(long)];", 4),
+        ("char v['c' - 'a'];", 2),
+        ("extern char v[]; char v[5];", 5),
+        ("struct { char a; char b; char c; } v;", 3),
+        ("struct { char a; short b; } v;", 4),
+        ("struct { char a; long b; char c; } v;", 8),
+        ("struct { char a; char b[2]; } v;", 4),
+        ("struct { struct { char a; } b; char c; } v;", 2),
+        ("typedef long T[4]; T v;", 16),
+        ("typedef struct S *P; struct S { P next; int a; } v;", 8),
+        ("struct S; extern struct S v; struct S { long a[3]; };", 12),
+        ("char v[16777216];", 16_777_216),
+    ];
+    for (declaration, size) in rows {
+        let text = format!(in alloc;
+            "{declaration} typedef char Check[sizeof v == {size} ? 1 : -1]; int main(void) {{ return 0; }}"
+        )?;
+        assert_eq!(rt;
+            check_text(alloc, text.as_str())?.as_str(),
+            "2 error 24 Unbuilt\n",
+            "{declaration}"
+        );
+    }
+    Ok(())
+}
+
+// X3.159-1989 3.5 and 3.7: declarations that are refused, each in a program that is accepted without its fault.
+#[test]
+fn declarations_are_refused(rt: HostRuntime) -> Result<(), Fail> {
+    let alloc = rt.alloc();
+    let rows = [
+        ("void v;", "2 error 11 Untyped at main.c:1:6\n"),
+        ("static int v[];", "2 error 11 Untyped at main.c:1:12\n"),
+        (
+            "int (*v)(int, char *);",
+            "2 error 11 Untyped at main.c:1:7\n",
+        ),
+        ("char v[16777217];", "2 error 11 Untyped at main.c:1:6\n"),
+        (
+            "enum { A = 2147483647, B };",
+            "2 error 11 Untyped at main.c:1:24\n",
+        ),
+        (
+            "struct { int a; int a; } v;",
+            "2 error 11 Untyped at main.c:1:21\n",
+        ),
+        (
+            "void f(void) { int a; int a; }",
+            "2 error 11 Untyped at main.c:1:27\n",
+        ),
+        (
+            "void f(void) { struct S t; }",
+            "2 error 11 Untyped at main.c:1:25\n",
+        ),
+        ("int v = w;", "2 error 12 Undeclared at main.c:1:9 w\n"),
+        ("int v; char v;", "2 error 15 Clash at main.c:1:13 v\n"),
+        (
+            "int v = 1; int v = 1;",
+            "2 error 15 Clash at main.c:1:16 v\n",
+        ),
+        (
+            "int f(void); int f(int a);",
+            "2 error 15 Clash at main.c:1:18 f\n",
+        ),
+    ];
+    for (declaration, line) in rows {
+        let text = format!(in alloc; "{declaration} int main(void) {{ return 0; }}")?;
+        assert_eq!(rt;
+            check_text(alloc, text.as_str())?.as_str(),
+            line,
+            "{declaration}"
+        );
+    }
+    Ok(())
+}
+
+// The objects of a program have 16777216 bytes, and no more; `main` is looked for first.
+#[test]
+fn objects_have_a_limit(rt: HostRuntime) -> Result<(), Fail> {
+    let alloc = rt.alloc();
+    let rows = [
+        (
+            "char a[16777216]; int main(void) { return 0; }",
+            "2 error 24 Unbuilt\n",
+        ),
+        (
+            "char a[16777216]; int main(void) { static char b; return 0; }",
+            "7 limit Objects 16777216\n",
+        ),
+        ("char a[16777216]; char b;", "2 error 14 NoMain\n"),
+    ];
+    for (text, line) in rows {
+        assert_eq!(rt; check_text(alloc, text)?.as_str(), line, "{text}");
     }
     Ok(())
 }
@@ -238,17 +388,29 @@ fn units(alloc: Global, name: &str, text: &str) -> Result<Outside, Fail> {
     Ok(outside)
 }
 
-// A refusal names the file that it stands in, whichever it is of many; two units are no straight program.
+// A refusal names the file that it stands in, whichever it is of many.
 #[test]
 fn a_refusal_names_its_file(rt: HostRuntime) -> Result<(), Fail> {
     let alloc = rt.alloc();
     let rows = [
-        ("d.h", "@", "2 error 24 Unbuilt\n"),
+        ("d.h", "@", "2 error 14 NoMain\n"),
         ("a.h", "@", "2 error 1 BadByte at a.h:1:1\n"),
         ("b.h", "int\n @", "2 error 1 BadByte at b.h:2:2\n"),
         ("c.h", "#endif", "2 error 6 BadDirective at c.h:1:1\n"),
         ("b.h", "\nint b", "2 error 10 Syntax at b.h:2:1\n"),
         ("c.h", "int c; )", "2 error 10 Syntax at c.h:1:8\n"),
+        ("c.h", "char a;", "2 error 15 Clash at c.h:1:6 a\n"),
+        ("c.h", "int c = d;", "2 error 12 Undeclared at c.h:1:9 d\n"),
+        (
+            "c.h",
+            "int main(void) { return a; }",
+            "2 error 12 Undeclared at c.h:1:25 a\n",
+        ),
+        (
+            "c.h",
+            "int main(void) { return b; }",
+            "2 error 24 Unbuilt\n",
+        ),
         ("b.c", "\n/*", "2 error 2 OpenComment at b.c:2:1\n"),
     ];
     for (name, text, line) in rows {
@@ -276,7 +438,7 @@ fn files_that_give_no_bytes_are_named(rt: HostRuntime) -> Result<(), Fail> {
     outside.failing_reads = vec![in alloc; 6]?;
     assert_eq!(rt;
         outside.answer(alloc, "check|a.c|b.c")?.as_str(),
-        "2 error 24 Unbuilt\n"
+        "2 error 14 NoMain\n"
     );
     let outside = units(alloc, "a.h", "#include \"x.h\"")?;
     assert_eq!(rt;
@@ -336,11 +498,11 @@ fn copies(alloc: Global, text: &str, count: usize) -> Result<String, Fail> {
 fn limits_of_one_file(rt: HostRuntime) -> Result<(), Fail> {
     let alloc = rt.alloc();
     let rows = [
-        ("", " ", 4_194_304, "2 error 24 Unbuilt\n"),
+        ("", " ", 4_194_304, "2 error 14 NoMain\n"),
         ("", " ", 4_194_305, "7 limit FileBytes 4194304\n"),
         ("", ";", 4_000_000, "2 error 10 Syntax at main.c:1:1\n"),
         ("", ";", 4_000_001, "7 limit Scanned 4000000\n"),
-        ("#define a\n", "a ", 1_000_000, "2 error 24 Unbuilt\n"),
+        ("#define a\n", "a ", 1_000_000, "2 error 14 NoMain\n"),
         (
             "#define a\n",
             "a ",
@@ -377,7 +539,7 @@ fn limits_of_many_files(rt: HostRuntime) -> Result<(), Fail> {
         )?;
         assert_eq!(rt; outside.answer(alloc, "check|main.c")?.as_str(), line);
     }
-    for (count, line) in [(255, "2 error 24 Unbuilt\n"), (256, "7 limit Files 256\n")] {
+    for (count, line) in [(255, "2 error 14 NoMain\n"), (256, "7 limit Files 256\n")] {
         let mut outside = Outside::new(alloc);
         let mut main = String::new(alloc);
         for number in 0..count {
@@ -400,7 +562,7 @@ fn a_write_fault_leaves_a_front_of_the_line(rt: HostRuntime) -> Result<(), Fail>
     outside.room = 7;
     assert_eq!(rt;
         outside.answer(alloc, "check|main.c")?.as_str(),
-        "5 error 2"
+        "5 error 1"
     );
     let mut outside = Outside::new(alloc);
     outside.list(alloc, "main.c", "/*")?;

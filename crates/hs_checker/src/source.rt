@@ -6,14 +6,19 @@ ghost use Rattle.hs_base.specs.Files.{NeverFall};
 ghost use Rattle.hs_base.specs.Reads.{Makes, MadeReads};
 ghost use Rattle.hs_directives.specs.Reads.{AreFirstReads};
 ghost use Rattle.hs_directives.specs.declared.source.Source.{Source};
-ghost use Rattle.hs_checker.specs.Source.{IsParsedAs, IsProgramOf, IsSource, IsStraightOf, RefusesAs};
+ghost use Rattle.hs_syntax.specs.Views.{view_unit};
+ghost use Rattle.hs_checker.specs.Source.{IsParsedAs, IsProgramOf, IsSource, IsStraightOf, IsTypedAs, RefusesAs, no_memory};
 
 use crate::straight::read;
 use hs_base::{Files, NoMemory};
 use hs_decl_parser::{ParseError, unit};
 use hs_directives::{ReadError, SourceTokens, preprocess};
+use hs_syntax::Unit;
+use hs_table::built_in;
 use hs_tree::straight::Straight;
-use std::alloc::Global;
+use hs_typer::TypeError;
+use hs_typing::{ProgramError, program_of as typed_program};
+use std::alloc::{AllocFailed, Global};
 
 /// Why the named files give no program.
 #[derive(Debug, Drop)]
@@ -22,12 +27,24 @@ pub enum SourceError {
     Read(ReadError),
     /// A unit is not in the grammar: the first such unit. It is not a limit, and not that memory ran out.
     Parse(ParseError),
+    /// A constraint of C is not met, a name is not known, or declarations do not fit: the first refusal of typing.
+    Typing(TypeError),
+    /// No unit defines a usable function `main`.
+    NoMain,
     /// A quantity passed its limit.
     Limit(hs_base::Limit),
-    /// They are not one unit, or one that is no straight program.
+    /// They are a typed program, and not one unit, or one that is no straight program.
     Unbuilt,
     /// Memory was refused.
     NoMemory,
+}
+
+impl<T: Drop> From<AllocFailed<T>> for SourceError {
+    ghost from_gives = { λ _ e. e ≡ no_memory };
+
+    fn from(_refused: AllocFailed<T>) -> SourceError {
+        SourceError::NoMemory
+    }
 }
 
 /// A refusal of reading, as the error of a source.
@@ -42,18 +59,35 @@ fn refused(error: ReadError) -> SourceError
 }
 
 /// Parses each unit in turn, up to the first that is not in the grammar.
-fn parsed(alloc: Global, units: &[SourceTokens]) -> Result<(), SourceError>
+fn parsed(alloc: Global, units: &[SourceTokens]) -> Result<Vec<Unit>, SourceError>
     ensures { IsParsedAs units.now result }
 {
+    let mut trees = Vec::new(alloc);
     'units: for tokens in units {
         match unit(alloc, tokens.items()) {
-            Ok(_) => {}
+            Ok(tree) => trees.push(tree)?,
             Err(ParseError::Limit(limit)) => return Err(SourceError::Limit(limit)),
             Err(ParseError::Syntax(pos)) => return Err(SourceError::Parse(ParseError::Syntax(pos))),
             Err(ParseError::NoMemory) => return Err(SourceError::NoMemory),
         }
     }
-    Ok(())
+    Ok(trees)
+}
+
+/// Types the units with the built-in table, up to the first refusal.
+fn typed(alloc: Global, trees: &[Unit]) -> Result<(), SourceError>
+    ensures { IsTypedAs (map view_unit trees.now) result }
+{
+    let Ok(table) = built_in(alloc) else {
+        return Err(SourceError::NoMemory);
+    };
+    match typed_program(alloc, table, trees) {
+        Ok(_) => Ok(()),
+        Err(ProgramError::Refused(why)) => Err(SourceError::Typing(why)),
+        Err(ProgramError::NoMain) => Err(SourceError::NoMain),
+        Err(ProgramError::Limit(limit)) => Err(SourceError::Limit(limit)),
+        Err(ProgramError::NoMemory) => Err(SourceError::NoMemory),
+    }
 }
 
 /// The tree of units that are one, whose tokens spell it.
@@ -70,11 +104,12 @@ fn straight_of(alloc: Global, units: &[SourceTokens]) -> Result<Straight, Source
     }
 }
 
-/// The program of units: each is one of the grammar, and they are one, whose tokens spell it.
+/// The program of units: each is one of the grammar, they are a typed program, and they are one, whose tokens spell it.
 fn program_of(alloc: Global, units: &[SourceTokens]) -> Result<Straight, SourceError>
     ensures { (source : Source) → source.units ≡ units.now → IsProgramOf source result }
 {
-    parsed(alloc, units)?;
+    let trees = parsed(alloc, units)?;
+    typed(alloc, &trees)?;
     straight_of(alloc, units)
 }
 
@@ -83,8 +118,8 @@ fn program_of(alloc: Global, units: &[SourceTokens]) -> Result<Straight, SourceE
 /// # Errors
 ///
 /// The first refusal of reading; then, of the first unit that is not in the grammar, the limit of nesting or
-/// [`SourceError::Parse`]; then [`SourceError::Unbuilt`] if the files are not one unit whose tokens spell a straight
-/// program.
+/// [`SourceError::Parse`]; then [`SourceError::Typing`] with the first refusal of typing, [`SourceError::NoMain`], or the limit of
+/// Objects; then [`SourceError::Unbuilt`] if the files are not one unit whose tokens spell a straight program.
 pub fn read_program<F: Files>(
     alloc: Global,
     files: &mut F,

@@ -13,4 +13,4 @@ returns-clause-headline g c =
 
 pub returns-clause-causes : goal.returns-clause-causes
 returns-clause-causes g c =
-    let made = c.answer.ensures.answered in (made.0, made.1, causes_of _ c.answer.result made.2)
+    let made = c.answer.ensures.answered in (made.0, made.1, causes_of _ c.answer.result c.units_are_unambiguous.ensures made.2)
