@@ -1,0 +1,11 @@
+pub mod Blocks
+pub mod Declaring
+pub mod Extending
+pub mod Functions
+pub mod Initialising
+pub mod Moves
+pub mod Moving
+pub mod Places
+pub mod Stating
+pub mod Whole
+pub mod Works
