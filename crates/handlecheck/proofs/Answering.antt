@@ -56,9 +56,7 @@ pub fault_is : (number word file line col : List ℕ)
     ≡ codes "error " ++ number ++ 32 ∷ (word ++ codes " at " ++ (file ++ 58 ∷ (line ++ 58 ∷ col)))
 fault_is number word file line col =
     append_assoc (codes "error " ++ number ++ 32 ∷ (word ++ codes " at ")) file (58 ∷ (line ++ 58 ∷ col))
-    ∙ ap (λ (rest : List ℕ). codes "error " ++ rest)
-    (append_assoc number (32 ∷ (word ++ codes " at ")) (file ++ 58 ∷ (line ++ 58 ∷ col))
-    ∙ ap (λ (rest : List ℕ). number ++ 32 ∷ rest) (append_assoc word (codes " at ") (file ++ 58 ∷ (line ++ 58 ∷ col))))
+    ∙ ap (λ (rest : List ℕ). codes "error " ++ rest) (append_assoc number (32 ∷ (word ++ codes " at ")) (file ++ 58 ∷ (line ++ 58 ∷ col)))
 
 -- the names that a command has
 abbrev pub asked_names : Command → List (List ℕ)

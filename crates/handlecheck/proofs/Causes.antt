@@ -55,8 +55,8 @@ module _ (call : Call) (answer : Status) (right : AreRight call.told call.before
   -- accepted files are a safe program
   pub headline_by : (report : Report) → ((tree : Straight) → HasStaleUses tree 0 → IsSafe tree)
       → IsReport call.words call.reads report → answer ≡ status_of report → Headline call answer
-  headline_by Accepted safe (names, is_check, (source, read, have, (tree, program, counted))) is_status done =
-      (names, is_check, (source, read, are_parsed source.units have.1.0 have.1.1, (tree, program, safe tree counted)))
+  headline_by Accepted safe (names, is_check, (source, read, have, (tree, program, holds))) is_status done =
+      (names, is_check, (source, read, are_parsed source.units have.1.0 have.1.1, (tree, program, safe tree holds)))
   headline_by (Hazards count) safe is_report is_status done = absurd (cc)
   headline_by (Refused refusal) safe is_report is_status done = absurd (cc)
   headline_by NoMain safe is_report is_status done = absurd (cc)

@@ -167,7 +167,7 @@ module _ (call : Call) (outcome : Result Source ReadError) (asks : Asks call out
       inr (counted is.0 is.3.0 count (read_as names is.0 is_check is.1) is.2 is.3.1 is.3.2, hazards_status count some)
   agrees (Refused refusal) (names, is_check, inl is) =
       inr (
-        unread is.0 (refused_as names is.0 is_check is.3.0
+        unread is.0 (refused_as names is.0 is_check is.3
             (placed_refusal (λ listing. preprocessed listing names) asks.files is.0 (refusal.fault, refusal.pos) is.1)),
         placed_status is.0 (refusal.fault, refusal.pos) is.1,
       )
@@ -203,10 +203,10 @@ same_unit one other same = cc
 -- the program that is spelled is the one of which a report speaks, and has its number of stale uses
 same_count : (source : Source) (tree : Straight) (m n : ℕ) → Spells source tree → HasStaleUses tree m
     → (other : Straight) → IsTheProgram source other → HasStaleUses other n → m ≡ n
-same_count source tree m n spells counted other program counted' =
+same_count source tree m n spells holds other program holds' =
     let unit = same_unit spells.0 program.0 (sym spells.1 ∙ program.1) in
     let same : tree ≡ other = program.2.1 tree (subst (λ (tokens : List SourceToken). IsStraight tokens tree) unit spells.2) in
-    IsCountOf-unique IsStaleUse (uses other.steps) m n (subst (λ (t : Straight). HasStaleUses t m) same counted) counted'
+    IsCountOf-unique IsStaleUse (uses other.steps) m n (subst (λ (t : Straight). HasStaleUses t m) same holds) holds'
 
 -- ---- one status
 
