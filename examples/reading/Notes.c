@@ -4,6 +4,8 @@
 
 #define TYPE 'NOTE'
 
+int putchar(int c);
+
 int main(void)
 {
     Handle first;

@@ -41,7 +41,7 @@ use Rattle.hs_types.specs.declared.row.TypeId.{TypeId}
 -- ---- one variable more
 
 -- it is the last one
-types_with : (its : List VariableDecl) (it : VariableDecl) → types_of (its ++ it ∷ []) ≡ types_of its ++ it.type_id ∷ []
+pub types_with : (its : List VariableDecl) (it : VariableDecl) → types_of (its ++ it ∷ []) ≡ types_of its ++ it.type_id ∷ []
 types_with [] it = refl
 types_with (other ∷ its) it = ap (λ rest. other.type_id ∷ rest) (types_with its it)
 
@@ -60,7 +60,7 @@ typed_last id its it =
     ap (λ found. local_as id found (its ++ it ∷ []) (length its)) (at_last its it) ∙ set_last its it (record it { type_id = id })
 
 -- what is known moves on
-local_moves : (m : Translator) (typer : Typer) (locals : List VariableDecl) (id : TypeId) → IsScoped m.typer → Reaches Anything m.typer typer
+pub local_moves : (m : Translator) (typer : Typer) (locals : List VariableDecl) (id : TypeId) → IsScoped m.typer → Reaches Anything m.typer typer
     → IsWhole typer.types id → types_of locals ≡ types_of m.locals ++ id ∷ [] → Moves m (record m { typer = typer; locals = locals })
 local_moves m typer locals id scoped reached whole are =
     record {
@@ -71,7 +71,7 @@ local_moves m typer locals id scoped reached whole are =
     }
 
 -- the variable of a word
-abbrev local_of : Word → TypeId → VariableDecl
+abbrev pub local_of : Word → TypeId → VariableDecl
 local_of word id = record { name = word.text; at = word.place; type_id = id; taken = false }
 
 -- with it

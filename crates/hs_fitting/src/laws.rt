@@ -1,5 +1,6 @@
 //! The laws.
 
+ghost use Rattle.hs_fitting.specs.Units.{FunctionsFit};
 ghost use Rattle.hs_fitting.specs.Extending.{BodiesExtend, DeclarationsExtend};
 ghost use Rattle.hs_fitting.specs.Functions.{FunctionsStand};
 
@@ -19,4 +20,11 @@ pub fn declarations_extend_what_is_known()
 /// A law of typing: the same of the body of a function. The scopes that begin in it have ended.
 pub fn bodies_extend_what_is_known()
     ensures { BodiesExtend }
+{}
+
+/// A law of typing: each function that units define has its parameters among its variables, which are of complete types, and gives nothing or a
+/// value that can be read (X3.159-1989 3.7.1). From the beginning to the end of the units types keep their numbers, and strings, addresses and
+/// calls are noted after the rest.
+pub fn what_is_defined_fits()
+    ensures { FunctionsFit }
 {}
