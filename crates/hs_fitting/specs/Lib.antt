@@ -11,6 +11,7 @@ pub mod KeptOpening
 pub mod KeptTyping
 pub mod Moves
 pub mod Moving
+pub mod Names
 pub mod Passes
 pub mod Places
 pub mod Stating

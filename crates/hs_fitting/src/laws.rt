@@ -1,5 +1,6 @@
 //! The laws.
 
+ghost use Rattle.hs_fitting.specs.Names.{FunctionsAreNamed};
 ghost use Rattle.hs_fitting.specs.Units.{FunctionsFit};
 ghost use Rattle.hs_fitting.specs.Extending.{BodiesExtend, DeclarationsExtend};
 ghost use Rattle.hs_fitting.specs.Functions.{FunctionsStand};
@@ -27,4 +28,10 @@ pub fn bodies_extend_what_is_known()
 /// calls are noted after the rest.
 pub fn what_is_defined_fits()
     ensures { FunctionsFit }
+{}
+
+/// A law of typing: the functions that units define have the names of the definitions that were known before the first declaration, in the same
+/// order. So the number that the calls of a name are bound to is that of a function of this name.
+pub fn functions_have_their_names()
+    ensures { FunctionsAreNamed }
 {}

@@ -5,6 +5,6 @@
 mod laws;
 
 pub use laws::{
-    bodies_extend_what_is_known, declarations_extend_what_is_known, what_is_defined_fits,
-    what_is_stated_stands,
+    bodies_extend_what_is_known, declarations_extend_what_is_known, functions_have_their_names,
+    what_is_defined_fits, what_is_stated_stands,
 };
