@@ -9,10 +9,10 @@ use Rattle.hs_expressions.specs.Expressions.{first_place}
 use Rattle.hs_expressions.specs.Laws.{IsConstant, IsScoped}
 use Rattle.hs_expressions.specs.Laws.Always.{Anything, Reaching}
 use Rattle.hs_expressions.specs.Laws.Leaves.{declare_always}
-use Rattle.hs_expressions.specs.Laws.Reached.{Reaches, reaches_then, reaches_wider, scoped_after}
+use Rattle.hs_expressions.specs.Laws.Reached.{Reaches, reaches_then, scoped_after}
 use Rattle.hs_fitting.specs.Declaring.{either_moved, declare_moved, renamed_moved, renamed_always, new_object_moved, linked_moved, define_object_moved, function_declared_moved, item_moved, front_moved, nothing_named_moved}
 use Rattle.hs_fitting.specs.Initialising.{initialised_always, starting_always}
-use Rattle.hs_fitting.specs.Moves.{IsWhole, Moves}
+use Rattle.hs_fitting.specs.Moves.{any_reaches, IsWhole, Moves}
 use Rattle.hs_fitting.specs.Moving.{Moving, Moved, passes_moved, stops_moved, unless_moved, then_moved, typing_moved}
 use Rattle.hs_fitting.specs.Whole.{WholeGiven, starting_whole}
 use Rattle.hs_initialisers.specs.Initialisers.{initialised, starting}
@@ -78,10 +78,6 @@ local_of word id = record { name = word.text; at = word.place; type_id = id; tak
 abbrev with_local : Word → TypeId → Typer → Translator → Translator
 with_local word id typer m = record m { typer = typer; locals = m.locals ++ local_of word id ∷ [] }
 
--- names of constants are names
-any_reaches : (old new : Typer) → Reaches IsConstant old new → Reaches Anything old new
-any_reaches old new reached = reaches_wider IsConstant Anything (λ it is. tt) old new reached
-
 module _ (m : Translator) (word : Word) (id : TypeId) (scoped : IsScoped m.typer) where
   -- ---- with one
 
@@ -101,7 +97,7 @@ module _ (m : Translator) (word : Word) (id : TypeId) (scoped : IsScoped m.typer
       >> (typing (renamed word (entity.Variable (variable.Local (length m.locals)) its.0)) >> pass (Some (given (length m.locals) word its.1))))
       (with_typer (with_local word id typer m) given_start))
   after_start typer (Ok p) reached more whole =
-      retyped p.0.0 p.0.1 p.1 (reaches_then Anything m.typer typer p.1 reached (any_reaches typer p.1 more)) whole
+      retyped p.0.0 p.0.1 p.1 (reaches_then Anything m.typer typer p.1 reached (any_reaches IsConstant typer p.1 more)) whole
   after_start typer (Err why) reached more whole = tt
 
   with_start : (typer : Typer) (it : Initialising) (b : Bool) → (is_complete typer.types id || is_open typer.types id) ≡ b → Reaches Anything m.typer typer

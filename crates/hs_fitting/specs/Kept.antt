@@ -9,8 +9,9 @@ use Rattle.hs_expressions.specs.Expressions.{enter, ending, prototype}
 use Rattle.hs_expressions.specs.Laws.{IsTagAt, IsScoped, AreOutside}
 use Rattle.hs_expressions.specs.Laws.Always.{Reaching, Always, Anything, gives_always, refuses_always, looks_always, of_types_always, on_types_always, then_always, unevaluated_always, prototype_always, wider_always}
 use Rattle.hs_expressions.specs.Laws.Grown.{Growing, lifted_grows, loaded_grows}
-use Rattle.hs_expressions.specs.Laws.Reached.{IsAllowedAt, Reaches, more_outside, reaches_self, reaches_then, reaches_types, reaches_wider, scoped_after}
+use Rattle.hs_expressions.specs.Laws.Reached.{IsAllowedAt, Reaches, more_outside, reaches_self, reaches_then, reaches_types, scoped_after}
 use Rattle.hs_expressions.specs.Operations.{value_of}
+use Rattle.hs_fitting.specs.Moves.{any_reaches}
 use Rattle.hs_fitting.specs.Stating.{entered_scoped}
 use Rattle.hs_operands.specs.Objects.{loaded}
 use Rattle.hs_operands.specs.Operands.{TypedOperand}
@@ -60,10 +61,6 @@ opened_scoped s outside =
     entered_scoped (record s { keeps = false }) (record { names = outside.names; tags = outside.tags; closed = refl })
 
 -- ---- answers
-
--- names of any sort
-pub any_reaches : (allowed : Entity → Type 0) (old new : Typer) → Reaches allowed old new → Reaches Anything old new
-any_reaches allowed old new reached = reaches_wider allowed Anything (λ it is. tt) old new reached
 
 -- what is known from a place that was reached
 opening_after : {A : Type 0} → (s mid : Typer) (given : Result (A × Typer) TypeError) → Reaches Anything s mid → Opening mid given

@@ -9,7 +9,8 @@ use Rattle.hs_expressions.specs.Laws.Grown.{listed_grows}
 use Rattle.hs_expressions.specs.Laws.Leaves.{string_always, addressed_always, call_with_always, struct_type_always, enumeration_type_always, tagged_struct_always, begun_struct_always, begun_enumeration_always, completed_struct_always, completed_enumeration_always, declare_always}
 use Rattle.hs_expressions.specs.Operations.{address_as, addressed, prefix_object, stepped, routine_call, bound_call, call_with, call_operand}
 use Rattle.hs_expressions.specs.Roles.{fits_role}
-use Rattle.hs_fitting.specs.Kept.{Opening, Both, any_reaches, stays, gives_both, refuses_both, of_types_both, on_types_both, then_both, and_both}
+use Rattle.hs_fitting.specs.Kept.{Opening, Both, stays, gives_both, refuses_both, of_types_both, on_types_both, then_both, and_both}
+use Rattle.hs_fitting.specs.Moves.{any_reaches}
 use Rattle.hs_names.specs.Scopes.{find, find_here}
 use Rattle.hs_operands.specs.Assignments.{called}
 use Rattle.hs_operands.specs.Objects.{object_of}

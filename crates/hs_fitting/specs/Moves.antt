@@ -1,16 +1,18 @@
 -- What is known of a program moves on: types keep their numbers, and what was noted stays.
 --     Moves old new                  from one place of the text to a later one with the same scopes around it
 --     moves_self, moves_then         by no step, and by one after another
+--     any_reaches                    with names of any sort
 --     moves_typer                    by a step of typing
 use Rattle.std.proofs.Common.{◌≡◌, List, [], ◌++◌, IsTrue, is_some, Option, Some, None, refl, sym, ap, ◌∙◌}
 use Rattle.std.specs.List.{AllByRecursion}
 use Rattle.std.proofs.lemmas.List.{append_assoc, append-nil}
 use Rattle.hs_expressions.specs.Laws.{IsScoped}
 use Rattle.hs_expressions.specs.Laws.Always.{Anything}
-use Rattle.hs_expressions.specs.Laws.Reached.{Reaches, all_appended, all_so, reaches_self, reaches_then, scoped_after}
+use Rattle.hs_expressions.specs.Laws.Reached.{Reaches, all_appended, all_so, reaches_self, reaches_then, reaches_wider, scoped_after}
 use Rattle.hs_linkage.specs.declared.translator.Translator.{Translator}
 use Rattle.hs_tree.specs.Fitting.{types_of}
 use Rattle.hs_tree.specs.declared.head.VariableDecl.{VariableDecl}
+use Rattle.hs_typer.specs.declared.typer.Entity.{Entity}
 use Rattle.hs_typer.specs.declared.typer.Typer.{Typer}
 use Rattle.hs_types.specs.Growing.{layout_stays}
 use Rattle.hs_types.specs.TypeTables.{TypeTable, Grows, layout_of, is_complete}
@@ -57,6 +59,10 @@ locals_then types later first second third grows before after =
       whole = all_appended (IsWhole later) before.more after.more
           (all_so (IsWhole types) (IsWhole later) (λ id is. whole_stays types later id grows is) before.more before.whole) after.whole;
     }
+
+-- names of an allowed sort are names of any sort
+pub any_reaches : (allowed : Entity → Type 0) (old new : Typer) → Reaches allowed old new → Reaches Anything old new
+any_reaches allowed old new reached = reaches_wider allowed Anything (λ it is. tt) old new reached
 
 -- by no step
 pub moves_self : (m : Translator) → IsScoped m.typer → Moves m m

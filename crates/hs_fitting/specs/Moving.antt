@@ -6,8 +6,7 @@ use Rattle.std.proofs.Common.{Bool, true, false, Result, Ok, Err, if◌then◌el
 use Rattle.hs_expressions.specs.Laws.{IsScoped}
 use Rattle.hs_expressions.specs.Laws.Always as typing_law
 use Rattle.hs_expressions.specs.Laws.Always.{Anything, Reaching}
-use Rattle.hs_expressions.specs.Laws.Reached.{reaches_wider}
-use Rattle.hs_fitting.specs.Moves.{Moves, moves_self, moves_then, moves_typer}
+use Rattle.hs_fitting.specs.Moves.{Moves, any_reaches, moves_self, moves_then, moves_typer}
 use Rattle.hs_linkage.specs.Works.{Work, work_with, ◌>>=◌, ◌>>◌, pass, stop, typing, with_typer, knowing, same_work, unless}
 use Rattle.hs_linkage.specs.declared.translator.Translator.{Translator}
 use Rattle.hs_typer.specs.Steps.{Step}
@@ -35,7 +34,7 @@ moving_with next m (Err why) before after = tt
 
 moving_typer : {A : Type 0} → (allowed : Entity → Type 0) (m : Translator) (given : Result (A × Typer) TypeError) → IsScoped m.typer
     → Reaching allowed m.typer given → Moving m (with_typer m given)
-moving_typer allowed m (Ok p) scoped reached = moves_typer m p.1 scoped (reaches_wider allowed Anything (λ it is. tt) m.typer p.1 reached)
+moving_typer allowed m (Ok p) scoped reached = moves_typer m p.1 scoped (any_reaches allowed m.typer p.1 reached)
 moving_typer allowed m (Err why) scoped reached = tt
 
 moving_same : {A : Type 0} → (m : Translator) (given : Result A TypeError) → IsScoped m.typer → Moving m (same_work m given)
