@@ -1,13 +1,10 @@
 -- Worked expressions on the definition, by computation.
-use Rattle.std.proofs.Common.{◌≡◌, ℕ, false, true, List, [], ◌∷◌, None, Some, Result, Ok, Err, refl}
+use Rattle.std.proofs.Common.{◌≡◌, ℕ, true, List, [], ◌∷◌, Result, Ok, Err, refl}
 use Rattle.std.specs.Prelude.{codes}
-use Rattle.hs_base.specs.declared.pos.Pos.{Pos}
 use Rattle.hs_expressions.specs.Expressions.{typed, derivations}
-use Rattle.hs_expressions.specs.Operations.{value_of}
 use Rattle.hs_typer.specs.Steps.{beginning}
 use Rattle.hs_typer.specs.declared.type_error.TypeError.{TypeError}
 use Rattle.hs_typer.specs.declared.type_error.TypeError.TheVariants.{Untyped, Undeclared}
-use Rattle.hs_typer.specs.declared.typer.Entity.{Entity}
 use Rattle.hs_typer.specs.declared.typer.Entity.TheVariants as entity
 use Rattle.hs_typer.specs.declared.typer.Taken.TheVariants as taken
 use Rattle.hs_typer.specs.declared.typer.Typer.{Typer}
@@ -18,7 +15,6 @@ use Rattle.hs_syntax.specs.Trees as syntax
 use Rattle.hs_syntax.specs.Trees.{Expression, NamedType, Declared}
 use Rattle.hs_syntax.specs.declared.operators.Basic.TheVariants as basic
 use Rattle.hs_syntax.specs.declared.operators.BinaryOperator.TheVariants as binary
-use Rattle.hs_syntax.specs.declared.operators.Pointer.TheVariants as pointer
 use Rattle.hs_syntax.specs.declared.operators.PrefixOperator.TheVariants as prefix
 use Rattle.hs_syntax.specs.declared.word.Word.{Word}
 use Rattle.hs_tokens.specs.declared.place.Place.{Place}

@@ -20,6 +20,7 @@ use Rattle.hs_operands.specs.declared.operand.Bound.TheVariants as bound
 use Rattle.hs_syntax.specs.Trees.{Expression}
 use Rattle.hs_tree.specs.Classes.{is_taken}
 use Rattle.hs_tree.specs.Fitting.{declared, is_taken_variable, types_of, prototype_in, InRange, FitsFunction, FitsRoutine, IsMarked}
+use Rattle.hs_tree.specs.Kinds.{AreAlike}
 use Rattle.hs_tree.specs.Inside.{Node, EachRight, EachLeft}
 use Rattle.hs_tree.specs.Trees.{TypedFunction, TypedProgram}
 use Rattle.hs_tree.specs.declared.function.Prototype.{Prototype}
@@ -54,13 +55,25 @@ abbrev pub IsSignature : TypeTable → TypeId → List TypeId → TypeId → Typ
 IsSignature types id parameters result =
     (list : ListId) × (row_of types id ≡ Some (row.Function result list)) × IsList types list parameters
 
--- a defined function of that type
-abbrev pub IsDefined : TypeTable → TypeId → Option TypedFunction → Type 0
-IsDefined types id None = ⊥
-IsDefined types id (Some its) = IsSignature types id (types_of (take its.parameters its.variables)) its.result
+-- as many types, each like the other one
+abbrev pub AllAlike : TypeTable → List TypeId → List TypeId → Type 0
+AllAlike types [] [] = Unit {0}
+AllAlike types [] (other ∷ others) = ⊥
+AllAlike types (one ∷ ones) [] = ⊥
+AllAlike types (one ∷ ones) (other ∷ others) = AreAlike types one other × AllAlike types ones others
+
+-- the type is that of a function with parameters and a result like these, by the types of the program
+abbrev pub IsLike : TypeTable → TypeTable → TypeId → List TypeId → TypeId → Type 0
+IsLike within types id parameters result =
+    (its : List TypeId) × ((gives : TypeId) × IsSignature types id its gives × AllAlike within its parameters × AreAlike within gives result)
+
+-- a defined function of a type like that
+abbrev pub IsDefined : TypeTable → TypeTable → TypeId → Option TypedFunction → Type 0
+IsDefined within types id None = ⊥
+IsDefined within types id (Some its) = IsLike within types id (types_of (take its.parameters its.variables)) its.result
 
 abbrev pub BindsAs : TypedProgram → TypeTable → TypeId → Bound → Type 0
-BindsAs program types id (bound.Function number) = IsDefined types id (slice_get program.functions number)
+BindsAs program types id (bound.Function number) = IsDefined program.types types id (slice_get program.functions number)
 BindsAs program types id (bound.Routine number) = number < length program.routines
 BindsAs program types id bound.Nothing = Unit {0}
 
@@ -74,13 +87,13 @@ BindsName program function types (entity.Typedef id) = Unit {0}
 abbrev pub Binds : TypedProgram → TypedFunction → Typer → Type 0
 Binds program function s = AllByRecursion (λ it. BindsName program function s.types it.entity) s.names.declarations
 
--- the declaration of a routine that is called is the program's
-abbrev pub IsPrototype : TypeTable → TypeId → Option Prototype → Type 0
-IsPrototype types id None = ⊥
-IsPrototype types id (Some its) = IsSignature types id its.parameters its.result
+-- the declaration of a routine that is called is like the program's
+abbrev pub IsPrototype : TypeTable → TypeTable → TypeId → Option Prototype → Type 0
+IsPrototype within types id None = ⊥
+IsPrototype within types id (Some its) = IsLike within types id its.parameters its.result
 
 abbrev pub IsNotedCall : TypedProgram → TypeTable → RoutineCall → Type 0
-IsNotedCall program types call = IsPrototype types call.type_id (prototype_in (slice_get program.routines call.routine))
+IsNotedCall program types call = IsPrototype program.types types call.type_id (prototype_in (slice_get program.routines call.routine))
 
 -- what the address is taken of is marked
 abbrev pub IsNotedAddress : TypedProgram → TypedFunction → Taken → Type 0

@@ -14,7 +14,7 @@ use Rattle.hs_names.specs.Scopes.{Scoped, Declared}
 use Rattle.hs_operands.specs.Laws.{IsTypedOperand}
 use Rattle.hs_operands.specs.Operands.{TypedOperand}
 use Rattle.hs_syntax.specs.Trees.{Expression}
-use Rattle.hs_tree.specs.Fitting.{declared, type_in}
+use Rattle.hs_tree.specs.Fitting.{IsOfType}
 use Rattle.hs_tree.specs.Trees.{TypedFunction, TypedProgram}
 use Rattle.hs_types.specs.TypeTables.{IsRight, Grows}
 pub mod Always
@@ -77,7 +77,7 @@ pub record IsScoped (s : Typer) : Type 0 where
 -- the name of an object means a variable of the program, of that type
 abbrev pub IsKnown : TypedProgram → TypedFunction → Entity → Type 0
 IsKnown program function (entity.Constant bits) = Unit {0}
-IsKnown program function (entity.Variable variable id) = type_in (declared program function variable) ≡ Some id
+IsKnown program function (entity.Variable variable id) = IsOfType program function variable id
 IsKnown program function (entity.Function id bound) = Unit {0}
 IsKnown program function (entity.Typedef id) = Unit {0}
 

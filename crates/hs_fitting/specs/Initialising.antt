@@ -4,7 +4,7 @@ use Rattle.std.proofs.Common.{ℕ, Bool, true, false, ◌&&◌, List, [], ◌∷
 use Rattle.hs_expressions.specs.Laws.{IsConstant, IsScoped}
 use Rattle.hs_expressions.specs.Laws.Always.{Always, Reaching, gives_always, refuses_always, looks_always, of_types_always, on_types_always, then_always, value_always}
 use Rattle.hs_expressions.specs.Laws.Extending.{typed_always}
-use Rattle.hs_expressions.specs.Laws.Grown.{Growing, arrayed_grows}
+use Rattle.hs_expressions.specs.Laws.Grown.{Growing, arrayed_grows, end_grows}
 use Rattle.hs_initialisers.specs.Aggregates.{text_kind, fresh, reached, Reached, whole, count_begun, takes}
 use Rattle.hs_initialisers.specs.Initialisers.{Filled, part_of, text_of, is_string, lone_string, scalar, excess, simple, placed_value, whole_at, text_filled, text_or, placed, all_placed, braced, all_of, sized_by, sized, alone, listed, initialised, assigned_start, constant_start, starting, with_parts}
 use Rattle.hs_initialisers.specs.InlineWords.{inline_word, inline_in_list, inline_list, inline_words}
@@ -81,11 +81,6 @@ braced_always it done its =
     text_or_always (lone_string its) it done (all_placed (done, fresh it ∷ []) its) (all_placed_always (done, fresh it ∷ []) its)
 
 -- the type of the object
-end_grows : {A : Type 0} → (at : Place) (types : TypeTable) (given : Result (A × TypeTable) TypeEnd) → Growing types given
-    → Growing types (untyped_end at given)
-end_grows at types (Ok p) grows = grows
-end_grows at types (Err why) grows = tt
-
 sized_by_grows : (at : Place) (id : TypeId) (count : ℕ) (it : Option Row) (types : TypeTable) → Growing types (sized_by at id count it types)
 sized_by_grows at id count None types = grows_self types
 sized_by_grows at id count (Some row.Void) types = grows_self types

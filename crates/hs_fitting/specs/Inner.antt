@@ -11,7 +11,7 @@ use native.Mathlib.Numerals.{unary_clauses}
 use Rattle.hs_expressions.specs.Expressions.{enter, leave}
 use Rattle.hs_expressions.specs.Laws.{HasMore, IsScoped}
 use Rattle.hs_expressions.specs.Laws.Always.{Anything}
-use Rattle.hs_expressions.specs.Laws.Reached.{IsAllowedAt, Reaches, all_so, more_one, more_self, outside_more, reaches_named, reaches_then, scoped_after}
+use Rattle.hs_expressions.specs.Laws.Reached.{IsAllowedAt, Reaches, all_so, is_other, is_same, more_one, more_self, outside_more, pred_suc, reaches_named, reaches_then, scoped_after}
 use Rattle.hs_expressions.specs.Laws.{IsTagAt}
 use Rattle.hs_fitting.specs.Moves.{HasLocals, Moves, locals_then}
 use Rattle.hs_fitting.specs.Stating.{entered_scoped, left_reaches, left_scoped}
@@ -42,17 +42,6 @@ inner_moves m mid first second inner moves =
     }
 
 -- ---- a name around it
-
-is_other : (n m : ℕ) (b : Bool) → (n == suc m) ≡ b → n ≤ m → b ≡ false
-is_other n m false is at_most = refl
-is_other n m true is at_most = absurd (grind (arith, nat_tests, is, at_most))
-
-is_same : (n m : ℕ) (b : Bool) → (n == m) ≡ b → n ≡ m → b ≡ true
-is_same n m true is same = refl
-is_same n m false is same = absurd (grind (arith, nat_tests, is, same))
-
-pred_suc : (n : ℕ) → suc n - 1 ≡ n
-pred_suc n = simp unary_clauses refl
 
 module _ {E : Type 0} where
   -- the declarations of the scope

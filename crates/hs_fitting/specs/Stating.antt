@@ -8,7 +8,7 @@ use Rattle.hs_declarations.specs.Declarations.{block_declared}
 use Rattle.hs_expressions.specs.Expressions.{typed, enter, leave, first_place}
 use Rattle.hs_expressions.specs.Operations.{value_of}
 use Rattle.hs_expressions.specs.Laws.{HasMore, IsConstant, IsTagAt, IsScoped, AreOutside}
-use Rattle.hs_expressions.specs.Laws.Always.{Anything, value_always, of_types_always}
+use Rattle.hs_expressions.specs.Laws.Always.{Anything, deeper, value_always, of_types_always}
 use Rattle.hs_expressions.specs.Laws.Extending.{typed_always}
 use Rattle.hs_expressions.specs.Laws.Reached.{IsAllowedAt, Reaches, all_so, left_entered}
 use Rattle.hs_fitting.specs.Blocks.{block_declared_moved}
@@ -38,14 +38,6 @@ use Rattle.hs_types.specs.declared.integer.Integer.{Integer}
 use Rattle.hs_types.specs.declared.row.TypeId.{TypeId}
 
 -- ---- scopes
-
--- a scope that begins has no declarations inside it
-deeper : {E : Type 0} → (level : ℕ) (its : List (Declared E)) → AllByRecursion (λ it. it.level ≤ level) its
-    → AllByRecursion (λ it. it.level ≤ suc level) its
-deeper level its are = all_so (λ it. it.level ≤ level) (λ it. it.level ≤ suc level) (λ it is. one it.level is) its are
-  where
-    one : (n : ℕ) → n ≤ level → n ≤ suc level
-    one n is = omega (arith, is)
 
 pub entered_scoped : (s : Typer) → IsScoped s → IsScoped (enter s)
 entered_scoped s scoped =

@@ -238,6 +238,7 @@ unless_unfit (Some it) = stop (Clash it.at it.name)
 abbrev pub rechecked_all : List External → Work (Unit {0})
 rechecked_all its m = unless_unfit (unfit m.typer.types m.typer.origins its its) m
 
--- At the end of a unit each of its declarations with linkage fits the others, now that its tags have got their bodies (own).
+-- At the end of a unit each of its declarations with external linkage fits the others of its name, now that its tags have got their bodies,
+-- and so does each one of a function that is bound to a routine (own).
 abbrev pub rechecked : Work (Unit {0})
 rechecked m = (rechecked_all m.externals >> rechecked_all m.routines) m

@@ -110,8 +110,9 @@ fn must_fit(alloc: Global, m: &Translator, its: &Externals) -> Result<(), TypeEr
     }
 }
 
-/// Refuses the first declaration with linkage of the unit that does not fit another one, in any unit, now that the tags of the unit have
-/// got their bodies (own).
+/// Refuses the first declaration of the unit with external linkage that does not fit another one of its name, in any unit, now that the
+/// tags of the unit have got their bodies, or else the first one of a function that is bound to a routine (own). Other declarations with
+/// internal linkage are not looked at again: they stand in one unit, where a tag is one type before and after its body.
 ///
 /// Example: `struct S; extern struct S *p; struct S { char b; };` after another unit with another body of `S` and the same `p`.
 pub fn rechecked(alloc: Global, m: &Translator) -> Result<(), TypeError>

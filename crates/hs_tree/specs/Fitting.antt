@@ -9,7 +9,7 @@ use Rattle.std.specs.Prelude.{◌≡◌, ◌≤◌, ◌<◌, ℕ, Bool, true, fa
 use Rattle.std.specs.List.{AllByRecursion}
 use Rattle.hs_table.specs.declared.routine.Routine.{Routine}
 use Rattle.hs_tree.specs.Classes.{is_taken}
-use Rattle.hs_tree.specs.Kinds.{number_kind, pointed, element, array_length, is_number, is_void, is_readable, IsNumber, IsAnyNumber, IsPointer, IsPointerTo, IsStruct, IsScalar, IsReadable, IsPointerToSize}
+use Rattle.hs_tree.specs.Kinds.{AreAlike, number_kind, pointed, element, array_length, is_number, is_void, is_readable, IsNumber, IsAnyNumber, IsPointer, IsPointerTo, IsStruct, IsScalar, IsReadable, IsPointerToSize}
 use Rattle.hs_tree.specs.Roles.{FitsRole}
 use Rattle.hs_tree.specs.Trees as tree
 use Rattle.hs_tree.specs.Trees.{RightValue, LeftValue, RightValues, Starting, TypedItem, TypedDeclaration, TypedStatement, TypedBlock, TypedStatements, TypedFunction, TypedProgram, type_of, type_of_left}
@@ -126,10 +126,20 @@ abbrev pub stepping : Bool → TypeId → TypeId → TypeId
 stepping true first second = first
 stepping false first second = second
 
--- the type of a variable
+-- an object of the program that is there, of a type like that one
+abbrev pub IsObjectOf : TypeTable → Option Global → TypeId → Type 0
+IsObjectOf types None id = ⊥
+IsObjectOf types (Some it) id = AreAlike types it.variable.type_id id
+
+-- the type of a variable of the function
 abbrev pub type_in : Option VariableDecl → Option TypeId
 type_in None = None
 type_in (Some it) = Some it.type_id
+
+-- The type that a name has where it stands: that of the variable, or one like that of the object, which may have other declarations.
+abbrev pub IsOfType : TypedProgram → TypedFunction → Variable → TypeId → Type 0
+IsOfType program function (name.Global place) id = IsObjectOf program.types (slice_get program.globals place) id
+IsOfType program function (name.Local place) id = type_in (slice_get function.variables place) ≡ Some id
 
 -- how many bytes a literal has
 abbrev pub size_of_bytes : Option (List ℕ) → Option ℕ
@@ -177,7 +187,7 @@ HasResult program function (right (tree.post_update head operator its to into)) 
 HasResult program function (right (tree.post_advance head stride into)) = head.type_id ≡ type_of_left into
 HasResult program function (right (tree.call head number routine arguments)) = Unit {0}
 HasResult program function (right (tree.call_routine head routine arguments)) = Unit {0}
-HasResult program function (left (tree.variable head variable)) = type_in (declared program function variable) ≡ Some head.type_id
+HasResult program function (left (tree.variable head variable)) = IsOfType program function variable head.type_id
 HasResult program function (left (tree.literal head place)) = IsLiteral program place head.type_id
 HasResult program function (left (tree.target head pointer)) = IsPointerTo program.types head.type_id (type_of pointer)
 HasResult program function (left (tree.element head size pointer_first a b)) =
@@ -191,12 +201,12 @@ NamesField types (left (tree.member head field offset object)) = IsField types f
 NamesField types (left (tree.arrow head field offset pointer)) = IsField types field offset head.type_id
 NamesField types _ = Unit {0}
 
--- as many arguments as parameters, each of its type
-abbrev pub FitParameters : List TypeId → RightValues → Type 0
-FitParameters [] tree.no_values = Unit {0}
-FitParameters [] (tree.more_values e rest) = ⊥
-FitParameters (id ∷ ids) tree.no_values = ⊥
-FitParameters (id ∷ ids) (tree.more_values e rest) = (type_of e ≡ id) × FitParameters ids rest
+-- as many arguments as parameters, each of a type like its
+abbrev pub FitParameters : TypeTable → List TypeId → RightValues → Type 0
+FitParameters types [] tree.no_values = Unit {0}
+FitParameters types [] (tree.more_values e rest) = ⊥
+FitParameters types (id ∷ ids) tree.no_values = ⊥
+FitParameters types (id ∷ ids) (tree.more_values e rest) = AreAlike types (type_of e) id × FitParameters types ids rest
 
 -- the types of variables
 abbrev pub types_of : List VariableDecl → List TypeId
@@ -204,25 +214,25 @@ types_of [] = []
 types_of (variable ∷ variables) = variable.type_id ∷ types_of variables
 
 -- a call with these arguments and of that type fits the parameters and the result
-abbrev pub FitsSignature : List TypeId → TypeId → RightValues → TypeId → Type 0
-FitsSignature parameters result arguments id = FitParameters parameters arguments × (id ≡ result)
+abbrev pub FitsSignature : TypeTable → List TypeId → TypeId → RightValues → TypeId → Type 0
+FitsSignature types parameters result arguments id = FitParameters types parameters arguments × AreAlike types id result
 
 -- Each call of a function has its parameters and its result.
-abbrev pub FitsCalled : Option TypedFunction → RightValues → TypeId → Type 0
-FitsCalled None arguments id = ⊥
-FitsCalled (Some called) arguments id =
-    FitsSignature (types_of (take called.parameters called.variables)) called.result arguments id
+abbrev pub FitsCalled : TypeTable → Option TypedFunction → RightValues → TypeId → Type 0
+FitsCalled types None arguments id = ⊥
+FitsCalled types (Some called) arguments id =
+    FitsSignature types (types_of (take called.parameters called.variables)) called.result arguments id
 
 -- the called function, by its number
 abbrev pub FitsFunction : TypedProgram → Node → Type 0
 FitsFunction program (right (tree.call head number routine arguments)) =
-    FitsCalled (slice_get program.functions number) arguments head.type_id
+    FitsCalled program.types (slice_get program.functions number) arguments head.type_id
 FitsFunction program _ = Unit {0}
 
 -- Each call of a routine has the parameters and the result of its declaration.
-abbrev pub FitsPrototype : Option Prototype → RightValues → TypeId → Type 0
-FitsPrototype None arguments id = ⊥
-FitsPrototype (Some prototype) arguments id = FitsSignature prototype.parameters prototype.result arguments id
+abbrev pub FitsPrototype : TypeTable → Option Prototype → RightValues → TypeId → Type 0
+FitsPrototype types None arguments id = ⊥
+FitsPrototype types (Some prototype) arguments id = FitsSignature types prototype.parameters prototype.result arguments id
 
 -- how a routine is declared, if it is called
 abbrev pub prototype_in : Option BoundRoutine → Option Prototype
@@ -232,7 +242,7 @@ prototype_in (Some it) = it.prototype
 -- the called routine, by its number
 abbrev pub FitsRoutine : TypedProgram → Node → Type 0
 FitsRoutine program (right (tree.call_routine head number arguments)) =
-    FitsPrototype (prototype_in (slice_get program.routines number)) arguments head.type_id
+    FitsPrototype program.types (prototype_in (slice_get program.routines number)) arguments head.type_id
 FitsRoutine program _ = Unit {0}
 
 -- The declaration of a routine fits its role.

@@ -1,6 +1,7 @@
 -- What a type is, as the facts of a program ask for it (X3.159-1989 3.1.2.5).
 --     number_kind types id         how numbers of an integer type or an enumeration are represented
 --     pointed types id             what a pointer points to; element types id, of what an array is
+--     category_of types id         its category: the type itself, or its outermost derivation; AreAlike types one other
 --     IsNumber, IsAnyNumber, IsPointer, IsScalar, IsReadable, IsVoid, IsStruct, IsPointerTo, IsPointerToSize
 use Rattle.std.specs.Prelude.{◌≡◌, ℕ, Bool, true, false, ◌&&◌, ◌||◌, Option, Some, None, IsTrue, is_some}
 use Rattle.hs_types.specs.TypeTables.{TypeTable, row_of, layout_of}
@@ -156,3 +157,31 @@ IsPointerTo types of id = pointed types id ≡ Some of
 -- a pointer to objects of that size
 abbrev pub IsPointerToSize : TypeTable → ℕ → TypeId → Type 0
 IsPointerToSize types size id = size_at types (pointed types id) ≡ Some size
+
+-- What the type category of a type is (3.1.2.5). An enumeration counts as int, with which it is compatible.
+pub data Category : Type 0 where
+  of_void : Category
+  of_number : Integer → Category
+  of_pointer : Category
+  of_struct : Category
+  of_array : Category
+  of_function : Category
+
+abbrev pub category_of_row : Option Row → Option Category
+category_of_row None = None
+category_of_row (Some row.Void) = Some of_void
+category_of_row (Some (row.Integer kind)) = Some (of_number kind)
+category_of_row (Some (row.Pointer of)) = Some of_pointer
+category_of_row (Some (row.Enumeration number)) = Some (of_number kind.Int)
+category_of_row (Some (row.Struct number)) = Some of_struct
+category_of_row (Some (row.Array of length layout)) = Some of_array
+category_of_row (Some (row.OpenArray of)) = Some of_array
+category_of_row (Some (row.Function result parameters)) = Some of_function
+
+-- of a type
+abbrev pub category_of : TypeTable → TypeId → Option Category
+category_of types id = category_of_row (row_of types id)
+
+-- Two declarations of one object or function, in one unit or in two, may give it types that differ (3.1.2.6), but only of one category.
+abbrev pub AreAlike : TypeTable → TypeId → TypeId → Type 0
+AreAlike types one other = category_of types one ≡ category_of types other

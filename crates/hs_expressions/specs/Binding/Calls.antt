@@ -4,7 +4,8 @@ use Rattle.std.specs.Prelude.{take, ◌||◌}
 use Rattle.std.specs.List.{AllByRecursion}
 use Rattle.std.proofs.lemmas.List.{append_assoc, append-nil}
 use Rattle.std.proofs.lemmas.Option.{slice_get_within}
-use Rattle.hs_expressions.specs.Binding.{IsBoundNode, IsList, IsSignature, IsDefined, IsPrototype, BindsAs, IsNotedCall, IsNotedAddress}
+use Rattle.hs_tree.specs.Kinds.{AreAlike}
+use Rattle.hs_expressions.specs.Binding.{AllAlike, IsBoundNode, IsList, IsSignature, IsDefined, IsPrototype, BindsAs, IsNotedCall, IsNotedAddress}
 use Rattle.hs_expressions.specs.Binding.Keeping.{Giving, Keeps, IsBound, IsBoundIn, plain_bound, of_types_keeps, then_keeps, so_keeps}
 use Rattle.hs_expressions.specs.Laws.Always.{refuses_always}
 use Rattle.hs_expressions.specs.Laws.Leaves.{addressed_always, call_with_always}
@@ -34,7 +35,7 @@ use Rattle.hs_tree.specs.Inside.{right}
 use Rattle.hs_tree.specs.Kinds.{is_void, is_readable}
 use Rattle.hs_tree.specs.RowLaws.{rights_from}
 use Rattle.hs_tree.specs.Trees as tree
-use Rattle.hs_tree.specs.Trees.{RightValue, LeftValue, TypedFunction, TypedProgram, type_of, type_of_left}
+use Rattle.hs_tree.specs.Trees.{RightValue, RightValues, LeftValue, TypedFunction, TypedProgram, type_of, type_of_left}
 use Rattle.hs_tree.specs.declared.function.Prototype.{Prototype}
 use Rattle.hs_tree.specs.declared.head.Head.{Head}
 use Rattle.hs_types.specs.TypeTables.{TypeTable, row_of, id_of, Grows}
@@ -95,6 +96,33 @@ returned_is types at id =
     either_way (Makes (λ result. id ≡ result)) (is_void types id || is_readable types id) (Ok id) (Err (end.Untyped at))
     (λ met. gives (λ result. id ≡ result) id refl) (λ failed. refuses (λ result. id ≡ result) at)
 
+-- as many arguments as parameters, each of its type
+abbrev HasParameters : List TypeId → RightValues → Type 0
+HasParameters [] tree.no_values = Unit {0}
+HasParameters [] (tree.more_values e rest) = ⊥
+HasParameters (id ∷ ids) tree.no_values = ⊥
+HasParameters (id ∷ ids) (tree.more_values e rest) = (type_of e ≡ id) × HasParameters ids rest
+
+-- and a call of the type that the function gives
+abbrev HasSignature : List TypeId → TypeId → RightValues → TypeId → Type 0
+HasSignature parameters result arguments id = HasParameters parameters arguments × (id ≡ result)
+
+-- of types like those of other parameters
+like_parameters : (types : TypeTable) (ids others : List TypeId) (arguments : RightValues) → AllAlike types ids others → HasParameters ids arguments
+    → FitParameters types others arguments
+like_parameters types [] [] tree.no_values like fits = tt
+like_parameters types [] [] (tree.more_values e rest) like fits = absurd fits
+like_parameters types [] (other ∷ others) arguments like fits = absurd like
+like_parameters types (id ∷ ids) [] arguments like fits = absurd like
+like_parameters types (id ∷ ids) (other ∷ others) tree.no_values like fits = absurd fits
+like_parameters types (id ∷ ids) (other ∷ others) (tree.more_values e rest) like fits =
+    (subst (λ its. AreAlike types its other) (sym fits.0) like.0, like_parameters types ids others rest like.1 fits.1)
+
+like_fits : (types : TypeTable) (ids others : List TypeId) (gives result : TypeId) (arguments : RightValues) (id : TypeId) → AllAlike types ids others
+    → AreAlike types gives result → HasSignature ids gives arguments id → FitsSignature types others result arguments id
+like_fits types ids others gives result arguments id like alike has =
+    (like_parameters types ids others arguments like has.0, subst (λ its. AreAlike types its result) (sym has.1) alike)
+
 module _ (program : TypedProgram) (function : TypedFunction) (final : TypeTable) where
   abbrev pub AreBound : List RightValue → Type 0
   AreBound its = AllByRecursion (IsBound program function) its
@@ -104,23 +132,23 @@ module _ (program : TypedProgram) (function : TypedFunction) (final : TypeTable)
   IsCalled id p =
       AreBound p.1
       × ((parameters : List TypeId) (result : TypeId) → IsSignature final id parameters result
-      → FitsSignature parameters result (rights_from p.1) p.0)
+      → HasSignature parameters result (rights_from p.1) p.0)
 
   -- those that are done, and others of the types of the list
   abbrev IsMatched : ListId → List RightValue → List RightValue → Type 0
   IsMatched list done made =
       AreBound made × (more : List RightValue) × (made ≡ done ++ more)
-      × ((ids : List TypeId) → IsList final list ids → FitParameters ids (rights_from more))
+      × ((ids : List TypeId) → IsList final list ids → HasParameters ids (rights_from more))
 
   empty_fits : (list : ListId) → slice_get final.lists list.number ≡ Some Empty → (ids : List TypeId) → IsList final list ids
-      → FitParameters ids tree.no_values
+      → HasParameters ids tree.no_values
   empty_fits list known [] is = tt
   empty_fits list known (id ∷ ids) is = absurd (end_or_more (slice_get final.lists list.number) id is.0 known is.1)
 
   more_fits : (list : ListId) (it : TypeId × ListId) (e : RightValue) (more : List RightValue)
       → slice_get final.lists list.number ≡ Some (More it.0 it.1) → type_of e ≡ it.0
-      → ((ids : List TypeId) → IsList final it.1 ids → FitParameters ids (rights_from more)) → (ids : List TypeId) → IsList final list ids
-      → FitParameters ids (rights_from (e ∷ more))
+      → ((ids : List TypeId) → IsList final it.1 ids → HasParameters ids (rights_from more)) → (ids : List TypeId) → IsList final list ids
+      → HasParameters ids (rights_from (e ∷ more))
   more_fits list it e more known typed fits [] is = absurd (end_or_more (slice_get final.lists list.number) it.0 it.1 is known)
   more_fits list it e more known typed fits (id ∷ ids) is = (
     typed ∙ same_first (slice_get final.lists list.number) it.0 id it.1 is.0 known is.1,
@@ -168,7 +196,7 @@ module _ (program : TypedProgram) (function : TypedFunction) (final : TypeTable)
     call_fits id signature result converted known same is = (
       is.0,
       λ parameters result' its. (
-        subst (λ its. FitParameters parameters (rights_from its)) (sym is.2)
+        subst (λ its. HasParameters parameters (rights_from its)) (sym is.2)
             (is.3 parameters
             (subst (λ list. IsList final list parameters)
             (same_parameters (row_of final id) result' signature.0 its.0 signature.1 its.1
@@ -199,20 +227,22 @@ module _ (program : TypedProgram) (function : TypedFunction) (final : TypeTable)
     called_given at id arguments (Err why) same p given are = absurd cc
 
   -- a function that is defined, and a routine that is declared
-  defined_call : (id : TypeId) (p : TypeId × List RightValue) (o : Option TypedFunction) → IsDefined final id o → IsCalled id p
-      → FitsCalled o (rights_from p.1) p.0
+  defined_call : (id : TypeId) (p : TypeId × List RightValue) (o : Option TypedFunction) → IsDefined program.types final id o → IsCalled id p
+      → FitsCalled program.types o (rights_from p.1) p.0
   defined_call id p None is fits = absurd is
-  defined_call id p (Some its) is fits = fits.1 (types_of (take its.parameters its.variables)) its.result is
+  defined_call id p (Some its) is fits =
+      like_fits program.types is.0 (types_of (take its.parameters its.variables)) is.1.0 its.result (rights_from p.1) p.0 is.1.2 is.1.3 (fits.1 is.0 is.1.0 is.1.1)
 
-  defined_there : (id : TypeId) (number : ℕ) (o : Option TypedFunction) → slice_get program.functions number ≡ o → IsDefined final id o
+  defined_there : (id : TypeId) (number : ℕ) (o : Option TypedFunction) → slice_get program.functions number ≡ o → IsDefined program.types final id o
       → number < length program.functions
   defined_there id number None same is = absurd is
   defined_there id number (Some its) same is = slice_get_within program.functions number its same
 
-  prototype_call : (id : TypeId) (p : TypeId × List RightValue) (o : Option Prototype) → IsPrototype final id o → IsCalled id p
-      → FitsPrototype o (rights_from p.1) p.0
+  prototype_call : (id : TypeId) (p : TypeId × List RightValue) (o : Option Prototype) → IsPrototype program.types final id o → IsCalled id p
+      → FitsPrototype program.types o (rights_from p.1) p.0
   prototype_call id p None is fits = absurd is
-  prototype_call id p (Some its) is fits = fits.1 its.parameters its.result is
+  prototype_call id p (Some its) is fits =
+      like_fits program.types is.0 its.parameters is.1.0 its.result (rights_from p.1) p.0 is.1.2 is.1.3 (fits.1 is.0 is.1.0 is.1.1)
 
   -- the call is bound
   abbrev IsCall : TypeId → Bound → TypeId × List RightValue → TypedOperand → Type 0

@@ -2,7 +2,7 @@
 --     typed_keeps, typed_all_keeps, typed_lefts_keeps       a lemma for each step that makes expressions
 --     typing_binds                                          the law
 use Rattle.std.proofs.Common.{List, [], ◌∷◌, ◌++◌, Option, Some, None, subst}
-use Rattle.std.specs.Prelude.{slice_get, take}
+use Rattle.std.specs.Prelude.{slice_get}
 use Rattle.hs_expressions.specs.Binding.{IsBoundNode, IsList, IsSignature, IsDefined, BindsAs, BindsName, IsBoundOperand, TypingBinds}
 use Rattle.hs_expressions.specs.Binding.Calls.{AreBound, call_operand_keeps}
 use Rattle.hs_expressions.specs.Binding.Keeping.{Giving, Keeps, IsBound, IsBoundIn, plain_bound, gives_keeps, looks_keeps, of_types_keeps, then_keeps, so_keeps, nothing_keeps, either_keeps, value_keeps}
@@ -27,7 +27,6 @@ use Rattle.hs_operands.specs.declared.operand.Bound.TheVariants as bound
 use Rattle.hs_syntax.specs.Positions.{last_comma, position_of}
 use Rattle.hs_syntax.specs.Trees as syntax
 use Rattle.hs_syntax.specs.Trees.{Expression, Expressions, Lefts}
-use Rattle.hs_tree.specs.Fitting.{types_of}
 use Rattle.hs_tree.specs.Trees.{RightValue, TypedFunction, TypedProgram}
 use Rattle.hs_types.specs.Growing.{grows_self}
 use Rattle.hs_types.specs.TypeTables.{TypeTable, Grows}
@@ -147,9 +146,9 @@ module _ (program : TypedProgram) (function : TypedFunction) (old new : TypeTabl
       → IsSignature new id parameters result
   signature_later id parameters result is = (is.0, grows.rows id.number (row.Function result is.0) is.1, list_later is.0 parameters is.2)
 
-  defined_later : (id : TypeId) (o : Option TypedFunction) → IsDefined old id o → IsDefined new id o
+  defined_later : (id : TypeId) (o : Option TypedFunction) → IsDefined program.types old id o → IsDefined program.types new id o
   defined_later id None is = absurd is
-  defined_later id (Some its) is = signature_later id (types_of (take its.parameters its.variables)) its.result is
+  defined_later id (Some its) is = (is.0, (is.1.0, signature_later id is.0 is.1.0 is.1.1, is.1.2, is.1.3))
 
   binds_later : (id : TypeId) (its : Bound) → BindsAs program old id its → BindsAs program new id its
   binds_later id (bound.Function number) is = defined_later id (slice_get program.functions number) is

@@ -33,7 +33,7 @@ abbrev pub Anything : Entity → Type 0
 Anything it = Unit {0}
 
 -- A scope that was entered has no declarations inside it.
-deeper : {E : Type 0} → (level : ℕ) (its : List (Declared E)) → AllByRecursion (λ it. it.level ≤ level) its
+pub deeper : {E : Type 0} → (level : ℕ) (its : List (Declared E)) → AllByRecursion (λ it. it.level ≤ level) its
     → AllByRecursion (λ it. it.level ≤ suc level) its
 deeper level its are = all_so (λ it. it.level ≤ level) (λ it. it.level ≤ suc level) (λ it is. one it.level is) its are
   where

@@ -192,7 +192,7 @@ result_grows types (Err why) = tt
 pub arrayed_grows : (of : TypeId) (count : ℕ) (types : TypeTable) → Growing types (arrayed of count types)
 arrayed_grows of count types = result_grows types (row_of_element of count (layout_of types of))
 
-end_grows : {A : Type 0} → (at : Place) (types : TypeTable) (given : Result (A × TypeTable) TypeEnd) → Growing types given
+pub end_grows : {A : Type 0} → (at : Place) (types : TypeTable) (given : Result (A × TypeTable) TypeEnd) → Growing types given
     → Growing types (untyped_end at given)
 end_grows at types (Ok p) grows = grows
 end_grows at types (Err why) grows = tt

@@ -49,15 +49,15 @@ prefix_if false xs ys = prefix_self xs
 same_at_most : (n m : ℕ) → n ≡ m → n ≤ m
 same_at_most n m same = omega (arith, same)
 
-is_other : (n m : ℕ) (b : Bool) → (n == suc m) ≡ b → n ≤ m → b ≡ false
+pub is_other : (n m : ℕ) (b : Bool) → (n == suc m) ≡ b → n ≤ m → b ≡ false
 is_other n m false is at_most = refl
 is_other n m true is at_most = absurd (grind (arith, nat_tests, is, at_most))
 
-is_same : (n m : ℕ) (b : Bool) → (n == m) ≡ b → n ≡ m → b ≡ true
+pub is_same : (n m : ℕ) (b : Bool) → (n == m) ≡ b → n ≡ m → b ≡ true
 is_same n m true is same = refl
 is_same n m false is same = absurd (grind (arith, nat_tests, is, same))
 
-pred_suc : (n : ℕ) → suc n - 1 ≡ n
+pub pred_suc : (n : ℕ) → suc n - 1 ≡ n
 pred_suc n = simp unary_clauses refl
 
 module _ {E : Type 0} where
