@@ -126,20 +126,20 @@ abbrev pub stepping : Bool → TypeId → TypeId → TypeId
 stepping true first second = first
 stepping false first second = second
 
--- an object of the program that is there, of a type like that one
+-- an object of static storage duration that is there, of a type like that one
 abbrev pub IsObjectOf : TypeTable → Option Global → TypeId → Type 0
 IsObjectOf types None id = ⊥
 IsObjectOf types (Some it) id = AreAlike types it.variable.type_id id
 
--- the type of a variable of the function
-abbrev pub type_in : Option VariableDecl → Option TypeId
-type_in None = None
-type_in (Some it) = Some it.type_id
+-- An automatic variable that is there, of that type. In its own initialiser an array may still be of unknown length (3.5.7).
+abbrev pub IsVariableOf : TypeTable → Option VariableDecl → TypeId → Type 0
+IsVariableOf types None id = ⊥
+IsVariableOf types (Some it) id = AreAlike types it.type_id id × (is_complete types id ≡ true → it.type_id ≡ id)
 
 -- The type that a name has where it stands: that of the variable, or one like that of the object, which may have other declarations.
 abbrev pub IsOfType : TypedProgram → TypedFunction → Variable → TypeId → Type 0
 IsOfType program function (name.Global place) id = IsObjectOf program.types (slice_get program.globals place) id
-IsOfType program function (name.Local place) id = type_in (slice_get function.variables place) ≡ Some id
+IsOfType program function (name.Local place) id = IsVariableOf program.types (slice_get function.variables place) id
 
 -- how many bytes a literal has
 abbrev pub size_of_bytes : Option (List ℕ) → Option ℕ
