@@ -69,7 +69,7 @@ new_tag_always word =
     record {
       from = λ s scoped. reaches_origins IsConstant s
           (record s { types = with_struct s.types; tags = declared word.text (tag.Struct (length s.types.structs)) s.tags })
-          (with_struct_origin (Some word.text) s.origins)
+          (with_struct_origin (Some word.text) s.origins) refl
           (reaches_named IsConstant s (with_struct s.types) s.names (declared word.text (tag.Struct (length s.types.structs)) s.tags)
           (grows_struct s.types) (more_self (IsAllowedAt IsConstant s.names.level) s.names)
           (more_one (IsTagAt s.tags.level) word.text (tag.Struct (length s.types.structs)) s.tags refl));

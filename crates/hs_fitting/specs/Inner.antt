@@ -114,6 +114,7 @@ named_in name it mid new closed inside =
       table = inside.table;
       counts = inside.counts;
       keeps = inside.keeps;
+      unit = inside.unit;
     }
 
 pub inner_named : (name : List ℕ) (it : Entity) (m : Translator) (mid : Typer) (new : Translator) → Inner m mid new

@@ -121,6 +121,7 @@ counting_again s new reached =
       table = reached.table;
       counts = refl;
       keeps = reached.keeps;
+      unit = reached.unit;
     }
 
 counting_inside : (counts : Bool) (mid new : Typer) → Reaches Anything (opened_at mid) new
@@ -136,6 +137,7 @@ counting_inside counts mid new reached =
       table = reached.table;
       counts = refl;
       keeps = reached.keeps;
+      unit = reached.unit;
     }
 
 -- of the answer

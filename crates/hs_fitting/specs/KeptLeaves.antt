@@ -78,6 +78,7 @@ rekept_opens allowed s (Ok p) reached =
       table = reached.table;
       counts = reached.counts;
       keeps = refl;
+      unit = reached.unit;
     }))
 rekept_opens allowed s (Err why) reached = tt
 

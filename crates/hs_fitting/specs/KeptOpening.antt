@@ -77,6 +77,7 @@ begun_around s mid ends reached =
       table = reached.table;
       counts = reached.counts;
       keeps = sym ends;
+      unit = reached.unit;
     }
 
 -- of the answer

@@ -65,6 +65,7 @@ left_reaches s new scoped reached =
       table = reached.table;
       counts = reached.counts;
       keeps = reached.keeps;
+      unit = reached.unit;
     }
 
 pub left_scoped : (s new : Typer) → IsScoped s → Reaches Anything (enter s) new → IsScoped (leave new)

@@ -57,19 +57,19 @@ all_counted holds true xs ys counts are = all_behind holds xs ys are
 all_counted holds false xs ys counts are = absurd cc
 
 -- two readings of a list, and of a row
-end_or_more : (o : Option Parameters) (a : TypeId) (x : ListId) → o ≡ Some Empty → o ≡ Some (More a x) → ⊥
+pub end_or_more : (o : Option Parameters) (a : TypeId) (x : ListId) → o ≡ Some Empty → o ≡ Some (More a x) → ⊥
 end_or_more o a x is is' = cc
 
-same_first : (o : Option Parameters) (a b : TypeId) (x y : ListId) → o ≡ Some (More a x) → o ≡ Some (More b y) → a ≡ b
+pub same_first : (o : Option Parameters) (a b : TypeId) (x y : ListId) → o ≡ Some (More a x) → o ≡ Some (More b y) → a ≡ b
 same_first o a b x y is is' = cc
 
-same_others : (o : Option Parameters) (a b : TypeId) (x y : ListId) → o ≡ Some (More a x) → o ≡ Some (More b y) → x ≡ y
+pub same_others : (o : Option Parameters) (a b : TypeId) (x y : ListId) → o ≡ Some (More a x) → o ≡ Some (More b y) → x ≡ y
 same_others o a b x y is is' = cc
 
-same_result : (o : Option Row) (a b : TypeId) (x y : ListId) → o ≡ Some (row.Function a x) → o ≡ Some (row.Function b y) → a ≡ b
+pub same_result : (o : Option Row) (a b : TypeId) (x y : ListId) → o ≡ Some (row.Function a x) → o ≡ Some (row.Function b y) → a ≡ b
 same_result o a b x y is is' = cc
 
-same_parameters : (o : Option Row) (a b : TypeId) (x y : ListId) → o ≡ Some (row.Function a x) → o ≡ Some (row.Function b y) → x ≡ y
+pub same_parameters : (o : Option Row) (a b : TypeId) (x y : ListId) → o ≡ Some (row.Function a x) → o ≡ Some (row.Function b y) → x ≡ y
 same_parameters o a b x y is is' = cc
 
 -- what an answer says of the list and of the row
@@ -108,7 +108,7 @@ abbrev HasSignature : List TypeId → TypeId → RightValues → TypeId → Type
 HasSignature parameters result arguments id = HasParameters parameters arguments × (id ≡ result)
 
 -- of types like those of other parameters
-like_parameters : (types : TypeTable) (ids others : List TypeId) (arguments : RightValues) → AllAlike types ids others → HasParameters ids arguments
+pub like_parameters : (types : TypeTable) (ids others : List TypeId) (arguments : RightValues) → AllAlike types ids others → HasParameters ids arguments
     → FitParameters types others arguments
 like_parameters types [] [] tree.no_values like fits = tt
 like_parameters types [] [] (tree.more_values e rest) like fits = absurd fits

@@ -49,11 +49,11 @@ pub record Keeps {A : Type 0} (program : TypedProgram) (function : TypedFunction
   pub gives : (s : Typer) → IsScoped s → s.counts ≡ true → KnowsBound program function final s → Giving program function final holds (step s)
 
 -- of the first of two lists
-all_before : {A : Type 0} → (holds : A → Type 0) (xs ys : List A) → AllByRecursion holds (xs ++ ys) → AllByRecursion holds xs
+pub all_before : {A : Type 0} → (holds : A → Type 0) (xs ys : List A) → AllByRecursion holds (xs ++ ys) → AllByRecursion holds xs
 all_before holds [] ys are = tt
 all_before holds (x ∷ xs) ys are = (are.0, all_before holds xs ys are.1)
 
-all_of_prefix : {A : Type 0} → (holds : A → Type 0) (old new : List A) → IsPrefix old new → AllByRecursion holds new → AllByRecursion holds old
+pub all_of_prefix : {A : Type 0} → (holds : A → Type 0) (old new : List A) → IsPrefix old new → AllByRecursion holds new → AllByRecursion holds old
 all_of_prefix holds old new more are = all_before holds old more.0 (subst (AllByRecursion holds) more.1 are)
 
 -- an expression that operators make is bound to nothing

@@ -38,7 +38,7 @@ use Rattle.hs_types.specs.declared.row.TypeId.{TypeId}
 module _ (program : TypedProgram) (function : TypedFunction) (final : TypeTable) where
   mutual
     -- an expression
-    typed_keeps : (e : Expression) → Keeps program function final (IsBoundIn program function final) (typed e)
+    pub typed_keeps : (e : Expression) → Keeps program function final (IsBoundIn program function final) (typed e)
     typed_keeps (syntax.name word) =
         looks_keeps (λ s. named s.names word) (λ s knows made given. named_bound program function final s word made knows given)
     typed_keeps (syntax.number word) =
@@ -138,11 +138,11 @@ module _ (program : TypedProgram) (function : TypedFunction) (final : TypeTable)
 
 -- what a name means, as the table grows
 module _ (program : TypedProgram) (function : TypedFunction) (old new : TypeTable) (grows : Grows old new) where
-  list_later : (list : ListId) (ids : List TypeId) → IsList old list ids → IsList new list ids
+  pub list_later : (list : ListId) (ids : List TypeId) → IsList old list ids → IsList new list ids
   list_later list [] is = grows.lists list.number Empty is
   list_later list (id ∷ ids) is = (is.0, grows.lists list.number (More id is.0) is.1, list_later is.0 ids is.2)
 
-  signature_later : (id : TypeId) (parameters : List TypeId) (result : TypeId) → IsSignature old id parameters result
+  pub signature_later : (id : TypeId) (parameters : List TypeId) (result : TypeId) → IsSignature old id parameters result
       → IsSignature new id parameters result
   signature_later id parameters result is = (is.0, grows.rows id.number (row.Function result is.0) is.1, list_later is.0 parameters is.2)
 
@@ -155,14 +155,14 @@ module _ (program : TypedProgram) (function : TypedFunction) (old new : TypeTabl
   binds_later id (bound.Routine number) is = is
   binds_later id bound.Nothing is = tt
 
-  name_later : (it : Entity) → BindsName program function old it → BindsName program function new it
+  pub name_later : (it : Entity) → BindsName program function old it → BindsName program function new it
   name_later (entity.Constant bits) is = tt
   name_later (entity.Variable variable id) is = is
   name_later (entity.Function id its) is = binds_later id its is
   name_later (entity.Typedef id) is = tt
 
 -- the operand, whatever a function is bound to
-operand_bound : (program : TypedProgram) (function : TypedFunction) (final : TypeTable) (it : TypedOperand) → IsBoundIn program function final it
+pub operand_bound : (program : TypedProgram) (function : TypedFunction) (final : TypeTable) (it : TypedOperand) → IsBoundIn program function final it
     → IsBoundOperand program function it
 operand_bound program function final (operand.value e) is = is
 operand_bound program function final (operand.object it) is = is

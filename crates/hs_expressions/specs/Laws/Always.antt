@@ -95,6 +95,7 @@ module _ (allowed : Entity → Type 0) where
         table = reached.table;
         counts = refl;
         keeps = reached.keeps;
+        unit = reached.unit;
       }
   restored_reaches s (Err why) reached = tt
 
@@ -115,6 +116,7 @@ module _ (allowed : Entity → Type 0) where
         table = reached.table;
         counts = reached.counts;
         keeps = reached.keeps ∙ sym scoped.closed;
+        unit = reached.unit;
       }
   ending_reaches false s (Err why) ends scoped reached = tt
 

@@ -1,5 +1,5 @@
 -- The steps that change what is known: strings, addresses, calls, tags, bodies, constants and parameters.
-use Rattle.std.proofs.Common.{ℕ, Bool, true, false, List, [], ◌∷◌, ◌++◌, Option, Some, None, Result, Ok, Err, refl, if◌then◌else◌}
+use Rattle.std.proofs.Common.{◌≡◌, ℕ, Bool, true, false, List, [], ◌∷◌, ◌++◌, Option, Some, None, Result, Ok, Err, refl, if◌then◌else◌}
 use Rattle.std.specs.Prelude.{slice_get, length, is_some, ◌||◌}
 use Rattle.hs_typer.specs.Declarators.{parameter_type, listed, word_of, place_of, is_typedef, declare}
 use Rattle.hs_typer.specs.Declaring.{list_of, declare_parameter, parameter}
@@ -15,6 +15,7 @@ use Rattle.hs_typer.specs.Specifiers.{struct_type, enumeration_type, new_struct,
 use Rattle.hs_typer.specs.Steps.{lifted}
 use Rattle.hs_typer.specs.declared.declarators.Derivation.{Derivation}
 use Rattle.hs_typer.specs.declared.origins.Brace.{Brace}
+use Rattle.hs_typer.specs.declared.origins.Origins.{Origins}
 use Rattle.hs_typer.specs.declared.type_error.TypeError.{TypeError}
 use Rattle.hs_typer.specs.declared.type_error.TypeError.TheVariants.{Untyped, Clash}
 use Rattle.hs_typer.specs.declared.typer.Entity.{Entity}
@@ -48,6 +49,11 @@ use Rattle.hs_types.specs.declared.integer.Integer.TheVariants as kind
 use Rattle.hs_types.specs.declared.row.Row.TheVariants as row
 use Rattle.hs_types.specs.declared.row.TypeId.{TypeId}
 use Rattle.hs_types.specs.declared.types.TypeEnd.{TypeEnd}
+
+-- a body begins in the unit where it stands
+met_unit : (at : Place) (it : Tag) (brace : Brace) (o : Origins) → (met at it brace o).unit ≡ o.unit
+met_unit at (tag.Struct number) brace o = refl
+met_unit at (tag.Enumeration number) brace o = refl
 
 module _ (allowed : Entity → Type 0) where
   -- an answer under a test
@@ -100,7 +106,7 @@ module _ (allowed : Entity → Type 0) where
   tagged_struct_reaches word s =
       reaches_origins allowed s
       (record s { types = with_struct s.types; tags = declared word.text (tag.Struct (length s.types.structs)) s.tags })
-      (with_struct_origin (Some word.text) s.origins)
+      (with_struct_origin (Some word.text) s.origins) refl
       (reaches_named allowed s (with_struct s.types) s.names (declared word.text (tag.Struct (length s.types.structs)) s.tags) (grows_struct s.types)
       (more_self (IsAllowedAt allowed s.names.level) s.names)
       (more_one (IsTagAt s.tags.level) word.text (tag.Struct (length s.types.structs)) s.tags refl))
@@ -109,7 +115,7 @@ module _ (allowed : Entity → Type 0) where
   tagged_enumeration_reaches word s =
       reaches_origins allowed s
       (record s { types = with_enumeration s.types; tags = declared word.text (tag.Enumeration (length s.types.enumerations)) s.tags })
-      (with_enumeration_origin s.origins)
+      (with_enumeration_origin s.origins) refl
       (reaches_named allowed s (with_enumeration s.types) s.names (declared word.text (tag.Enumeration (length s.types.enumerations)) s.tags)
       (grows_enumeration s.types) (more_self (IsAllowedAt allowed s.names.level) s.names)
       (more_one (IsTagAt s.tags.level) word.text (tag.Enumeration (length s.types.enumerations)) s.tags refl))
@@ -140,10 +146,11 @@ module _ (allowed : Entity → Type 0) where
 
   -- which may be one with another
   joined_reaches : (at : Place) (it : Tag) (brace : Brace) (o : Option Tag) (s : Typer) → Reaching allowed s (joined at it brace o s)
-  joined_reaches at it brace None s = reaches_origins allowed s s (first_at brace it (met at it brace s.origins)) (reaches_self allowed s)
+  joined_reaches at it brace None s = reaches_origins allowed s s (first_at brace it (met at it brace s.origins)) (met_unit at it brace s.origins)
+      (reaches_self allowed s)
   joined_reaches at it brace (Some first) s =
       if_reaches {A = Unit {0}} (tags_agree s.types (met at it brace s.origins) first it) s (Ok (tt, record s { origins = met at it brace s.origins }))
-      (Err (Clash at (first_name s.types it))) (reaches_origins allowed s s (met at it brace s.origins) (reaches_self allowed s)) tt
+      (Err (Clash at (first_name s.types it))) (reaches_origins allowed s s (met at it brace s.origins) (met_unit at it brace s.origins) (reaches_self allowed s)) tt
 
   closed_reaches : (at : Place) (it : Tag) (s : Typer) → Reaching allowed s (closed at it s)
   closed_reaches at it s =
@@ -207,14 +214,14 @@ module _ {allowed : Entity → Type 0} where
   new_struct_always : Always allowed new_struct
   new_struct_always =
       record {
-        from = λ s scoped. reaches_origins allowed s (record s { types = with_struct s.types }) (with_struct_origin None s.origins)
+        from = λ s scoped. reaches_origins allowed s (record s { types = with_struct s.types }) (with_struct_origin None s.origins) refl
             (reaches_types allowed s (with_struct s.types) (grows_struct s.types));
       }
 
   new_enumeration_always : Always allowed new_enumeration
   new_enumeration_always =
       record {
-        from = λ s scoped. reaches_origins allowed s (record s { types = with_enumeration s.types }) (with_enumeration_origin s.origins)
+        from = λ s scoped. reaches_origins allowed s (record s { types = with_enumeration s.types }) (with_enumeration_origin s.origins) refl
             (reaches_types allowed s (with_enumeration s.types) (grows_enumeration s.types));
       }
 

@@ -137,6 +137,7 @@ pub record Reaches (allowed : Entity → Type 0) (old new : Typer) : Type 0 wher
   pub table : new.table ≡ old.table
   pub counts : new.counts ≡ old.counts
   pub keeps : new.keeps ≡ old.keeps
+  pub unit : new.origins.unit ≡ old.origins.unit
 
 module _ (allowed : Entity → Type 0) where
   -- by no step
@@ -152,6 +153,7 @@ module _ (allowed : Entity → Type 0) where
         table = refl;
         counts = refl;
         keeps = refl;
+        unit = refl;
       }
 
   -- by one step after another
@@ -167,6 +169,7 @@ module _ (allowed : Entity → Type 0) where
         table = after.table ∙ before.table;
         counts = after.counts ∙ before.counts;
         keeps = after.keeps ∙ before.keeps;
+        unit = after.unit ∙ before.unit;
       }
 
   -- with more types, names and tags
@@ -184,6 +187,7 @@ module _ (allowed : Entity → Type 0) where
         table = refl;
         counts = refl;
         keeps = refl;
+        unit = refl;
       }
 
   -- with more types alone
@@ -206,11 +210,13 @@ module _ (allowed : Entity → Type 0) where
         table = refl;
         counts = refl;
         keeps = refl;
+        unit = refl;
       }
 
-  -- Where structs and enumerations come from is no part of it.
-  pub reaches_origins : (old new : Typer) (origins : Origins) → Reaches allowed old new → Reaches allowed old (record new { origins = origins })
-  reaches_origins old new origins reached =
+  -- Where structs and enumerations come from is no part of it, but that it is in the same unit.
+  pub reaches_origins : (old new : Typer) (origins : Origins) → origins.unit ≡ new.origins.unit → Reaches allowed old new
+      → Reaches allowed old (record new { origins = origins })
+  reaches_origins old new origins same reached =
       record {
         types = reached.types;
         names = reached.names;
@@ -221,6 +227,7 @@ module _ (allowed : Entity → Type 0) where
         table = reached.table;
         counts = reached.counts;
         keeps = reached.keeps;
+        unit = same ∙ reached.unit;
       }
 
   -- The scopes are those that there were.
@@ -251,4 +258,5 @@ reaches_wider allowed wider so old new reached =
       table = reached.table;
       counts = reached.counts;
       keeps = reached.keeps;
+      unit = reached.unit;
     }

@@ -33,7 +33,7 @@ module _ (program : TypedProgram) (function : TypedFunction) (sound : IsRight pr
 
   mutual
     -- an expression
-    typed_keeps : (e : Expression) → Keeps program function (IsTypedOperand program function) (typed e)
+    pub typed_keeps : (e : Expression) → Keeps program function (IsTypedOperand program function) (typed e)
     typed_keeps (syntax.name word) =
         looks_keeps (λ s. named s.names word) (λ s knows made given. named_typed program function sound s word made knows given)
     typed_keeps (syntax.number word) =
