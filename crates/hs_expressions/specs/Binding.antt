@@ -1,9 +1,9 @@
 -- What typing says of variables, strings, calls and addresses is so in the program: each is there, each call fits what it is bound to,
 -- and what the address is taken of is marked.
 --     Binds program function s        the names mean variables and functions of the program
---     AreNoted program function s     the calls of routines and the addresses that are noted are the program's
+--     AreNoted program function s new      the calls of routines and the addresses that are noted from s to new are the program's
 --     TypingBinds                     the law
-use Rattle.std.specs.Prelude.{◌≡◌, ◌<◌, ℕ, true, List, [], ◌∷◌, length, slice_get, take, Option, Some, None, Ok, IsTrue, is_some}
+use Rattle.std.specs.Prelude.{◌≡◌, ◌<◌, ℕ, true, List, [], ◌∷◌, ◌++◌, length, slice_get, take, Option, Some, None, Ok, IsTrue, is_some}
 use Rattle.std.specs.List.{AllByRecursion}
 use Rattle.hs_expressions.specs.Expressions.{typed}
 use Rattle.hs_expressions.specs.Laws.{IsScoped, IsPrefix}
@@ -100,12 +100,13 @@ abbrev pub IsNotedAddress : TypedProgram → TypedFunction → Taken → Type 0
 IsNotedAddress program function (taken.Variable variable) = IsTrue (is_taken_variable (declared program function variable))
 IsNotedAddress program function (taken.Field field) = IsTrue (is_taken program.taken field)
 
-pub record AreNoted (program : TypedProgram) (function : TypedFunction) (s : Typer) : Type 0 where
-  pub calls : AllByRecursion (IsNotedCall program s.types) s.calls
-  pub taken : AllByRecursion (IsNotedAddress program function) s.taken
+-- What was noted before it may be of another function.
+pub record AreNoted (program : TypedProgram) (function : TypedFunction) (s new : Typer) : Type 0 where
+  pub calls : (more : List RoutineCall) → new.calls ≡ s.calls ++ more → AllByRecursion (IsNotedCall program new.types) more
+  pub taken : (more : List Taken) → new.taken ≡ s.taken ++ more → AllByRecursion (IsNotedAddress program function) more
 
 -- The facts of an expression that is evaluated: what it names is there, its calls fit, and its addresses are marked.
 abbrev pub TypingBinds : Type 0
 TypingBinds = (program : TypedProgram) (function : TypedFunction) (e : Expression) (s new : Typer) (it : TypedOperand) → IsScoped s
     → s.counts ≡ true → Binds program function s → typed e s ≡ Ok (it, new) → IsPrefix new.literals program.literals
-    → AreNoted program function new → IsBoundOperand program function it
+    → AreNoted program function s new → IsBoundOperand program function it

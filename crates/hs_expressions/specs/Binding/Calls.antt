@@ -5,7 +5,7 @@ use Rattle.std.specs.List.{AllByRecursion}
 use Rattle.std.proofs.lemmas.List.{append_assoc, append-nil}
 use Rattle.std.proofs.lemmas.Option.{slice_get_within}
 use Rattle.hs_tree.specs.Kinds.{AreAlike}
-use Rattle.hs_expressions.specs.Binding.{AllAlike, IsBoundNode, IsList, IsSignature, IsDefined, IsPrototype, BindsAs, IsNotedCall, IsNotedAddress}
+use Rattle.hs_expressions.specs.Binding.{AllAlike, IsBoundNode, IsList, IsSignature, IsDefined, IsPrototype, BindsAs, IsNotedAddress}
 use Rattle.hs_expressions.specs.Binding.Keeping.{Giving, Keeps, IsBound, IsBoundIn, plain_bound, of_types_keeps, then_keeps, so_keeps}
 use Rattle.hs_expressions.specs.Laws.Always.{refuses_always}
 use Rattle.hs_expressions.specs.Laws.Leaves.{addressed_always, call_with_always}
@@ -46,15 +46,10 @@ use Rattle.hs_types.specs.declared.row.Row.{Row}
 use Rattle.hs_types.specs.declared.row.Row.TheVariants as row
 use Rattle.hs_types.specs.declared.row.TypeId.{TypeId}
 
--- of the second of two lists
-all_behind : {A : Type 0} → (holds : A → Type 0) (xs ys : List A) → AllByRecursion holds (xs ++ ys) → AllByRecursion holds ys
-all_behind holds [] ys are = are
-all_behind holds (x ∷ xs) ys are = all_behind holds xs ys are.1
-
-all_counted : {A : Type 0} → (holds : A → Type 0) (b : Bool) (xs ys : List A) → b ≡ true → AllByRecursion holds (if b then xs ++ ys else xs)
-    → AllByRecursion holds ys
-all_counted holds true xs ys counts are = all_behind holds xs ys are
-all_counted holds false xs ys counts are = absurd cc
+-- what counts is noted
+counted : {A : Type 0} → (b : Bool) (xs ys : List A) → b ≡ true → (if b then xs ++ ys else xs) ≡ xs ++ ys
+counted true xs ys counts = refl
+counted false xs ys counts = absurd cc
 
 -- two readings of a list, and of a row
 pub end_or_more : (o : Option Parameters) (a : TypeId) (x : ListId) → o ≡ Some Empty → o ≡ Some (More a x) → ⊥
@@ -249,7 +244,7 @@ module _ (program : TypedProgram) (function : TypedFunction) (final : TypeTable)
   IsCall id its p made = IsCalled id p → BindsAs program final id its → IsBoundIn program function final made
 
   routine_gives : (b : Bool) (it : Designator) (number : ℕ) (p : TypeId × List RightValue) (s : Typer)
-      → Giving program function final (IsCall it.head.type_id (bound.Routine number) p) (
+      → Giving program function final s (IsCall it.head.type_id (bound.Routine number) p) (
       if b
       then Ok (
         operand.value (call_routine_of it.head.at number p),
@@ -263,7 +258,7 @@ module _ (program : TypedProgram) (function : TypedFunction) (final : TypeTable)
           within,
           tt,
           prototype_call it.head.type_id p (prototype_in (slice_get program.routines number))
-              (all_behind (IsNotedCall program final) s.calls (record { routine = number; type_id = it.head.type_id } ∷ []) noted.calls).0 fits,
+              (noted.calls (record { routine = number; type_id = it.head.type_id } ∷ []) refl).0 fits,
           tt,
         ),
         each_kept (IsBoundNode program function) (plain_bound program function) p.1 fits.0,
@@ -271,7 +266,7 @@ module _ (program : TypedProgram) (function : TypedFunction) (final : TypeTable)
   routine_gives false it number p s = tt
 
   bound_gives : (its : Bound) (it : Designator) (p : TypeId × List RightValue) (s : Typer)
-      → Giving program function final (IsCall it.head.type_id its p) (bound_call its it p s)
+      → Giving program function final s (IsCall it.head.type_id its p) (bound_call its it p s)
   bound_gives (bound.Function number) it p s =
       λ noted fits is. (
         (
@@ -286,17 +281,17 @@ module _ (program : TypedProgram) (function : TypedFunction) (final : TypeTable)
   bound_gives bound.Nothing it p s = tt
 
   -- What is called counts.
-  counted_gives : (b : Bool) (holds : TypedOperand → Type 0) (here there : Result (TypedOperand × Typer) TypeError) → b ≡ true
-      → Giving program function final holds here → Giving program function final holds (if b then here else there)
-  counted_gives true holds here there counts is = is
-  counted_gives false holds here there counts is = absurd cc
+  counted_gives : (s : Typer) (b : Bool) (holds : TypedOperand → Type 0) (here there : Result (TypedOperand × Typer) TypeError) → b ≡ true
+      → Giving program function final s holds here → Giving program function final s holds (if b then here else there)
+  counted_gives s true holds here there counts is = is
+  counted_gives s false holds here there counts is = absurd cc
 
   call_with_keeps : (it : Designator) (p : TypeId × List RightValue)
       → Keeps program function final (IsCall it.head.type_id it.bound p) (call_with it p)
   call_with_keeps it p =
       record {
         always = call_with_always it p;
-        gives = λ s scoped counts knows. counted_gives s.counts (IsCall it.head.type_id it.bound p) (bound_call it.bound it p s)
+        gives = λ s scoped counts knows. counted_gives s s.counts (IsCall it.head.type_id it.bound p) (bound_call it.bound it p s)
             (Ok (operand.value (call_of it.head.at 0 p), s)) counts (bound_gives it.bound it p s);
       }
 
@@ -327,7 +322,7 @@ module _ (program : TypedProgram) (function : TypedFunction) (final : TypeTable)
   noted_marked head (tree.arrow its field offset pointer) are = are.0
 
   addressed_gives : (at : Place) (it : TypedOperand) (s : Typer) → s.counts ≡ true
-      → Giving program function final (λ made. IsBoundIn program function final it → IsBoundIn program function final made) (addressed at it s)
+      → Giving program function final s (λ made. IsBoundIn program function final it → IsBoundIn program function final made) (addressed at it s)
   addressed_gives at (operand.value e) s counts = tt
   addressed_gives at (operand.object it) s counts =
       λ noted is. (
@@ -336,7 +331,7 @@ module _ (program : TypedProgram) (function : TypedFunction) (final : TypeTable)
           tt,
           tt,
           noted_marked (head_at at (id_of (row.Pointer (type_of_left it)) s.types)) it
-              (all_counted (IsNotedAddress program function) s.counts s.taken (taken_by it) counts noted.taken),
+              (noted.taken (taken_by it) (counted s.counts s.taken (taken_by it) counts)),
         ),
         is,
       )

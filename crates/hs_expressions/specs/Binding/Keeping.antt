@@ -1,10 +1,11 @@
 -- Steps whose answers are bound in a program that has what is noted at the end.
---     IsNoted program function final s        what is noted until then is the program's; the table grows on to the final one
+--     IsNoted program function final s new    what is noted from s to new is the program's; the table grows on to the final one
 --     KnowsBound program function final s     the names mean what the program has
 --     IsBoundIn program function final it     of an operand: a function that is called is bound, too
 --     Keeps program function final holds step
-use Rattle.std.proofs.Common.{◌≡◌, Bool, true, false, List, [], ◌∷◌, ◌++◌, Result, Ok, Err, refl, sym, subst, ◌∙◌, if◌then◌else◌}
+use Rattle.std.proofs.Common.{◌≡◌, Bool, true, false, List, [], ◌∷◌, ◌++◌, Result, Ok, Err, refl, ap, sym, subst, ◌∙◌, if◌then◌else◌}
 use Rattle.std.specs.List.{AllByRecursion}
+use Rattle.std.proofs.lemmas.List.{append_assoc}
 use Rattle.hs_expressions.specs.Binding.{IsBoundNode, BindsAs, BindsName, IsNotedCall, IsNotedAddress}
 use Rattle.hs_expressions.specs.Laws.{IsConstant, IsPrefix, IsScoped}
 use Rattle.hs_expressions.specs.Laws.Always.{Reaching, Always, gives_always, looks_always, of_types_always, then_always, on_types_always}
@@ -15,6 +16,8 @@ use Rattle.hs_typer.specs.Steps.{Step, then_with, ◌>>=◌, give, kept, with_ty
 use Rattle.hs_typer.specs.declared.type_error.TypeError.{TypeError}
 use Rattle.hs_typer.specs.declared.typer.Entity.{Entity}
 use Rattle.hs_typer.specs.declared.typer.Entity.TheVariants as entity
+use Rattle.hs_typer.specs.declared.typer.RoutineCall.{RoutineCall}
+use Rattle.hs_typer.specs.declared.typer.Taken.{Taken}
 use Rattle.hs_typer.specs.declared.typer.Typer.{Typer}
 use Rattle.hs_operands.specs.Laws.Kept.{IsPlain, loaded_kept}
 use Rattle.hs_operands.specs.Laws.Made.{Makes}
@@ -28,33 +31,36 @@ use Rattle.hs_tree.specs.Trees.{RightValue, LeftValue, TypedFunction, TypedProgr
 use Rattle.hs_types.specs.Growing.{grows_then}
 use Rattle.hs_types.specs.TypeTables.{TypeTable, Grows}
 
-pub record IsNoted (program : TypedProgram) (function : TypedFunction) (final : TypeTable) (s : Typer) : Type 0 where
-  pub types : Grows s.types final
-  pub literals : IsPrefix s.literals program.literals
-  pub calls : AllByRecursion (IsNotedCall program final) s.calls
-  pub taken : AllByRecursion (IsNotedAddress program function) s.taken
+-- What is noted before it may be of another function.
+pub record IsNoted (program : TypedProgram) (function : TypedFunction) (final : TypeTable) (s new : Typer) : Type 0 where
+  pub types : Grows new.types final
+  pub literals : IsPrefix new.literals program.literals
+  pub calls : (more : List RoutineCall) → new.calls ≡ s.calls ++ more → AllByRecursion (IsNotedCall program final) more
+  pub taken : (more : List Taken) → new.taken ≡ s.taken ++ more → AllByRecursion (IsNotedAddress program function) more
 
 -- the names mean variables, functions and routines of the program
 abbrev pub KnowsBound : TypedProgram → TypedFunction → TypeTable → Typer → Type 0
 KnowsBound program function final s = AllByRecursion (λ it. BindsName program function final it.entity) s.names.declarations
 
 -- in a program that has what is noted then
-abbrev pub Giving : {A : Type 0} → TypedProgram → TypedFunction → TypeTable → (A → Type 0) → Result (A × Typer) TypeError → Type 0
-Giving program function final holds (Ok p) = IsNoted program function final p.1 → holds p.0
-Giving program function final holds (Err why) = Unit {0}
+abbrev pub Giving : {A : Type 0} → TypedProgram → TypedFunction → TypeTable → Typer → (A → Type 0) → Result (A × Typer) TypeError → Type 0
+Giving program function final s holds (Ok p) = IsNoted program function final s p.1 → holds p.0
+Giving program function final s holds (Err why) = Unit {0}
 
 -- What is known is extended, and the answer meets the fact.
 pub record Keeps {A : Type 0} (program : TypedProgram) (function : TypedFunction) (final : TypeTable) (holds : A → Type 0) (step : Step A) : Type 0 where
   pub always : Always IsConstant step
-  pub gives : (s : Typer) → IsScoped s → s.counts ≡ true → KnowsBound program function final s → Giving program function final holds (step s)
+  pub gives : (s : Typer) → IsScoped s → s.counts ≡ true → KnowsBound program function final s → Giving program function final s holds (step s)
+
+-- of the second of two lists
+pub all_behind : {A : Type 0} → (holds : A → Type 0) (xs ys : List A) → AllByRecursion holds (xs ++ ys) → AllByRecursion holds ys
+all_behind holds [] ys are = are
+all_behind holds (x ∷ xs) ys are = all_behind holds xs ys are.1
 
 -- of the first of two lists
 pub all_before : {A : Type 0} → (holds : A → Type 0) (xs ys : List A) → AllByRecursion holds (xs ++ ys) → AllByRecursion holds xs
 all_before holds [] ys are = tt
 all_before holds (x ∷ xs) ys are = (are.0, all_before holds xs ys are.1)
-
-pub all_of_prefix : {A : Type 0} → (holds : A → Type 0) (old new : List A) → IsPrefix old new → AllByRecursion holds new → AllByRecursion holds old
-all_of_prefix holds old new more are = all_before holds old more.0 (subst (AllByRecursion holds) more.1 are)
 
 -- an expression that operators make is bound to nothing
 pub plain_bound : (program : TypedProgram) (function : TypedFunction) (node : Node) → IsPlain node → IsBoundNode program function node
@@ -121,46 +127,67 @@ module _ (program : TypedProgram) (function : TypedFunction) where
         (all_so (IsAllowedAt IsConstant old.names.level) (λ it. BindsName program function final it.entity)
         (λ it holds. constant_bound it.entity holds.1) reached.names.0 reached.names.1) knows)
 
-    -- what is noted at the end was noted before it
-    noted_before : (old new : Typer) → Reaches IsConstant old new → IsNoted program function final new → IsNoted program function final old
-    noted_before old new reached noted =
+    -- what is noted of two lists, one after the other
+    listed_first : {A : Type 0} → (holds : A → Type 0) (old mid new : List A) → IsPrefix mid new
+        → ((more : List A) → new ≡ old ++ more → AllByRecursion holds more) → (more : List A) → mid ≡ old ++ more → AllByRecursion holds more
+    listed_first holds old mid new after are more same =
+        all_before holds more after.0 (are (more ++ after.0) (after.1 ∙ ap (λ its. its ++ after.0) same ∙ append_assoc old more after.0))
+
+    listed_second : {A : Type 0} → (holds : A → Type 0) (old mid new : List A) → IsPrefix old mid
+        → ((more : List A) → new ≡ old ++ more → AllByRecursion holds more) → (more : List A) → new ≡ mid ++ more → AllByRecursion holds more
+    listed_second holds old mid new before are more same =
+        all_behind holds before.0 more (are (before.0 ++ more) (same ∙ ap (λ its. its ++ more) before.1 ∙ append_assoc old before.0 more))
+
+    -- what is noted by two steps is noted by each of them
+    noted_first : (old mid new : Typer) → Reaches IsConstant mid new → IsNoted program function final old new → IsNoted program function final old mid
+    noted_first old mid new reached noted =
         record {
-          types = grows_then old.types new.types final reached.types noted.types;
-          literals = prefix_then old.literals new.literals program.literals reached.literals noted.literals;
-          calls = all_of_prefix (IsNotedCall program final) old.calls new.calls reached.calls noted.calls;
-          taken = all_of_prefix (IsNotedAddress program function) old.taken new.taken reached.taken noted.taken;
+          types = grows_then mid.types new.types final reached.types noted.types;
+          literals = prefix_then mid.literals new.literals program.literals reached.literals noted.literals;
+          calls = listed_first (IsNotedCall program final) old.calls mid.calls new.calls reached.calls noted.calls;
+          taken = listed_first (IsNotedAddress program function) old.taken mid.taken new.taken reached.taken noted.taken;
         }
 
-    settled : {B : Type 0} → (first : Type 0) (holds : B → Type 0) (mid : Typer) (given : Result (B × Typer) TypeError)
-        → Reaching IsConstant mid given → Giving program function final (λ it. first → holds it) given
-        → (IsNoted program function final mid → first) → Giving program function final holds given
-    settled first holds mid (Ok q) reached given before = λ noted. given noted (before (noted_before mid q.1 reached noted))
-    settled first holds mid (Err why) reached given before = tt
+    noted_second : (old mid new : Typer) → Reaches IsConstant old mid → IsNoted program function final old new → IsNoted program function final mid new
+    noted_second old mid new reached noted =
+        record {
+          types = noted.types;
+          literals = noted.literals;
+          calls = listed_second (IsNotedCall program final) old.calls mid.calls new.calls reached.calls noted.calls;
+          taken = listed_second (IsNotedAddress program function) old.taken mid.taken new.taken reached.taken noted.taken;
+        }
+
+    settled : {B : Type 0} → (first : Type 0) (holds : B → Type 0) (s mid : Typer) (given : Result (B × Typer) TypeError)
+        → Reaches IsConstant s mid → Reaching IsConstant mid given → Giving program function final mid (λ it. first → holds it) given
+        → (IsNoted program function final s mid → first) → Giving program function final s holds given
+    settled first holds s mid (Ok q) reached further given before =
+        λ noted. given (noted_second s mid q.1 reached noted) (before (noted_first s mid q.1 further noted))
+    settled first holds s mid (Err why) reached further given before = tt
 
     then_gives : {A B : Type 0} → (holds : A → Type 0) (holds' : B → Type 0) (next : A → Step B) (s : Typer) (given : Result (A × Typer) TypeError)
         → IsScoped s → s.counts ≡ true → KnowsBound program function final s → Reaching IsConstant s given
-        → Giving program function final holds given → ((it : A) → Keeps program function final (λ made. holds it → holds' made) (next it))
-        → Giving program function final holds' (then_with next given)
+        → Giving program function final s holds given → ((it : A) → Keeps program function final (λ made. holds it → holds' made) (next it))
+        → Giving program function final s holds' (then_with next given)
     then_gives holds holds' next s (Ok p) scoped counts knows reached before after =
         let scoped' : IsScoped p.1 = scoped_after IsConstant s p.1 reached scoped in
-        settled (holds p.0) holds' p.1 (next p.0 p.1) ((after p.0).always.from p.1 scoped')
+        settled (holds p.0) holds' s p.1 (next p.0 p.1) reached ((after p.0).always.from p.1 scoped')
         ((after p.0).gives p.1 scoped' (reached.counts ∙ counts) (knows_after s p.1 reached knows)) before
     then_gives holds holds' next s (Err why) scoped counts knows reached before after = tt
 
     kept_gives : {A : Type 0} → (holds : A → Type 0) (s : Typer) (given : Result A TypeError)
-        → (Grows s.types final → (it : A) → given ≡ Ok it → holds it) → Giving program function final holds (kept s given)
+        → (Grows s.types final → (it : A) → given ≡ Ok it → holds it) → Giving program function final s holds (kept s given)
     kept_gives holds s (Ok it) is = λ noted. is noted.types it refl
     kept_gives holds s (Err why) is = tt
 
     -- a fact that follows
-    so_gives : {A : Type 0} → (holds holds' : A → Type 0) → ((it : A) → holds it → holds' it) → (given : Result (A × Typer) TypeError)
-        → Giving program function final holds given → Giving program function final holds' given
-    so_gives holds holds' so (Ok p) is = λ noted. so p.0 (is noted)
-    so_gives holds holds' so (Err why) is = tt
+    so_gives : {A : Type 0} → (holds holds' : A → Type 0) → ((it : A) → holds it → holds' it) → (s : Typer) (given : Result (A × Typer) TypeError)
+        → Giving program function final s holds given → Giving program function final s holds' given
+    so_gives holds holds' so s (Ok p) is = λ noted. so p.0 (is noted)
+    so_gives holds holds' so s (Err why) is = tt
 
-    nothing_gives : {A : Type 0} → (given : Result (A × Typer) TypeError) → Giving program function final (λ it. Unit {0}) given
-    nothing_gives (Ok p) = λ noted. tt
-    nothing_gives (Err why) = tt
+    nothing_gives : {A : Type 0} → (s : Typer) (given : Result (A × Typer) TypeError) → Giving program function final s (λ it. Unit {0}) given
+    nothing_gives s (Ok p) = λ noted. tt
+    nothing_gives s (Err why) = tt
 
     -- the value of an operand
     loaded_bound : (types : TypeTable) (it : TypedOperand) → IsBoundIn it → Makes (λ p. IsBound p.0) (loaded types it)
@@ -169,7 +196,7 @@ module _ (program : TypedProgram) (function : TypedFunction) where
     loaded_bound types (operand.function it) is = loaded_kept (IsBoundNode program function) (plain_bound program function) types (operand.function it) tt
 
     loaded_gives : (s : Typer) (it : TypedOperand) (given : Result (RightValue × TypeTable) OperandEnd) → loaded s.types it ≡ given
-        → Giving program function final (λ made. IsBoundIn it → IsBound made) (with_types s (lifted given))
+        → Giving program function final s (λ made. IsBoundIn it → IsBound made) (with_types s (lifted given))
     loaded_gives s it (Ok p) same = λ noted is. loaded_bound s.types it is p same
     loaded_gives s it (Err why) same = tt
 
@@ -213,13 +240,13 @@ module _ {program : TypedProgram} {function : TypedFunction} {final : TypeTable}
   so_keeps {holds = holds} {holds' = holds'} {step = step} so is =
       record {
         always = is.always;
-        gives = λ s scoped counts knows. so_gives program function final holds holds' so (step s) (is.gives s scoped counts knows);
+        gives = λ s scoped counts knows. so_gives program function final holds holds' so s (step s) (is.gives s scoped counts knows);
       }
 
   -- what is no part of the tree
   pub nothing_keeps : {A : Type 0} → {step : Step A} → Always IsConstant step → Keeps program function final (λ it. Unit {0}) step
   nothing_keeps {step = step} is =
-      record { always = is; gives = λ s scoped counts knows. nothing_gives program function final (step s) }
+      record { always = is; gives = λ s scoped counts knows. nothing_gives program function final s (step s) }
 
   -- both ways of a test
   pub either_keeps : {A : Type 0} → {holds : A → Type 0} → (b : Bool) → {here there : Step A} → Keeps program function final holds here

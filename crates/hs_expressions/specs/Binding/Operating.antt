@@ -257,12 +257,12 @@ module _ (program : TypedProgram) (function : TypedFunction) (final : TypeTable)
   literal_within false old bytes counts more = absurd cc
 
   string_in_bound : (s : Typer) (at : Place) (bytes : List ℕ) (given : Result (TypeId × TypeTable) TypeEnd) → s.counts ≡ true
-      → Giving program function final (IsBoundIn program function final) (string_in s at bytes given)
+      → Giving program function final s (IsBoundIn program function final) (string_in s at bytes given)
   string_in_bound s at bytes (Ok p) counts = λ noted. (literal_within s.counts s.literals bytes counts noted.literals, tt, tt, tt)
   string_in_bound s at bytes (Err why) counts = tt
 
   string_as_bound : (s : Typer) (at : Place) (o : Option (List ℕ)) → s.counts ≡ true
-      → Giving program function final (IsBoundIn program function final) (string_as at o s)
+      → Giving program function final s (IsBoundIn program function final) (string_as at o s)
   string_as_bound s at None counts = tt
   string_as_bound s at (Some bytes) counts = string_in_bound s at bytes (arrayed (integer_id kind.Char) (length bytes) s.types) counts
 

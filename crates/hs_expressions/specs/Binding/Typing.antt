@@ -173,7 +173,7 @@ pub typing_binds : TypingBinds
 typing_binds program function e s new it scoped counts binds given more noted =
     let extended : Extends s new = typing_extends e s new it scoped given in
     operand_bound program function new.types it
-    (subst (Giving program function new.types (IsBoundIn program function new.types)) given
+    (subst (Giving program function new.types s (IsBoundIn program function new.types)) given
     ((typed_keeps program function new.types e).gives s scoped counts
     (all_so (λ its. BindsName program function s.types its.entity) (λ its. BindsName program function new.types its.entity)
     (λ its is. name_later program function s.types new.types extended.types its.entity is) s.names.declarations binds))
