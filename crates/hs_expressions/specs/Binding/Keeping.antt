@@ -139,8 +139,9 @@ module _ (program : TypedProgram) (function : TypedFunction) where
         all_behind holds before.0 more (are (before.0 ++ more) (same ∙ ap (λ its. its ++ more) before.1 ∙ append_assoc old before.0 more))
 
     -- what is noted by two steps is noted by each of them
-    noted_first : (old mid new : Typer) → Reaches IsConstant mid new → IsNoted program function final old new → IsNoted program function final old mid
-    noted_first old mid new reached noted =
+    pub noted_first : (allowed : Entity → Type 0) (old mid new : Typer) → Reaches allowed mid new → IsNoted program function final old new
+        → IsNoted program function final old mid
+    noted_first allowed old mid new reached noted =
         record {
           types = grows_then mid.types new.types final reached.types noted.types;
           literals = prefix_then mid.literals new.literals program.literals reached.literals noted.literals;
@@ -148,8 +149,9 @@ module _ (program : TypedProgram) (function : TypedFunction) where
           taken = listed_first (IsNotedAddress program function) old.taken mid.taken new.taken reached.taken noted.taken;
         }
 
-    noted_second : (old mid new : Typer) → Reaches IsConstant old mid → IsNoted program function final old new → IsNoted program function final mid new
-    noted_second old mid new reached noted =
+    pub noted_second : (allowed : Entity → Type 0) (old mid new : Typer) → Reaches allowed old mid → IsNoted program function final old new
+        → IsNoted program function final mid new
+    noted_second allowed old mid new reached noted =
         record {
           types = noted.types;
           literals = noted.literals;
@@ -161,7 +163,7 @@ module _ (program : TypedProgram) (function : TypedFunction) where
         → Reaches IsConstant s mid → Reaching IsConstant mid given → Giving program function final mid (λ it. first → holds it) given
         → (IsNoted program function final s mid → first) → Giving program function final s holds given
     settled first holds s mid (Ok q) reached further given before =
-        λ noted. given (noted_second s mid q.1 reached noted) (before (noted_first s mid q.1 further noted))
+        λ noted. given (noted_second IsConstant s mid q.1 reached noted) (before (noted_first IsConstant s mid q.1 further noted))
     settled first holds s mid (Err why) reached further given before = tt
 
     then_gives : {A B : Type 0} → (holds : A → Type 0) (holds' : B → Type 0) (next : A → Step B) (s : Typer) (given : Result (A × Typer) TypeError)
