@@ -168,7 +168,7 @@ defined_by number at said it body None parameters = stop (Untyped at)
 defined_by number at said it body (Some word) None = stop (Untyped word.place)
 defined_by number at said it body (Some word) (Some parameters) = do
   may_name word
-  id ← typing (opened_type at said.type_id it)
+  id ← typing (opened_type at said.type_id it parameters)
   defined_as number (is_static said.storage) word parameters body id
 
 -- after its specifiers

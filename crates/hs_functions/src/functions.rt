@@ -2,7 +2,7 @@
 
 ghost use Rattle.std.specs.Prelude.{◌≡◌, Ok, drop, map, option_map, option_copied};
 ghost use Rattle.hs_functions.specs.Functions.{may_store, may_give, is_of_other, is_only, finished, counts, defined_with, defined_as, defined_by, defined_said, brace_of, defined};
-ghost use Rattle.hs_functions.specs.Opening.{begun, opened_type, named_outside};
+ghost use Rattle.hs_functions.specs.Opening.{opened_type, named_outside};
 ghost use Rattle.hs_linkage.specs.Works.{Works};
 ghost use Rattle.hs_syntax.specs.RowViews.{view_parameter, parameters_from};
 ghost use Rattle.hs_syntax.specs.Views.{view_block as view_compound, view_declarator, specification_of};
@@ -41,32 +41,31 @@ fn may_store(m: &Translator, stored: Place, storage: Option<Storage>) -> Result<
     Ok(())
 }
 
-/// Begins the scope of the parameters, if no list of parameters began it.
-fn begin(typer: &mut Typer) -> Result<(), TypeError>
-    ensures { Steps (λ it. it) typer.new (begun typer.old) result }
-{
-    if typer.keeps {
-        typer.keeps = false;
-        typer.names.enter()?;
-        typer.tags.enter()?;
-    }
-    Ok(())
-}
-
-/// The type that a declarator makes of that of the specifiers. The scope of the parameters is then the innermost one.
+/// The type that a declarator makes of that of the specifiers. The scope of the parameters is then the innermost one: that of the first
+/// list of parameters in the declarator, or a new one if there are none.
 fn opened_type(
     alloc: Global,
     typer: &mut Typer,
     at: Place,
     base: TypeId,
     it: &Declarator,
+    parameters: &[Parameter],
 ) -> Result<TypeId, TypeError>
-    ensures { Steps (λ id. id) typer.new (opened_type at base (view_declarator it.now) typer.old) result }
+    ensures { Steps (λ id. id) typer.new
+        (opened_type at base (view_declarator it.now) (parameters_from (map view_parameter parameters.now)) typer.old) result }
 {
-    typer.keeps = true;
-    let id = item_type(alloc, typer, at, base, it)?;
-    begin(typer)?;
-    Ok(id)
+    match parameters.split_first() {
+        None => {
+            let id = item_type(alloc, typer, at, base, it)?;
+            typer.names.enter()?;
+            typer.tags.enter()?;
+            Ok(id)
+        }
+        Some(_) => {
+            typer.keeps = true;
+            item_type(alloc, typer, at, base, it)
+        }
+    }
 }
 
 /// Refuses a function that gives a value that cannot be read, at its name.
@@ -254,7 +253,7 @@ fn defined_by(
         return Err(TypeError::Untyped(name.place));
     };
     may_name(m, name)?;
-    let id = opened_type(alloc, &mut m.typer, at, said.type_id, it)?;
+    let id = opened_type(alloc, &mut m.typer, at, said.type_id, it, its)?;
     let internal = is_static(said.storage);
     defined_as(alloc, m, number, internal, name, its, block, id)
 }
