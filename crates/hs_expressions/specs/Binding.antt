@@ -95,9 +95,10 @@ IsPrototype within types id (Some its) = IsLike within types id its.parameters i
 abbrev pub IsNotedCall : TypedProgram → TypeTable → RoutineCall → Type 0
 IsNotedCall program types call = IsPrototype program.types types call.type_id (prototype_in (slice_get program.routines call.routine))
 
--- what the address is taken of is marked
+-- what the address is taken of is marked, if it is there
 abbrev pub IsNotedAddress : TypedProgram → TypedFunction → Taken → Type 0
-IsNotedAddress program function (taken.Variable variable) = IsTrue (is_taken_variable (declared program function variable))
+IsNotedAddress program function (taken.Variable variable) =
+    IsTrue (is_some (declared program function variable)) → IsTrue (is_taken_variable (declared program function variable))
 IsNotedAddress program function (taken.Field field) = IsTrue (is_taken program.taken field)
 
 -- What was noted before it may be of another function.

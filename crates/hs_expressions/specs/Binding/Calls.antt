@@ -6,7 +6,7 @@ use Rattle.std.proofs.lemmas.List.{append_assoc, append-nil}
 use Rattle.std.proofs.lemmas.Option.{slice_get_within}
 use Rattle.hs_tree.specs.Kinds.{AreAlike}
 use Rattle.hs_expressions.specs.Binding.{AllAlike, IsBoundNode, IsList, IsSignature, IsDefined, IsPrototype, BindsAs, IsNotedAddress}
-use Rattle.hs_expressions.specs.Binding.Keeping.{Giving, Keeps, IsBound, IsBoundIn, plain_bound, of_types_keeps, then_keeps, so_keeps}
+use Rattle.hs_expressions.specs.Binding.Keeping.{Giving, Keeps, IsBound, IsBoundIn, IsBoundObject, plain_bound, of_types_keeps, then_keeps, so_keeps}
 use Rattle.hs_expressions.specs.Laws.Always.{refuses_always}
 use Rattle.hs_expressions.specs.Laws.Leaves.{addressed_always, call_with_always}
 use Rattle.hs_expressions.specs.Operations.{taken_by, addressed, bound_call, call_with, call_operand}
@@ -312,14 +312,14 @@ module _ (program : TypedProgram) (function : TypedFunction) (final : TypeTable)
       (λ its. so_keeps (λ made is fits named are. is (fits are) named) (call_with_keeps it its))
 
   -- what an address is taken of is noted
-  noted_marked : (head : Head) (it : LeftValue) → AllByRecursion (IsNotedAddress program function) (taken_by it)
+  noted_marked : (head : Head) (it : LeftValue) → IsBoundObject program function it → AllByRecursion (IsNotedAddress program function) (taken_by it)
       → IsMarked program function (right (tree.address head it))
-  noted_marked head (tree.variable its name) are = are.0
-  noted_marked head (tree.literal its place) are = tt
-  noted_marked head (tree.target its pointer) are = tt
-  noted_marked head (tree.element its size pointer_first a b) are = tt
-  noted_marked head (tree.member its field offset object) are = are.0
-  noted_marked head (tree.arrow its field offset pointer) are = are.0
+  noted_marked head (tree.variable its name) is are = are.0 is.0
+  noted_marked head (tree.literal its place) is are = tt
+  noted_marked head (tree.target its pointer) is are = tt
+  noted_marked head (tree.element its size pointer_first a b) is are = tt
+  noted_marked head (tree.member its field offset object) is are = are.0
+  noted_marked head (tree.arrow its field offset pointer) is are = are.0
 
   addressed_gives : (at : Place) (it : TypedOperand) (s : Typer) → s.counts ≡ true
       → Giving program function final s (λ made. IsBoundIn program function final it → IsBoundIn program function final made) (addressed at it s)
@@ -330,7 +330,7 @@ module _ (program : TypedProgram) (function : TypedFunction) (final : TypeTable)
           tt,
           tt,
           tt,
-          noted_marked (head_at at (id_of (row.Pointer (type_of_left it)) s.types)) it
+          noted_marked (head_at at (id_of (row.Pointer (type_of_left it)) s.types)) it is
               (noted.taken (taken_by it) (counted s.counts s.taken (taken_by it) counts)),
         ),
         is,
