@@ -213,17 +213,19 @@ module _ (m : Translator) (are : AreWhole m.typer.types m.locals) (scoped : IsSc
   opened_fits number static word them body (Err why) begun = tt
 
   by_fits : (number : ℕ) (at : Place) (said : Front) (it : Declared) (body : Compound) (word : Option Word) (them : Option Parameters)
-      → FitsGiven m (defined_by number at said it body word them m)
-  by_fits number at said it body None them = tt
-  by_fits number at said it body (Some word) None = tt
-  by_fits number at said it body (Some word) (Some them) = named_if (is_typedef (find word.text m.typer.names) || not (is_free (find_here word.text m.typer.names) (find word.text m.links)))
+      → parameters_of it ≡ them → FitsGiven m (defined_by number at said it body word them m)
+  by_fits number at said it body None them same = tt
+  by_fits number at said it body (Some word) None same = tt
+  by_fits number at said it body (Some word) (Some them) same =
+      named_if (is_typedef (find word.text m.typer.names) || not (is_free (find_here word.text m.typer.names) (find word.text m.links)))
     where
       named_if : (b : Bool)
-          → FitsGiven m (work_with {A = Unit {0}} {B = TypedFunction} (λ may. typing (opened_type at said.type_id it)
+          → FitsGiven m (work_with {A = Unit {0}} {B = TypedFunction} (λ may. typing (opened_type at said.type_id it them)
           >>= (λ id. defined_as number (is_static said.storage) word them body id)) (if b then Err (Untyped word.place) else Ok (tt, m)))
       named_if true = tt
       named_if false =
-          opened_fits number (is_static said.storage) word them body (opened_type at said.type_id it m.typer) (opened_begins at said.type_id it m.typer scoped)
+          opened_fits number (is_static said.storage) word them body (opened_type at said.type_id it them m.typer)
+          (opened_begins at said.type_id it them same m.typer scoped)
 
   said_fits : (number : ℕ) (at stored : Place) (it : Declared) (body : Compound) (said : Front)
       → FitsGiven m (defined_said number at stored it body said m)
@@ -233,7 +235,7 @@ module _ (m : Translator) (are : AreWhole m.typer.types m.locals) (scoped : IsSc
           → FitsGiven m (work_with {A = Unit {0}} {B = TypedFunction} (λ may. defined_by number at said it body (word_of it) (parameters_of it))
           (if b then Err (Untyped stored) else Ok (tt, m)))
       stored_if true = tt
-      stored_if false = by_fits number at said it body (word_of it) (parameters_of it)
+      stored_if false = by_fits number at said it body (word_of it) (parameters_of it) refl
 
 -- from a place before it
 fits_behind : (first second : Translator) (given : Result (TypedFunction × Translator) TypeError) → Passes first second → FitsGiven second given

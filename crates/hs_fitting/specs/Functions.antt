@@ -81,7 +81,7 @@ module _ (holds : TypedBlock → Type 0) (bodies : (id : TypeId) (it : Compound)
   by_always number at said it body (Some word) None = stops_always HasBody _
   by_always number at said it body (Some word) (Some them) =
       next_always (may_name word)
-      (λ may. next_always (typing (opened_type at said.type_id it)) (λ id. record { given = λ m. (of_always number _ word them id body _).given m }))
+      (λ may. next_always (typing (opened_type at said.type_id it them)) (λ id. record { given = λ m. (of_always number _ word them id body _).given m }))
 
   said_always : (number : ℕ) (at stored : Place) (it : Declared) (body : Compound) (said : Front)
       → Always (defined_said number at stored it body said) HasBody

@@ -78,7 +78,7 @@ module _ {E : Type 0} where
       ∙ ap (parts_with name it level its old) (pred_suc level)
 
 -- what is known inside it
-named_inside : (name : List ℕ) (it : Entity) (mid new : Scoped Entity) → AllByRecursion (λ it. it.level ≤ mid.level) mid.declarations
+pub named_inside : (name : List ℕ) (it : Entity) (mid new : Scoped Entity) → AllByRecursion (λ it. it.level ≤ mid.level) mid.declarations
     → HasMore (IsAllowedAt Anything (suc mid.level)) (entered mid) new
     → HasMore (IsAllowedAt Anything (suc mid.level)) (entered (declared name it mid)) (declared_outside name it new)
 named_inside name it mid new closed inside = (
@@ -89,10 +89,10 @@ named_inside name it mid new closed inside = (
       (all_so (IsAllowedAt Anything (suc mid.level)) (λ it. it.level ≡ suc mid.level) (λ it holds. holds.0) inside.0 inside.1) closed,
 )
 
-abbrev with_name : List ℕ → Entity → Typer → Typer
+abbrev pub with_name : List ℕ → Entity → Typer → Typer
 with_name name it mid = record mid { names = declared name it mid.names }
 
-abbrev with_name_outside : List ℕ → Entity → Translator → Translator
+abbrev pub with_name_outside : List ℕ → Entity → Translator → Translator
 with_name_outside name it m = record m { typer = record m.typer { names = declared_outside name it m.typer.names } }
 
 -- around it

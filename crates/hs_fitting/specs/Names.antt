@@ -70,7 +70,7 @@ by_named number at said it body None them = stops_always _ _
 by_named number at said it body (Some word) None = stops_always _ _
 by_named number at said it body (Some word) (Some them) =
     next_always (may_name word)
-    (λ may. next_always (typing (opened_type at said.type_id it))
+    (λ may. next_always (typing (opened_type at said.type_id it them))
     (λ id. record { given = λ m. (of_named number (is_static said.storage) word them id body _).given m }))
 
 said_named : (number : ℕ) (at stored : Place) (it : Declared) (body : Compound) (said : Front)
