@@ -4,14 +4,13 @@
 --     IsBehind its m done one id result mid entity claims c        behind the parameters of the function
 --     DefinedRight its m done p          what a definition gives, and what is known then
 --     body_right                         the rest of the definition
-use Rattle.std.proofs.Common.{◌≡◌, ℕ, zero, suc, Bool, true, false, List, [], ◌∷◌, ◌++◌, length, drop, slice_get, Option, Some, None, Result, Ok, Err, IsTrue, is_some, refl, sym, ap, subst, ◌∙◌}
+use Rattle.std.proofs.Common.{◌≡◌, ℕ, suc, Bool, true, false, List, [], ◌∷◌, ◌++◌, length, drop, slice_get, Option, Some, None, Result, Ok, Err, IsTrue, is_some, refl, sym, ap, subst, ◌∙◌}
 use Rattle.std.specs.Prelude.{◌==◌, take}
 use Rattle.std.proofs.lemmas.List.{append-nil}
 use Rattle.std.specs.List.{AllByRecursion}
 use Rattle.hs_declarations.specs.Declarations.{block_declared}
 use Rattle.hs_expressions.specs.Binding.{IsSignature, IsLike, IsDefined}
 use Rattle.hs_expressions.specs.Expressions.{leave}
-use Rattle.hs_expressions.specs.Laws.{IsConstant, IsScoped}
 use Rattle.hs_expressions.specs.Laws.Always.{Anything}
 use Rattle.hs_expressions.specs.Laws.Reached.{IsAllowedAt, all_so, left_entered}
 use Rattle.hs_fitting.specs.Claims.{Claims, RefersTo, IsVariableIn, IsLink, IsExternal, IsRoutineDeclared, IsMet, IsMetAs, IsRegisteredAs, category_at, Endures, IsObjectRight, Stands, Proceeds}
@@ -26,17 +25,14 @@ use Rattle.hs_fitting.specs.Passes.{count_types, marked_types}
 use Rattle.hs_fitting.specs.Phrases.{IsRightPhrase, IsRightItem, body_walks}
 use Rattle.hs_fitting.specs.Shapes.{SameShape}
 use Rattle.hs_fitting.specs.Stating.{body_moved}
-use Rattle.hs_fitting.specs.Walk.{Anywhere, Nothing, Continues, Walked, Walking, Walks, proceeds_then}
+use Rattle.hs_fitting.specs.Walk.{Anywhere, Nothing, Walked, Walking, Walks, proceeds_then}
 use Rattle.hs_functions.specs.Functions.{finished}
 use Rattle.hs_linkage.specs.Externals.{newest_external}
 use Rattle.hs_linkage.specs.Objects.{marked}
 use Rattle.hs_linkage.specs.Works.{work_with}
 use Rattle.hs_linkage.specs.declared.definitions.Definition.{Definition}
-use Rattle.hs_linkage.specs.declared.externals.External.{External}
-use Rattle.hs_linkage.specs.declared.translator.Linked.{Linked}
-use Rattle.hs_linkage.specs.declared.translator.StaticObject.{StaticObject}
 use Rattle.hs_linkage.specs.declared.translator.Translator.{Translator}
-use Rattle.hs_names.specs.Scopes.{Declared, declared, find, left}
+use Rattle.hs_names.specs.Scopes.{find, left}
 use Rattle.hs_statements.specs.Statements.{body_of, without_scope}
 use Rattle.hs_syntax.specs.Trees.{Declaration, Compound}
 use Rattle.hs_syntax.specs.declared.word.Word.{Word}
@@ -49,7 +45,7 @@ use Rattle.hs_typer.specs.declared.type_error.TypeError.{TypeError}
 use Rattle.hs_typer.specs.declared.typer.Entity.{Entity}
 use Rattle.hs_typer.specs.declared.typer.Typer.{Typer}
 use Rattle.hs_types.specs.TypeTables.{TypeTable, IsRight, Grows}
-use Rattle.hs_types.specs.Growing.{grows_then}
+use Rattle.hs_types.specs.Growing.{grows_self}
 use Rattle.hs_types.specs.declared.row.TypeId.{TypeId}
 
 -- ---- names are what they were
@@ -78,12 +74,13 @@ module _ (program : TypedProgram) (here : List ℕ → Bool) (its : Claims) (var
         names = stands.names;
         locals = stands.locals;
         links = all_so (IsLink program.types here its m) (IsLink program.types here its (record m { locals = locals }))
-            (λ it is. record { refers = is.refers; bound = is.bound; internal = is.internal; global = is.global }) m.links.declarations stands.links;
+            (λ it is. record { refers = is.refers; bound = is.bound; internal = is.internal; global = is.global; typed = is.typed }) m.links.declarations stands.links;
         externals = all_so (IsExternal program.types its m) (IsExternal program.types its (record m { locals = locals }))
-            (λ it is. record { refers = is.refers; bound = is.bound; global = is.global }) m.externals stands.externals;
+            (λ it is. record { refers = is.refers; bound = is.bound; global = is.global; typed = is.typed }) m.externals stands.externals;
         routines = all_so (IsRoutineDeclared program.types its m) (IsRoutineDeclared program.types its (record m { locals = locals }))
-            (λ it is. record { refers = is.refers; routine = is.routine }) m.routines stands.routines;
+            (λ it is. record { refers = is.refers; routine = is.routine; typed = is.typed; signed = is.signed }) m.routines stands.routines;
         calls = stands.calls;
+        right = stands.right;
         objects = all_so (IsObjectRight program its m) (IsObjectRight program its (record m { locals = locals }))
             (λ it is. record {
               category = is.category;
@@ -110,6 +107,7 @@ module _ (program : TypedProgram) (here : List ℕ → Bool) (its : Claims) (var
         externals = stands.externals;
         routines = stands.routines;
         calls = stands.calls;
+        right = stands.right;
         objects = stands.objects;
         functions_met = stands.functions_met;
         routines_met = stands.routines_met;
@@ -150,6 +148,7 @@ pub record DefinedRight (program : TypedProgram) (here : List ℕ → Bool) (its
   pub stands : Stands program here claims [] p.1
   pub outside : p.1.locals ≡ []
   pub definitions : p.1.definitions ≡ m.definitions
+  pub unit : p.1.typer.origins.unit ≡ m.typer.origins.unit
   pub functions : AreDone program claims p.1 (done ++ p.0 ∷ [])
   pub gives : Endures program claims p.1 → EachBlock (IsRightPhrase program p.0) p.0.body
 
@@ -246,7 +245,7 @@ module _ (program : TypedProgram) (here : List ℕ → Bool) (sound : IsRight pr
       stands_end : Stands program here walked.claims [] (end_of n)
       stands_end =
           stands_locals program here walked.claims [] (without_scope n) []
-          (stands_typer program here walked.claims n (leave n.typer) refl refl n.locals [] refers_left outside_left walked.stands.calls
+          (stands_typer program here walked.claims n (leave n.typer) refl refl n.locals [] (grows_self n.typer.types) refers_left outside_left walked.stands.calls walked.stands.right
           (endures_scopes program walked.claims n (leave n.typer).names (leave n.typer).tags) walked.stands)
 
       proceeds_end : Proceeds program.types its m walked.claims (end_of n)
@@ -291,6 +290,7 @@ module _ (program : TypedProgram) (here : List ℕ → Bool) (sound : IsRight pr
             stands = stands_end;
             outside = refl;
             definitions = inner.definitions;
+            unit = inner.inside.unit ∙ inner.around.unit;
             functions = done_with program walked.claims (end_of n) done (function_of n (length c.locals) (length c.typer.taken) made)
                 (done_later program here its walked.claims [] m (end_of n) inner.definitions proceeds_end done stands_end are)
                 claimed_shape

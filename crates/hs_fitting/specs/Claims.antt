@@ -5,15 +5,16 @@
 --     Endures program its m           what was noted and claimed until then is the program's
 --     Stands program here its variables m      all names refer to what was claimed, in this unit and in those before it
 --     Proceeds its m its' m'          from one place of the text to a later one: claims stay, and none is made twice
-use Rattle.std.proofs.Common.{◌≡◌, ◌<◌, ℕ, Bool, true, false, List, [], length, slice_get, Option, Some, None, IsTrue, is_some}
+use Rattle.std.proofs.Common.{◌≡◌, ◌<◌, ◌⊎◌, ℕ, Bool, true, false, List, [], length, slice_get, Option, Some, None, IsTrue, is_some}
 use Rattle.std.specs.Prelude.{◌==◌}
 use Rattle.std.specs.List.{AllByRecursion}
-use Rattle.hs_expressions.specs.Binding.{IsDefined, IsNotedCall}
+use Rattle.hs_expressions.specs.Binding.{IsDefined, IsList, IsNotedCall}
 use Rattle.hs_expressions.specs.Laws.{IsPrefix}
 use Rattle.hs_expressions.specs.Roles.{fits_role}
+use Rattle.hs_fitting.specs.Rightness.{AreRight}
 use Rattle.hs_fitting.specs.Shapes.{SameShape}
 use Rattle.hs_linkage.specs.Definitions.{same_name, first_place}
-use Rattle.hs_linkage.specs.Externals.{newest_external}
+use Rattle.hs_linkage.specs.Externals.{newest_external, type_of_entity}
 use Rattle.hs_linkage.specs.Linkage.{bound_to}
 use Rattle.hs_linkage.specs.declared.definitions.Definition.{Definition}
 use Rattle.hs_linkage.specs.declared.externals.External.{External}
@@ -36,7 +37,9 @@ use Rattle.hs_typer.specs.declared.typer.RoutineCall.{RoutineCall}
 use Rattle.hs_typer.specs.declared.typer.Taken.{Taken}
 use Rattle.hs_typer.specs.declared.typer.Taken.TheVariants as taken
 use Rattle.hs_typer.specs.declared.typer.Entity.TheVariants as entity
-use Rattle.hs_types.specs.TypeTables.{TypeTable, Grows, is_complete}
+use Rattle.hs_types.specs.TypeTables.{TypeTable, Grows, row_of, is_complete}
+use Rattle.hs_types.specs.declared.row.ListId.{ListId}
+use Rattle.hs_types.specs.declared.row.Row.TheVariants as row
 use Rattle.hs_types.specs.declared.row.TypeId.{TypeId}
 
 -- The first type that a declaration gave a function of the program, and a routine of the table, by their numbers.
@@ -45,7 +48,7 @@ pub record Claims : Type 0 where
   pub routines : ℕ → Option TypeId
 
 -- nothing is declared
-pub no_claims : Claims
+abbrev pub no_claims : Claims
 no_claims = record { functions = λ number. None; routines = λ number. None }
 
 -- the category of an object; `types` are those of the whole program
@@ -90,6 +93,13 @@ IsVariableIn types locals (entity.Variable (variable.Local place) id) = IsVariab
 IsVariableIn types locals (entity.Function id to) = Unit {0}
 IsVariableIn types locals (entity.Typedef id) = Unit {0}
 
+-- the type of a function is one of functions
+abbrev pub IsTypedIn : TypeTable → Entity → Type 0
+IsTypedIn types (entity.Constant bits) = Unit {0}
+IsTypedIn types (entity.Variable its id) = Unit {0}
+IsTypedIn types (entity.Function id to) = category_of types id ≡ Some of_function
+IsTypedIn types (entity.Typedef id) = Unit {0}
+
 -- its calls are bound as those of that name are
 abbrev pub IsBoundAs : Bool → ℕ → List Definition → List Routine → List ℕ → Entity → Type 0
 IsBoundAs internal unit definitions table name (entity.Constant bits) = Unit {0}
@@ -107,12 +117,14 @@ pub record IsLink (types : TypeTable) (here : List ℕ → Bool) (its : Claims) 
   pub bound : IsBoundIn m it.entity.internal it.name it.entity.entity
   pub internal : it.entity.internal ≡ true → here it.name ≡ true
   pub global : IsVariableIn types [] it.entity.entity
+  pub typed : IsTypedIn m.typer.types it.entity.entity
 
 -- a declaration with external linkage
 pub record IsExternal (types : TypeTable) (its : Claims) (m : Translator) (it : External) : Type 0 where
   pub refers : RefersTo types its m.objects it.entity
   pub bound : IsBoundIn m false it.name it.entity
   pub global : IsVariableIn types [] it.entity
+  pub typed : IsTypedIn m.typer.types it.entity
 
 -- the routine of that name
 abbrev pub IsRoutineOf : List Routine → List ℕ → Entity → Type 0
@@ -123,10 +135,18 @@ IsRoutineOf table name (entity.Function id (bound.Routine number)) = first_place
 IsRoutineOf table name (entity.Function id bound.Nothing) = ⊥
 IsRoutineOf table name (entity.Typedef id) = ⊥
 
--- a declaration of a function that is bound to a routine
+-- the list of its parameters ends, and is shorter than the table
+abbrev pub IsSigned : TypeTable → External → Type 0
+IsSigned types it =
+    (id : TypeId) → type_of_entity it.entity ≡ Some id → (result : TypeId) (list : ListId) → row_of types id ≡ Some (row.Function result list)
+    → (parameters : List TypeId) × IsList types list parameters × (length parameters < length types.lists)
+
+-- A declaration of a function that is bound to a routine. At the end of its unit it is looked at once more, and its type is then known whole.
 pub record IsRoutineDeclared (types : TypeTable) (its : Claims) (m : Translator) (it : External) : Type 0 where
   pub refers : RefersTo types its m.objects it.entity
   pub routine : IsRoutineOf m.typer.table it.name it.entity
+  pub typed : IsTypedIn m.typer.types it.entity
+  pub signed : ((it.unit == m.typer.origins.unit) ≡ true) ⊎ IsSigned types it
 
 -- a link with internal linkage
 abbrev pub IsInternalLink : Option Linked → Type 0
@@ -200,6 +220,11 @@ pub record IsObjectRight (program : TypedProgram) (its : Claims) (m : Translator
   pub undefined : it.defined ≡ false → it.parts ≡ []
   pub filled : Endures program its m → FitsParts program it.variable.type_id it.parts
 
+-- the first routine of its name in the table
+abbrev pub IsFirstRoutine : List Routine → ℕ → Type 0
+IsFirstRoutine table number =
+    (it : Routine) × (slice_get table number ≡ Some it) × (first_place (λ other. same_name other.name it.name) table ≡ Some number)
+
 -- All names refer to what was claimed, or mean one of these automatic variables.
 pub record Stands (program : TypedProgram) (here : List ℕ → Bool) (its : Claims) (variables : List VariableDecl) (m : Translator) : Type 0 where
   pub names : AllByRecursion (λ it. RefersTo program.types its m.objects it.entity) m.typer.names.declarations
@@ -208,13 +233,14 @@ pub record Stands (program : TypedProgram) (here : List ℕ → Bool) (its : Cla
   pub externals : AllByRecursion (IsExternal program.types its m) m.externals
   pub routines : AllByRecursion (IsRoutineDeclared program.types its m) m.routines
   pub calls : AllByRecursion (IsCallClaimed program.types its m.typer.table) m.typer.calls
+  pub right : AreRight m.typer.types
   pub objects : AllByRecursion (IsObjectRight program its m) m.objects
   pub functions_met : (number : ℕ) (id : TypeId) (it : Definition) → its.functions number ≡ Some id → slice_get m.definitions number ≡ Some it
       → IsRegistered m it
   pub routines_met : (number : ℕ) (id : TypeId) (it : Routine) → its.routines number ≡ Some id → slice_get m.typer.table number ≡ Some it
       → IsTrue (is_some (newest_external it.name m.routines))
   pub functions_there : (number : ℕ) (id : TypeId) → its.functions number ≡ Some id → IsTrue (is_some (slice_get m.definitions number))
-  pub routines_there : (number : ℕ) (id : TypeId) → its.routines number ≡ Some id → IsTrue (is_some (slice_get m.typer.table number))
+  pub routines_there : (number : ℕ) (id : TypeId) → its.routines number ≡ Some id → IsFirstRoutine m.typer.table number
   pub internal : (number : ℕ) (it : Definition) → slice_get m.definitions number ≡ Some it → (it.unit == m.typer.origins.unit) ≡ true
       → it.internal ≡ here it.name
 

@@ -75,7 +75,7 @@ parameter_in_moved first it list =
     then_moved (next_type first list) (next_type_moved first list)
     (λ its. then_moved (named_parameter first (word_of it) its.0) (named_parameter_moved first (word_of it) its.0) (λ done. passes_moved its.1))
 
-parameters_in_moved : (at : Place) (its : Parameters) (list : ListId) → Moved (parameters_in at its list)
+pub parameters_in_moved : (at : Place) (its : Parameters) (list : ListId) → Moved (parameters_in at its list)
 parameters_in_moved at syntax.no_parameters list = passes_moved tt
 parameters_in_moved at (syntax.more_parameters words it rest) list =
     then_moved (parameter_in (first_place at words) it list) (parameter_in_moved (first_place at words) it list)
@@ -227,7 +227,7 @@ module _ (m : Translator) (are : AreWhole m.typer.types m.locals) (scoped : IsSc
           opened_fits number (is_static said.storage) word them body (opened_type at said.type_id it them m.typer)
           (opened_begins at said.type_id it them same m.typer scoped)
 
-  said_fits : (number : ℕ) (at stored : Place) (it : Declared) (body : Compound) (said : Front)
+  pub said_fits : (number : ℕ) (at stored : Place) (it : Declared) (body : Compound) (said : Front)
       → FitsGiven m (defined_said number at stored it body said m)
   said_fits number at stored it body said = stored_if (is_typedef_word said.storage)
     where

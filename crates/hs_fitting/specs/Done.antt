@@ -3,7 +3,7 @@
 --     AreDone program its m done         so it is of these functions
 --     done_later                         at a later place of the text
 --     done_with                          with one more
-use Rattle.std.proofs.Common.{◌≡◌, ℕ, zero, suc, Bool, List, [], ◌∷◌, ◌++◌, length, slice_get, Option, Some, None, IsTrue, is_some, refl, sym, ap, subst, ◌∙◌}
+use Rattle.std.proofs.Common.{◌≡◌, ℕ, zero, suc, Bool, List, [], ◌∷◌, ◌++◌, length, slice_get, Option, Some, None, IsTrue, is_some, refl, ap, subst, ◌∙◌}
 use Rattle.hs_expressions.specs.Binding.{IsDefined}
 use Rattle.hs_fitting.specs.Claims.{Claims, IsMet, Stands, Proceeds}
 use Rattle.hs_linkage.specs.declared.definitions.Definition.{Definition}

@@ -1,14 +1,14 @@
 -- The parameters of a function that is being defined are its first variables, of the types that its type lists (X3.159-1989 3.7.1).
 --     HasParameters m ids n          what is known after them
 --     parameters_given               by `parameters_in`
-use Rattle.std.proofs.Common.{◌≡◌, Bool, true, false, not, List, [], ◌∷◌, ◌++◌, length, slice_get, Option, Some, None, Result, Ok, Err, refl, sym, ap, subst, ◌∙◌, if◌then◌else◌}
+use Rattle.std.proofs.Common.{◌≡◌, Bool, true, false, not, List, [], ◌∷◌, ◌++◌, slice_get, Option, Some, None, Result, Ok, Err, refl, sym, ap, subst, ◌∙◌, if◌then◌else◌}
 use Rattle.std.proofs.lemmas.List.{append_assoc, append-nil}
 use Rattle.hs_declarations.specs.Declarations.{new_local}
 use Rattle.hs_expressions.specs.Binding.{IsList}
 use Rattle.hs_expressions.specs.Expressions.{first_place}
 use Rattle.hs_fitting.specs.Blocks.{local_of}
 use Rattle.hs_fitting.specs.Prototypes.{AreAsMany}
-use Rattle.hs_functions.specs.Functions.{named_parameter, first_type, next_type, parameter_in, parameters_in}
+use Rattle.hs_functions.specs.Functions.{named_parameter, first_type, parameters_in}
 use Rattle.hs_linkage.specs.Works.{work_with, ◌>>=◌, pass}
 use Rattle.hs_linkage.specs.declared.translator.Translator.{Translator}
 use Rattle.hs_syntax.specs.Trees as syntax

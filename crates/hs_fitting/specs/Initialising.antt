@@ -1,6 +1,6 @@
 -- Initialisers extend what is known, as their expressions do.
 --     initialised_always, starting_always, inline_words_always
-use Rattle.std.proofs.Common.{ℕ, Bool, true, false, ◌&&◌, List, [], ◌∷◌, ◌++◌, length, Option, Some, None, Result, Ok, Err, is_some, if◌then◌else◌}
+use Rattle.std.proofs.Common.{ℕ, Bool, true, false, ◌&&◌, List, [], ◌∷◌, ◌++◌, length, Option, Some, None, Ok, is_some, if◌then◌else◌}
 use Rattle.hs_expressions.specs.Laws.{IsConstant, IsScoped}
 use Rattle.hs_expressions.specs.Laws.Always.{Always, Reaching, gives_always, refuses_always, looks_always, of_types_always, on_types_always, then_always, value_always}
 use Rattle.hs_expressions.specs.Laws.Extending.{typed_always}
@@ -15,13 +15,12 @@ use Rattle.hs_syntax.specs.Trees.{Expression, Initialising, Initialisers}
 use Rattle.hs_tokens.specs.declared.place.Place.{Place}
 use Rattle.hs_tree.specs.declared.constant.Part.{Part}
 use Rattle.hs_tree.specs.Trees as tree
-use Rattle.hs_typer.specs.Declarators.{constant_of, untyped_end}
+use Rattle.hs_typer.specs.Declarators.{constant_of}
 use Rattle.hs_typer.specs.Steps.{Step, ◌>>=◌, give, lifted, of_types, on_types}
 use Rattle.hs_typer.specs.declared.type_error.TypeError.TheVariants.{Untyped}
 use Rattle.hs_typer.specs.declared.typer.Typer.{Typer}
 use Rattle.hs_types.specs.Growing.{grows_self}
 use Rattle.hs_types.specs.TypeTables.{TypeTable, row_of, arrayed}
-use Rattle.hs_types.specs.declared.types.TypeEnd.{TypeEnd}
 use Rattle.hs_types.specs.declared.row.Row.{Row}
 use Rattle.hs_types.specs.declared.row.Row.TheVariants as row
 use Rattle.hs_types.specs.declared.row.TypeId.{TypeId}

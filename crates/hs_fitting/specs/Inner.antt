@@ -3,11 +3,9 @@
 --     begins_inner, inner_moves       at the type of the function, and after steps inside the scope
 --     inner_named                     with the name of the function, which is known around the scope
 --     inner_ends                      the scope ends
-use Rattle.std.proofs.Common.{◌≡◌, ◌≤◌, ℕ, suc, ◌-◌, Bool, true, false, List, [], ◌∷◌, ◌++◌, refl, ap, ◌∙◌, if◌then◌else◌, arith}
+use Rattle.std.proofs.Common.{◌≡◌, ◌≤◌, ℕ, suc, ◌-◌, Bool, true, false, List, [], ◌∷◌, ◌++◌, refl, ap, ◌∙◌, if◌then◌else◌}
 use Rattle.std.specs.Prelude.{◌==◌}
 use Rattle.std.specs.List.{AllByRecursion}
-use Rattle.std.proofs.lemmas.Bool.Decides.{nat_tests}
-use native.Mathlib.Numerals.{unary_clauses}
 use Rattle.hs_expressions.specs.Expressions.{enter, leave}
 use Rattle.hs_expressions.specs.Laws.{HasMore, IsScoped}
 use Rattle.hs_expressions.specs.Laws.Always.{Anything}
@@ -45,7 +43,7 @@ inner_moves m mid first second inner moves =
 
 module _ {E : Type 0} where
   -- the declarations of the scope
-  inside_more : (level : ℕ) (its old : List (Declared E)) → AllByRecursion (λ it. it.level ≡ suc level) its
+  pub inside_more : (level : ℕ) (its old : List (Declared E)) → AllByRecursion (λ it. it.level ≡ suc level) its
       → AllByRecursion (λ it. it.level ≤ level) old → inside (suc level) (its ++ old) ≡ its
   inside_more level [] [] are old = refl
   inside_more level [] (it ∷ older) are old = other (it.level == suc level) (is_other it.level level (it.level == suc level) refl old.0)
@@ -62,14 +60,14 @@ module _ {E : Type 0} where
       same false is = absurd cc
 
   -- a name that is declared around them
-  abbrev around_with : List ℕ → E → ℕ → ℕ → List (Declared E) → List (Declared E) → Scoped E
+  abbrev pub around_with : List ℕ → E → ℕ → ℕ → List (Declared E) → List (Declared E) → Scoped E
   around_with name it level outer its old =
       record { declarations = its ++ record { name = name; entity = it; level = outer } ∷ old; level = suc level }
 
-  abbrev parts_with : List ℕ → E → ℕ → List (Declared E) → List (Declared E) → ℕ → Scoped E
+  abbrev pub parts_with : List ℕ → E → ℕ → List (Declared E) → List (Declared E) → ℕ → Scoped E
   parts_with name it level its old outer = around_with name it level outer its old
 
-  declared_around : (name : List ℕ) (it : E) (level : ℕ) (its old : List (Declared E)) → AllByRecursion (λ it. it.level ≡ suc level) its
+  pub declared_around : (name : List ℕ) (it : E) (level : ℕ) (its old : List (Declared E)) → AllByRecursion (λ it. it.level ≡ suc level) its
       → AllByRecursion (λ it. it.level ≤ level) old
       → declared_outside name it (record { declarations = its ++ old; level = suc level }) ≡ around_with name it level level its old
   declared_around name it level its old are is =
@@ -78,7 +76,7 @@ module _ {E : Type 0} where
       ∙ ap (parts_with name it level its old) (pred_suc level)
 
 -- what is known inside it
-pub named_inside : (name : List ℕ) (it : Entity) (mid new : Scoped Entity) → AllByRecursion (λ it. it.level ≤ mid.level) mid.declarations
+abbrev pub named_inside : (name : List ℕ) (it : Entity) (mid new : Scoped Entity) → AllByRecursion (λ it. it.level ≤ mid.level) mid.declarations
     → HasMore (IsAllowedAt Anything (suc mid.level)) (entered mid) new
     → HasMore (IsAllowedAt Anything (suc mid.level)) (entered (declared name it mid)) (declared_outside name it new)
 named_inside name it mid new closed inside = (

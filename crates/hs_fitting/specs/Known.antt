@@ -5,7 +5,7 @@
 --     IsValue program function e      well typed, and bound
 --     valued_walks                    the value of an expression
 --     typing_stays, types_stays, valued_stays      the same, where a fact of claims and objects was known before it
-use Rattle.std.proofs.Common.{◌≡◌, ◌<◌, ℕ, zero, suc, Bool, true, false, List, [], ◌∷◌, ◌++◌, length, slice_get, Option, Some, None, IsTrue, is_some, Result, Ok, Err, refl, sym, ap, subst, ◌∙◌}
+use Rattle.std.proofs.Common.{◌≡◌, ◌<◌, ◌⊎◌, ℕ, zero, suc, Bool, true, false, List, [], ◌∷◌, ◌++◌, length, slice_get, Option, Some, None, IsTrue, is_some, Result, Ok, Err, refl, sym, ap, subst, ◌∙◌}
 use Rattle.std.specs.Prelude.{◌==◌, take}
 use Rattle.std.specs.List.{AllByRecursion}
 use Rattle.hs_expressions.specs.Binding.{AllAlike, IsLike, IsDefined, BindsAs, BindsName}
@@ -14,18 +14,18 @@ use Rattle.hs_expressions.specs.Binding.Keeping as bound_step
 use Rattle.hs_expressions.specs.Binding.Typing as bound_law
 use Rattle.hs_expressions.specs.Expressions.{typed}
 use Rattle.hs_expressions.specs.Laws.{IsConstant, IsPrefix, IsScoped, IsKnown, Knows}
-use Rattle.hs_expressions.specs.Laws.Always.{Reaching, Always, value_always, of_types_always}
-use Rattle.hs_expressions.specs.Laws.Extending.{typed_always}
+use Rattle.hs_expressions.specs.Laws.Always.{Reaching, Always}
 use Rattle.hs_expressions.specs.Laws.Keeping as typed_step
 use Rattle.hs_expressions.specs.Laws.Reached.{IsAllowedAt, Reaches, all_appended, all_so}
 use Rattle.hs_expressions.specs.Laws.Typing as typed_law
 use Rattle.hs_expressions.specs.Operations.{value_of}
-use Rattle.hs_fitting.specs.Claims.{Claims, IsClaimed, IsClaimedAs, RefersTo, IsVariableAt, IsVariableIn, IsBoundAs, IsBoundIn, IsLink, IsExternal, IsRoutineOf, IsRoutineDeclared, IsRegisteredAs, IsMetAs, AreFulfilled, AreObjects, category_in, Endures, IsCallClaimed, IsObjectRight, Stands, Proceeds}
+use Rattle.hs_fitting.specs.Claims.{Claims, IsClaimed, IsClaimedAs, RefersTo, IsVariableAt, IsVariableIn, IsTypedIn, IsBoundAs, IsBoundIn, IsLink, IsExternal, IsRoutineOf, IsSigned, IsFirstRoutine, IsRoutineDeclared, IsRegisteredAs, IsMetAs, AreFulfilled, AreObjects, category_in, Endures, IsCallClaimed, IsObjectRight, Stands, Proceeds}
 use Rattle.hs_fitting.specs.Lasting.{endures_typer}
 use Rattle.hs_fitting.specs.Moving.{Moving, typing_moved}
 use Rattle.hs_fitting.specs.Noting.{AllowsBound, AllowsName, NamesAllow, Noting, Notes}
 use Rattle.hs_fitting.specs.NotingSteps.{of_types_notes}
 use Rattle.hs_fitting.specs.NotingTyping.{valued_notes}
+use Rattle.hs_fitting.specs.Rightness.{AreRight}
 use Rattle.hs_fitting.specs.Shapes.{SameShape}
 use Rattle.hs_fitting.specs.Walk.{Continues, continues_first, Nothing, Walking, Walks}
 use Rattle.hs_linkage.specs.Works.{typing, with_typer}
@@ -41,7 +41,7 @@ use Rattle.hs_operands.specs.declared.operand.Bound.TheVariants as bound
 use Rattle.hs_statements.specs.Statements.{valued}
 use Rattle.hs_syntax.specs.Trees.{Expression}
 use Rattle.hs_tree.specs.Fitting.{types_of, variable_of_global, IsObjectOf, IsVariableOf}
-use Rattle.hs_tree.specs.Kinds.{category_of}
+use Rattle.hs_tree.specs.Kinds.{Category, of_function, category_of_row, category_of}
 use Rattle.hs_tree.specs.Trees.{RightValue, TypedFunction, TypedProgram}
 use Rattle.hs_tree.specs.declared.globals.Global.{Global}
 use Rattle.hs_tree.specs.declared.head.Variable.TheVariants as variable
@@ -51,7 +51,8 @@ use Rattle.hs_typer.specs.declared.type_error.TypeError.{TypeError}
 use Rattle.hs_typer.specs.declared.typer.Entity.{Entity}
 use Rattle.hs_typer.specs.declared.typer.Entity.TheVariants as entity
 use Rattle.hs_typer.specs.declared.typer.Typer.{Typer}
-use Rattle.hs_types.specs.TypeTables.{TypeTable, IsRight, Grows}
+use Rattle.hs_types.specs.TypeTables.{TypeTable, IsRight, Grows, row_of}
+use Rattle.hs_types.specs.declared.row.Row.{Row}
 use Rattle.hs_types.specs.declared.row.TypeId.{TypeId}
 
 -- ---- the names of a place mean what the program has
@@ -186,6 +187,15 @@ knows_names here program function its m stands continues = (
 
 -- ---- typing knows more
 
+-- a category stays
+some_row : (o : Option Row) (its : Category) → category_of_row o ≡ Some its → (found : Row) × (o ≡ Some found)
+some_row None its is = absurd cc
+some_row (Some found) its is = (found, refl)
+
+pub category_stays : (old new : TypeTable) (id : TypeId) (its : Category) → Grows old new → category_of old id ≡ Some its → category_of new id ≡ Some its
+category_stays old new id its grows is =
+    let one = some_row (row_of old id) its is in ap category_of_row (grows.rows id.number one.0 one.1) ∙ ap category_of_row (sym one.1) ∙ is
+
 -- in the same unit, with the same table of routines
 module _ (program : TypedProgram) (here : List ℕ → Bool) (its : Claims) (m : Translator) (new : Typer) (unit : new.origins.unit ≡ m.typer.origins.unit)
     (table : new.table ≡ m.typer.table) where
@@ -199,22 +209,35 @@ module _ (program : TypedProgram) (here : List ℕ → Bool) (its : Claims) (m :
       subst (λ number. IsBoundAs internal number m.definitions new.table name it) (sym unit)
       (subst (λ all. IsBoundAs internal m.typer.origins.unit m.definitions all name it) (sym table) is)
 
+  -- the type of a function is one of functions
+  typed_still : Grows m.typer.types new.types → (it : Entity) → IsTypedIn m.typer.types it → IsTypedIn new.types it
+  typed_still grows (entity.Constant bits) is = tt
+  typed_still grows (entity.Variable variable id) is = tt
+  typed_still grows (entity.Function id to) is = category_stays m.typer.types new.types id of_function grows is
+  typed_still grows (entity.Typedef id) is = tt
+
   -- so links, external declarations and declarations of routines are what they were
-  link_still : (it : Declared Linked) → IsLink program.types here its m it → IsLink program.types here its (record m { typer = new }) it
-  link_still it is =
+  link_still : Grows m.typer.types new.types → (it : Declared Linked) → IsLink program.types here its m it → IsLink program.types here its (record m { typer = new }) it
+  link_still grows it is =
       record {
         refers = is.refers;
         bound = bound_still it.entity.internal it.name it.entity.entity is.bound;
         internal = is.internal;
         global = is.global;
+        typed = typed_still grows it.entity.entity is.typed;
       }
 
-  external_still : (it : External) → IsExternal program.types its m it → IsExternal program.types its (record m { typer = new }) it
-  external_still it is = record { refers = is.refers; bound = bound_still false it.name it.entity is.bound; global = is.global }
+  external_still : Grows m.typer.types new.types → (it : External) → IsExternal program.types its m it → IsExternal program.types its (record m { typer = new }) it
+  external_still grows it is = record { refers = is.refers; bound = bound_still false it.name it.entity is.bound; global = is.global; typed = typed_still grows it.entity is.typed }
 
-  routine_still : (it : External) → IsRoutineDeclared program.types its m it → IsRoutineDeclared program.types its (record m { typer = new }) it
-  routine_still it is =
-      record { refers = is.refers; routine = subst (λ all. IsRoutineOf all it.name it.entity) (sym table) is.routine }
+  routine_still : Grows m.typer.types new.types → (it : External) → IsRoutineDeclared program.types its m it → IsRoutineDeclared program.types its (record m { typer = new }) it
+  routine_still grows it is =
+      record {
+        refers = is.refers;
+        routine = subst (λ all. IsRoutineOf all it.name it.entity) (sym table) is.routine;
+        typed = typed_still grows it.entity is.typed;
+        signed = subst (λ number. ((it.unit == number) ≡ true) ⊎ IsSigned program.types it) (sym unit) is.signed;
+      }
 
   -- a function that was declared is still declared
   registered_still : (internal : Bool) (it : Definition) → IsRegisteredAs internal m it → IsRegisteredAs internal (record m { typer = new }) it
@@ -232,26 +255,27 @@ module _ (program : TypedProgram) (here : List ℕ → Bool) (its : Claims) (m :
       record { category = is.category; undefined = is.undefined; filled = λ endures. is.filled (before endures) }
 
   -- What is claimed stays, if the names that are known then refer to it.
-  pub stands_typer : (variables later : List VariableDecl) → AllByRecursion (λ it. RefersTo program.types its m.objects it.entity) new.names.declarations
+  pub stands_typer : (variables later : List VariableDecl) → Grows m.typer.types new.types → AllByRecursion (λ it. RefersTo program.types its m.objects it.entity) new.names.declarations
       → AllByRecursion (λ it. IsVariableIn program.types later it.entity) new.names.declarations
-      → AllByRecursion (IsCallClaimed program.types its new.table) new.calls
+      → AllByRecursion (IsCallClaimed program.types its new.table) new.calls → AreRight new.types
       → (Endures program its (record m { typer = new }) → Endures program its m) → Stands program here its variables m
       → Stands program here its later (record m { typer = new })
-  stands_typer variables later names locals calls before stands =
+  stands_typer variables later grows names locals calls right before stands =
       record {
         names = names;
         locals = locals;
-        links = all_so (IsLink program.types here its m) (IsLink program.types here its (record m { typer = new })) link_still m.links.declarations stands.links;
-        externals = all_so (IsExternal program.types its m) (IsExternal program.types its (record m { typer = new })) external_still m.externals stands.externals;
-        routines = all_so (IsRoutineDeclared program.types its m) (IsRoutineDeclared program.types its (record m { typer = new })) routine_still m.routines
+        links = all_so (IsLink program.types here its m) (IsLink program.types here its (record m { typer = new })) (link_still grows) m.links.declarations stands.links;
+        externals = all_so (IsExternal program.types its m) (IsExternal program.types its (record m { typer = new })) (external_still grows) m.externals stands.externals;
+        routines = all_so (IsRoutineDeclared program.types its m) (IsRoutineDeclared program.types its (record m { typer = new })) (routine_still grows) m.routines
             stands.routines;
         calls = calls;
+        right = right;
         objects = all_so (IsObjectRight program its m) (IsObjectRight program its (record m { typer = new })) (object_still before) m.objects
             stands.objects;
         functions_met = λ number id it claimed at. registered_still it.internal it (stands.functions_met number id it claimed at);
         routines_met = λ number id it claimed at. stands.routines_met number id it claimed (subst (λ all. slice_get all number ≡ Some it) table at);
         functions_there = stands.functions_there;
-        routines_there = λ number id claimed. subst (λ all. IsTrue (is_some (slice_get all number))) (sym table) (stands.routines_there number id claimed);
+        routines_there = λ number id claimed. subst (λ all. IsFirstRoutine all number) (sym table) (stands.routines_there number id claimed);
         internal = λ number it at same. stands.internal number it at (subst (IsHere it) unit same);
       }
 
@@ -318,13 +342,13 @@ names_allow program here its variables m stands =
 module _ (program : TypedProgram) where
   -- a step of typing in an expression
   pub stands_reached : (here : List ℕ → Bool) (its : Claims) (m : Translator) (new : Typer) → Reaches IsConstant m.typer new
-      → AllByRecursion (IsCallClaimed program.types its m.typer.table) new.calls → Stands program here its m.locals m
+      → AllByRecursion (IsCallClaimed program.types its m.typer.table) new.calls → AreRight new.types → Stands program here its m.locals m
       → Stands program here its m.locals (record m { typer = new })
-  stands_reached here its m new reached calls stands =
-      stands_typer program here its m new reached.unit reached.table m.locals m.locals
+  stands_reached here its m new reached calls right stands =
+      stands_typer program here its m new reached.unit reached.table m.locals m.locals reached.types
       (names_after program.types (RefersTo program.types its m.objects) (constant_refers program.types its m) m.typer new reached stands.names)
       (names_after program.types (IsVariableIn program.types m.locals) (constant_local program.types m) m.typer new reached stands.locals)
-      (subst (λ table. AllByRecursion (IsCallClaimed program.types its table) new.calls) (sym reached.table) calls)
+      (subst (λ table. AllByRecursion (IsCallClaimed program.types its table) new.calls) (sym reached.table) calls) right
       (endures_typer program its m new IsConstant reached) stands
 
 -- ---- steps of typing
@@ -343,7 +367,7 @@ module _ (here : List ℕ → Bool) (program : TypedProgram) (function : TypedFu
       record {
         claims = its;
         proceeds = proceeds;
-        stands = stands_reached program here its m p.1 reached (notes.calls grows stands.calls) stands;
+        stands = stands_reached program here its m p.1 reached (notes.calls grows stands.calls) (notes.right stands.right) stands;
         known = known p refl grows;
         gives = λ continues.
             let knows : Knows program function m.typer × KnowsBound program function program.types m.typer
@@ -370,6 +394,31 @@ module _ (program : TypedProgram) (function : TypedFunction) where
       gives s.types (subst (λ known. Grows known.types program.types) parts.1 noted.types) p.0 parts.0
 
 module _ {here : List ℕ → Bool} {program : TypedProgram} {function : TypedFunction} where
+  -- A step of typing, by all that is known before it.
+  pub typing_fully : {A : Type 0} → {pre : Claims → Translator → Type 0} → {after : Claims → Translator → A → Type 0} → {holds : A → Type 0}
+      → (step : Step A) → ((Q : ℕ → TypeId → Type 0) → Notes Q program.types IsConstant (λ it. Unit {0}) step)
+      → ((its : Claims) (m : Translator) → IsScoped m.typer → m.typer.counts ≡ true → Stands program here its m.locals m → pre its m
+      → (p : A × Typer) → step m.typer ≡ Ok p → Reaches IsConstant m.typer p.1 → Grows p.1.types program.types
+      → after its (record m { typer = p.1 }) p.0)
+      → ((its : Claims) (m : Translator) → IsScoped m.typer → m.typer.counts ≡ true → Stands program here its m.locals m → pre its m
+      → Knows program function m.typer → KnowsBound program function program.types m.typer → (p : A × Typer)
+      → step m.typer ≡ Ok p → IsNoted program function program.types m.typer p.1 → holds p.0)
+      → Walks here program function pre (typing step) after holds
+  typing_fully {A = A} {pre = pre} {after = after} {holds = holds} step notes known gives =
+      let is : Always IsConstant step = (notes (λ number id. Unit {0})).always in
+      record {
+        moved = typing_moved IsConstant step is;
+        from = λ its m scoped counts stands met. typing_walked here program function after holds its m (step m.typer) stands
+            ((notes (IsOfClaim program.types its)).gives m.typer (names_allow program here its m.locals m stands))
+            ((typing_moved IsConstant step is).from m scoped) (is.from m.typer scoped)
+            (λ p given grows. known its m scoped counts stands met p given (reached_of (step m.typer) (is.from m.typer scoped) p given) grows)
+            (gives its m scoped counts stands met);
+      }
+    where
+      reached_of : {s : Typer} (given : Result (A × Typer) TypeError) → Reaching IsConstant s given → (p : A × Typer) → given ≡ Ok p
+          → Reaches IsConstant s p.1
+      reached_of {s = s} given reached p is = subst (Reaching IsConstant s) is reached
+
   -- A step of typing: what it gives meets a fact, and what is known after it follows from what was known before.
   pub typing_known : {A : Type 0} → {pre : Claims → Translator → Type 0} → {after : Claims → Translator → A → Type 0} → {holds : A → Type 0}
       → (step : Step A) → ((Q : ℕ → TypeId → Type 0) → Notes Q program.types IsConstant (λ it. Unit {0}) step)

@@ -1,7 +1,7 @@
 -- A place of the text whose program is known: what was noted until then is the program's, whatever function it is of.
 --     endures_before, endures_moves          what was noted at a place before it is the program's, too
 --     continues_of                           a function from its parameters to its end, in such a program
-use Rattle.std.proofs.Common.{◌≡◌, ℕ, zero, suc, ◌+◌, Bool, true, false, ◌||◌, List, [], ◌∷◌, ◌++◌, length, drop, slice_get, Option, Some, None, IsTrue, is_some, refl, sym, ap, subst, ◌∙◌}
+use Rattle.std.proofs.Common.{◌≡◌, ℕ, zero, suc, ◌+◌, Bool, true, false, ◌||◌, List, [], ◌∷◌, ◌++◌, length, drop, slice_get, IsTrue, is_some, refl, sym, ap, subst, ◌∙◌}
 use Rattle.std.specs.Prelude.{◌==◌}
 use Rattle.std.specs.List.{AllByRecursion, list_any}
 use Rattle.std.proofs.lemmas.Bool.Decides.{nat_tests}
@@ -18,7 +18,7 @@ use Rattle.hs_fitting.specs.Walk.{Continues}
 use Rattle.hs_linkage.specs.Objects.{is_of_local, marked}
 use Rattle.hs_linkage.specs.declared.translator.Translator.{Translator}
 use Rattle.hs_names.specs.Scopes.{Scoped}
-use Rattle.hs_tree.specs.Fitting.{types_of, is_taken_variable, variable_of_global}
+use Rattle.hs_tree.specs.Fitting.{types_of, is_taken_variable}
 use Rattle.hs_tree.specs.Trees.{TypedFunction, TypedProgram}
 use Rattle.hs_tree.specs.declared.head.Variable.TheVariants as variable
 use Rattle.hs_tree.specs.declared.head.VariableDecl.{VariableDecl}
@@ -28,7 +28,6 @@ use Rattle.hs_typer.specs.declared.typer.Taken.{Taken}
 use Rattle.hs_typer.specs.declared.typer.Taken.TheVariants as taken
 use Rattle.hs_typer.specs.declared.typer.Typer.{Typer}
 use Rattle.hs_types.specs.Growing.{grows_then}
-use Rattle.hs_types.specs.TypeTables.{Grows}
 
 -- of a list that is longer
 all_of_prefix : {A : Type 0} → (holds : A → Type 0) (old new : List A) → IsPrefix old new → AllByRecursion holds new → AllByRecursion holds old
@@ -93,7 +92,7 @@ endures_moves program its later m n moves proceeds endures =
 -- ---- automatic variables
 
 -- its place counts from the first one
-is_place : (n : ℕ) → (n == n) ≡ true
+pub is_place : (n : ℕ) → (n == n) ≡ true
 is_place n = same (n == n) refl
   where
     same : (b : Bool) → (n == n) ≡ b → b ≡ true

@@ -28,6 +28,7 @@ use Rattle.hs_typer.specs.declared.type_error.TypeError.{TypeError}
 use Rattle.hs_typer.specs.declared.typer.Entity.{Entity}
 use Rattle.hs_typer.specs.declared.typer.Entity.TheVariants as entity
 use Rattle.hs_types.specs.TypeTables.{TypeTable}
+use Rattle.hs_types.specs.Growing.{grows_self}
 use Rattle.hs_types.specs.declared.row.TypeId.{TypeId}
 
 -- ---- what a name refers to, later
@@ -71,7 +72,7 @@ module _ (types : TypeTable) where
 module _ (here : List ℕ → Bool) (program : TypedProgram) (function : TypedFunction) where
   -- where a scope begins
   stands_entered : (its : Claims) (m : Translator) → Stands program here its m.locals m → Stands program here its m.locals (entered m)
-  stands_entered its m stands = stands_typer program here its m (enter m.typer) refl refl m.locals m.locals stands.names stands.locals stands.calls
+  stands_entered its m stands = stands_typer program here its m (enter m.typer) refl refl m.locals m.locals (grows_self m.typer.types) stands.names stands.locals stands.calls stands.right
       (endures_scopes program its m (enter m.typer).names (enter m.typer).tags) stands
 
   -- where it has ended, the names are those before it
@@ -85,7 +86,7 @@ module _ (here : List ℕ → Bool) (program : TypedProgram) (function : TypedFu
       → Moves (entered m) n → Proceeds program.types its m later n → Stands program here later n.locals n
       → Stands program here later n.locals (without_scope n)
   stands_left its m later n scoped stands moves proceeds after =
-      stands_typer program here later n (leave n.typer) refl refl n.locals n.locals
+      stands_typer program here later n (leave n.typer) refl refl n.locals n.locals (grows_self n.typer.types)
       (subst (λ scopes. AllByRecursion (λ it. RefersTo program.types later n.objects it.entity) scopes.declarations)
       (sym (names_left its m later n scoped moves))
       (all_so (λ it. RefersTo program.types its m.objects it.entity) (λ it. RefersTo program.types later n.objects it.entity)
@@ -94,7 +95,7 @@ module _ (here : List ℕ → Bool) (program : TypedProgram) (function : TypedFu
       (sym (names_left its m later n scoped moves))
       (all_so (λ it. IsVariableIn program.types m.locals it.entity) (λ it. IsVariableIn program.types n.locals it.entity)
       (λ it is. local_later program.types m.locals n.locals it.entity (moves.locals.more, moves.locals.are) is) m.typer.names.declarations
-      stands.locals)) after.calls (endures_scopes program later n (leave n.typer).names (leave n.typer).tags) after
+      stands.locals)) after.calls after.right (endures_scopes program later n (leave n.typer).names (leave n.typer).tags) after
 
   -- a program that continues the place after it continues that before its end
   continues_left : (later : Claims) (m n : Translator) → Continues program function later m (without_scope n)

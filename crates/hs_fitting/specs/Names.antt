@@ -107,7 +107,7 @@ names_in number unit (syntax.function_definition words it body) rest = refl
 names_in number unit (syntax.declaration it) rest = refl
 
 -- those of the rest of a unit
-abbrev AreNamed : List TypedFunction → List (List ℕ) → List TypedFunction → Type 0
+abbrev pub AreNamed : List TypedFunction → List (List ℕ) → List TypedFunction → Type 0
 AreNamed done names its = names_of its ≡ names_of done ++ names
 
 named_behind : (number : ℕ) (unit : List ExternalDeclaration) (it : ExternalDeclaration) (rest : List ExternalDeclaration) (done : List TypedFunction)
@@ -137,7 +137,7 @@ externals_named number unit (it ∷ rest) done =
     (λ next is. so_always (externals (with_function done next) rest) _ _ (externals_named number unit rest (with_function done next))
     (named_behind number unit it rest done next is))
 
-unit_named : (number : ℕ) (unit : List ExternalDeclaration) (done : List TypedFunction)
+pub unit_named : (number : ℕ) (unit : List ExternalDeclaration) (done : List TypedFunction)
     → Always (unit_of done unit) (AreNamed done (defined_names (definitions_in number unit unit)))
 unit_named number unit done =
     then_always (externals_named number unit unit done)

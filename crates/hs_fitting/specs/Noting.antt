@@ -11,6 +11,7 @@ use Rattle.hs_expressions.specs.Expressions.{enter, ending}
 use Rattle.hs_expressions.specs.Laws.Always.{Always}
 use Rattle.hs_expressions.specs.Laws.Grown.{Growing}
 use Rattle.hs_expressions.specs.Roles.{fits_role}
+use Rattle.hs_fitting.specs.Rightness.{AreRight, Righting}
 use Rattle.hs_names.specs.Scopes.{Declared, outside}
 use Rattle.hs_operands.specs.Operands as operand
 use Rattle.hs_operands.specs.Operands.{TypedOperand}
@@ -81,13 +82,14 @@ module _ (Q : ℕ → TypeId → Type 0) where
   AreCallsOf table final calls = AllByRecursion (IsCallOf table final) calls
 
   module _ (final : TypeTable) where
-    -- What is known after an answer: the names are as they should be, and so is what is given; the table grows; and each call that is
-    -- noted has the fact, by the types that are known at the end.
+    -- What is known after an answer: the names are as they should be, and so is what is given; the table grows and stays right; and each
+    -- call that is noted has the fact, by the types that are known at the end.
     pub record Noted {A : Type 0} (holds : A → Type 0) (s : Typer) (p : A × Typer) : Type 0 where
       pub names : NamesAllow p.1
       pub fact : holds p.0
       pub table : p.1.table ≡ s.table
       pub types : Grows s.types p.1.types
+      pub right : AreRight s.types → AreRight p.1.types
       pub calls : Grows p.1.types final → AreCallsOf s.table final s.calls → AreCallsOf s.table final p.1.calls
 
     -- if it is one
@@ -103,7 +105,7 @@ module _ (Q : ℕ → TypeId → Type 0) where
     -- nothing changes
     pub same_noted : {A : Type 0} → (holds : A → Type 0) (s : Typer) (it : A) → NamesAllow s → holds it → Noted holds s (it, s)
     same_noted holds s it names is =
-        record { names = names; fact = is; table = refl; types = grows_self s.types; calls = λ grows are. are }
+        record { names = names; fact = is; table = refl; types = grows_self s.types; right = λ right. right; calls = λ grows are. are }
 
     -- of an answer that changes nothing
     pub kept_noting : {A : Type 0} → (holds : A → Type 0) (s : Typer) (given : Result A TypeError) → NamesAllow s → Met holds given
@@ -111,11 +113,12 @@ module _ (Q : ℕ → TypeId → Type 0) where
     kept_noting holds s (Ok it) names met = same_noted holds s it names met
     kept_noting holds s (Err why) names met = tt
 
-    -- the table grows
-    pub types_noting : {A : Type 0} → (s : Typer) (given : Result (A × TypeTable) TypeError) → Growing s.types given → NamesAllow s
-        → Noting (λ it. Unit {0}) s (with_types s given)
-    types_noting s (Ok p) grows names = record { names = names; fact = tt; table = refl; types = grows; calls = λ grows are. are }
-    types_noting s (Err why) grows names = tt
+    -- the table grows, and stays right
+    pub types_noting : {A : Type 0} → (s : Typer) (given : Result (A × TypeTable) TypeError) → Growing s.types given → Righting s.types given
+        → NamesAllow s → Noting (λ it. Unit {0}) s (with_types s given)
+    types_noting s (Ok p) grows rights names =
+        record { names = names; fact = tt; table = refl; types = grows; right = rights; calls = λ grows are. are }
+    types_noting s (Err why) grows rights names = tt
 
     -- one step after another
     noted_behind : {A B : Type 0} → (holds : A → Type 0) (holds' : B → Type 0) (s : Typer) (p : A × Typer) (q : B × Typer) → Noted holds s p
@@ -126,6 +129,7 @@ module _ (Q : ℕ → TypeId → Type 0) where
           fact = after.fact;
           table = after.table ∙ before.table;
           types = grows_then s.types p.1.types q.1.types before.types after.types;
+          right = λ right. after.right (before.right right);
           calls = λ grows are. subst (λ its. AreCallsOf its final q.1.calls) before.table
               (after.calls grows (subst (λ its. AreCallsOf its final p.1.calls) (sym before.table)
               (before.calls (grows_then p.1.types q.1.types final after.types grows) are)));
@@ -149,20 +153,21 @@ module _ (Q : ℕ → TypeId → Type 0) where
     pub restored_noting : {A : Type 0} → (holds : A → Type 0) (s : Typer) (given : Result (A × Typer) TypeError)
         → Noting holds (record s { counts = false }) given → Noting holds s (restored s.counts given)
     restored_noting holds s (Ok p) is =
-        record { names = is.names; fact = is.fact; table = is.table; types = is.types; calls = is.calls }
+        record { names = is.names; fact = is.fact; table = is.table; types = is.types; right = is.right; calls = is.calls }
     restored_noting holds s (Err why) is = tt
 
     -- a scope that ends with its parameters, or is kept
     pub ending_noting : {A : Type 0} → (holds : A → Type 0) (keeps : Bool) (s : Typer) (given : Result (A × Typer) TypeError)
         → Noting holds (inside s) given → Noting holds s (ending keeps given)
     ending_noting holds true s (Ok p) is =
-        record { names = is.names; fact = is.fact; table = is.table; types = is.types; calls = is.calls }
+        record { names = is.names; fact = is.fact; table = is.table; types = is.types; right = is.right; calls = is.calls }
     ending_noting holds false s (Ok p) is =
         record {
           names = all_outside (λ it. AllowsName it.entity) p.1.names.level p.1.names.declarations is.names;
           fact = is.fact;
           table = is.table;
           types = is.types;
+          right = is.right;
           calls = is.calls;
         }
     ending_noting holds true s (Err why) is = tt

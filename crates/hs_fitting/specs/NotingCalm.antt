@@ -10,6 +10,7 @@ use Rattle.hs_expressions.specs.Laws.Grown.{Growing, GrowsTo, grows_row, grows_s
 use Rattle.hs_expressions.specs.Laws.Leaves.{string_always, addressed_always, struct_type_always, enumeration_type_always, tagged_struct_always, begun_struct_always, begun_enumeration_always, completed_struct_always, completed_enumeration_always}
 use Rattle.hs_expressions.specs.Operations.{address_as, addressed}
 use Rattle.hs_fitting.specs.Noting.{AllowsName, NamesAllow, IsOperandOf, AreCallsOf, Noting, Notes}
+use Rattle.hs_fitting.specs.Rightness.{AreRight, Righting, RightsTo, right_row, right_struct, right_enumeration, right_self, arrayed_rights, completed_rights, enumerated_rights}
 use Rattle.hs_names.specs.Scopes.{find, find_here}
 use Rattle.hs_operands.specs.Objects.{object_of}
 use Rattle.hs_operands.specs.Operands.{TypedOperand}
@@ -36,10 +37,11 @@ use Rattle.hs_types.specs.declared.row.Row.TheVariants as row
 use Rattle.hs_types.specs.declared.row.TypeId.{TypeId}
 use Rattle.hs_types.specs.declared.types.TypeEnd.{TypeEnd}
 
--- the names, the routines and the calls after the answer, if it is one, are those before; the table of types grows; and the answer meets the fact
+-- The names, the routines and the calls after the answer, if it is one, are those before; the table of types grows and stays right; and the
+-- answer meets the fact.
 abbrev Calm : {A : Type 0} → (A → Type 0) → Typer → Result (A × Typer) TypeError → Type 0
 Calm holds s (Ok p) =
-    (p.1.names ≡ s.names) × (p.1.table ≡ s.table) × (p.1.calls ≡ s.calls) × Grows s.types p.1.types × holds p.0
+    (p.1.names ≡ s.names) × (p.1.table ≡ s.table) × (p.1.calls ≡ s.calls) × Grows s.types p.1.types × (AreRight s.types → AreRight p.1.types) × holds p.0
 Calm holds s (Err why) = Unit {0}
 
 -- both ways of a test
@@ -56,7 +58,8 @@ calm_behind holds holds' s p (Ok q) before after = (
   after.1 ∙ before.1,
   after.2 ∙ before.2,
   grows_then s.types p.1.types q.1.types before.3 after.3,
-  after.4,
+  λ right. after.4 (before.4 right),
+  after.5,
 )
 calm_behind holds holds' s p (Err why) before after = tt
 
@@ -68,45 +71,45 @@ then_calm holds holds' next s (Err why) is after = tt
 
 -- a struct that a tag names
 tagged_calm : (word : Word) (o : Option Tag) (s : Typer) → Calm (λ it. Unit {0}) s (tagged_struct_as word o s)
-tagged_calm word None s = (refl, refl, refl, grows_struct s.types, tt)
-tagged_calm word (Some (tag.Struct number)) s = (refl, refl, refl, grows_self s.types, tt)
+tagged_calm word None s = (refl, refl, refl, grows_struct s.types, right_struct s.types, tt)
+tagged_calm word (Some (tag.Struct number)) s = (refl, refl, refl, grows_self s.types, right_self s.types, tt)
 tagged_calm word (Some (tag.Enumeration number)) s = tt
 
 -- a struct whose body begins
 begun_calm : (word : Word) (o : Option Tag) (s : Typer) → Calm (λ it. Unit {0}) s (begun_struct_as word o s)
-begun_calm word None s = (refl, refl, refl, grows_struct s.types, tt)
+begun_calm word None s = (refl, refl, refl, grows_struct s.types, right_struct s.types, tt)
 begun_calm word (Some (tag.Struct number)) s =
     if_calm (λ it. Unit {0}) (awaits_body (slice_get s.types.structs number)) s (Ok (number, s)) (Err (Untyped word.place))
-    (refl, refl, refl, grows_self s.types, tt) tt
+    (refl, refl, refl, grows_self s.types, right_self s.types, tt) tt
 begun_calm word (Some (tag.Enumeration number)) s = tt
 
 -- with or without a tag
 begun_struct_calm : (o : Option Word) (s : Typer) → Calm (λ it. Unit {0}) s (begun_struct o s)
-begun_struct_calm None s = (refl, refl, refl, grows_struct s.types, tt)
+begun_struct_calm None s = (refl, refl, refl, grows_struct s.types, right_struct s.types, tt)
 begun_struct_calm (Some word) s = begun_calm word (find_here word.text s.tags) s
 
 -- and an enumeration
 begun_constants_calm : (word : Word) (o : Option Tag) (s : Typer) → Calm (λ it. Unit {0}) s (begun_enumeration_as word o s)
-begun_constants_calm word None s = (refl, refl, refl, grows_enumeration s.types, tt)
+begun_constants_calm word None s = (refl, refl, refl, grows_enumeration s.types, right_enumeration s.types, tt)
 begun_constants_calm word (Some its) s = tt
 
 -- with or without a tag
 begun_enumeration_calm : (o : Option Word) (s : Typer) → Calm (λ it. Unit {0}) s (begun_enumeration o s)
-begun_enumeration_calm None s = (refl, refl, refl, grows_enumeration s.types, tt)
+begun_enumeration_calm None s = (refl, refl, refl, grows_enumeration s.types, right_enumeration s.types, tt)
 begun_enumeration_calm (Some word) s = begun_constants_calm word (find_here word.text s.tags) s
 
 -- a body, which may be one with another
 body_calm : (s : Typer) (first : Place) (word : Option Word) (given : Result TypeTable TypeEnd) → GrowsTo s.types given
-    → Calm (λ it. Unit {0}) s (with_body_in s first word given)
-body_calm s first word (Ok types) grows = (refl, refl, refl, grows, tt)
-body_calm s first word (Err why) grows = tt
+    → RightsTo s.types given → Calm (λ it. Unit {0}) s (with_body_in s first word given)
+body_calm s first word (Ok types) grows rights = (refl, refl, refl, grows, rights, tt)
+body_calm s first word (Err why) grows rights = tt
 
 -- the first body at its brace, or one with the first
 joined_calm : (at : Place) (it : Tag) (brace : Brace) (o : Option Tag) (s : Typer) → Calm (λ it. Unit {0}) s (joined at it brace o s)
-joined_calm at it brace None s = (refl, refl, refl, grows_self s.types, tt)
+joined_calm at it brace None s = (refl, refl, refl, grows_self s.types, right_self s.types, tt)
 joined_calm at it brace (Some first) s =
     if_calm (λ it. Unit {0}) (tags_agree s.types (met at it brace s.origins) first it) s (Ok (tt, record s { origins = met at it brace s.origins }))
-    (Err (Clash at (first_name s.types it))) (refl, refl, refl, grows_self s.types, tt) tt
+    (Err (Clash at (first_name s.types it))) (refl, refl, refl, grows_self s.types, right_self s.types, tt) tt
 
 -- a body that is complete
 closed_calm : (at : Place) (it : Tag) (s : Typer) → Calm (λ it. Unit {0}) s (closed at it s)
@@ -114,21 +117,23 @@ closed_calm at it s =
     if_calm (λ it. Unit {0}) (is_plain at.origin) s
     (joined at it (brace_of at (times_at at s.origins)) (kept_for (brace_of at (times_at at s.origins)) s.origins.firsts) s) (Ok (tt, s))
     (joined_calm at it (brace_of at (times_at at s.origins)) (kept_for (brace_of at (times_at at s.origins)) s.origins.firsts) s)
-    (refl, refl, refl, grows_self s.types, tt)
+    (refl, refl, refl, grows_self s.types, right_self s.types, tt)
 
 -- of a struct
 completed_struct_calm : (first : Place) (word : Option Word) (brace : Place) (number : ℕ) (members : List Member) (s : Typer)
     → Calm (λ it. Unit {0}) s (completed_struct first word brace number members s)
 completed_struct_calm first word brace number members s =
     then_calm (λ it. Unit {0}) (λ it. Unit {0}) (λ it. closed brace (tag.Struct number)) s (struct_with_body first word number members s)
-    (body_calm s first word (completed number members s.types) (completed_grows number members s.types)) (λ it mid. closed_calm brace (tag.Struct number) mid)
+    (body_calm s first word (completed number members s.types) (completed_grows number members s.types) (completed_rights number members s.types))
+    (λ it mid. closed_calm brace (tag.Struct number) mid)
 
 -- and of an enumeration
 completed_enumeration_calm : (first : Place) (word : Option Word) (brace : Place) (number : ℕ) (its : List Enumerator) (s : Typer)
     → Calm (λ it. Unit {0}) s (completed_enumeration first word brace number its s)
 completed_enumeration_calm first word brace number its s =
     then_calm (λ it. Unit {0}) (λ it. Unit {0}) (λ it. closed brace (tag.Enumeration number)) s (enumeration_with_body first word number its s)
-    (body_calm s first word (enumerated number its s.types) (enumerated_grows number its s.types)) (λ it mid. closed_calm brace (tag.Enumeration number) mid)
+    (body_calm s first word (enumerated number its s.types) (enumerated_grows number its s.types) (enumerated_rights number its s.types))
+    (λ it mid. closed_calm brace (tag.Enumeration number) mid)
 
 module _ (Q : ℕ → TypeId → Type 0) (final : TypeTable) where
   -- ---- the laws of these steps
@@ -137,9 +142,10 @@ module _ (Q : ℕ → TypeId → Type 0) (final : TypeTable) where
   calm_noting holds s (Ok p) names calm =
       record {
         names = subst (λ its. AllByRecursion (λ it. AllowsName Q it.entity) its.declarations) (sym calm.0) names;
-        fact = calm.4;
+        fact = calm.5;
         table = calm.1;
         types = calm.3;
+        right = calm.4;
         calls = λ grows are. subst (AreCallsOf Q s.table final) (sym calm.2) are;
       }
   calm_noting holds s (Err why) names calm = tt
@@ -152,13 +158,13 @@ module _ (Q : ℕ → TypeId → Type 0) (final : TypeTable) where
   -- the type of a struct
   pub struct_type_notes : (number : ℕ) → Notes Q final IsConstant (λ it. Unit {0}) (struct_type number)
   struct_type_notes number = calm_notes (λ it. Unit {0}) (struct_type number) (struct_type_always number)
-      (λ s. (refl, refl, refl, grows_row (row.Struct number) s.types, tt))
+      (λ s. (refl, refl, refl, grows_row (row.Struct number) s.types, right_row (row.Struct number) s.types tt tt, tt))
 
   -- and of an enumeration
   pub enumeration_type_notes : (number : ℕ) → Notes Q final IsConstant (λ it. Unit {0}) (enumeration_type number)
   enumeration_type_notes number =
       calm_notes (λ it. Unit {0}) (enumeration_type number) (enumeration_type_always number)
-      (λ s. (refl, refl, refl, grows_row (row.Enumeration number) s.types, tt))
+      (λ s. (refl, refl, refl, grows_row (row.Enumeration number) s.types, right_row (row.Enumeration number) s.types tt tt, tt))
 
   -- the struct that a tag names
   pub tagged_struct_notes : (word : Word) → Notes Q final IsConstant (λ it. Unit {0}) (tagged_struct word)
@@ -189,16 +195,16 @@ module _ (Q : ℕ → TypeId → Type 0) (final : TypeTable) where
 
   -- a string, which is an object
   string_in_calm : (s : Typer) (at : Place) (bytes : List ℕ) (given : Result (TypeId × TypeTable) TypeEnd) → Growing s.types given
-      → Calm (IsOperandOf Q) s (string_in s at bytes given)
-  string_in_calm s at bytes (Ok p) grows = (refl, refl, refl, grows, tt)
-  string_in_calm s at bytes (Err why) grows = tt
+      → Righting s.types given → Calm (IsOperandOf Q) s (string_in s at bytes given)
+  string_in_calm s at bytes (Ok p) grows rights = (refl, refl, refl, grows, rights, tt)
+  string_in_calm s at bytes (Err why) grows rights = tt
 
   -- if it has bytes
   string_as_calm : (at : Place) (o : Option (List ℕ)) (s : Typer) → Calm (IsOperandOf Q) s (string_as at o s)
   string_as_calm at None s = tt
   string_as_calm at (Some bytes) s =
       string_in_calm s at bytes (arrayed (integer_id kind.Char) (length bytes) s.types)
-      (arrayed_grows (integer_id kind.Char) (length bytes) s.types)
+      (arrayed_grows (integer_id kind.Char) (length bytes) s.types) (arrayed_rights (integer_id kind.Char) (length bytes) s.types)
 
   -- by its text
   pub string_notes : (first : Word) (others : List Word) → Notes Q final IsConstant (IsOperandOf Q) (string_of first others)
@@ -207,7 +213,8 @@ module _ (Q : ℕ → TypeId → Type 0) (final : TypeTable) where
 
   -- an address, which is a value
   address_calm : (at : Place) (given : Result LeftValue TypeError) (s : Typer) → Calm (IsOperandOf Q) s (address_as at given s)
-  address_calm at (Ok it) s = (refl, refl, refl, grows_row (row.Pointer (type_of_left it)) s.types, tt)
+  address_calm at (Ok it) s =
+      (refl, refl, refl, grows_row (row.Pointer (type_of_left it)) s.types, right_row (row.Pointer (type_of_left it)) s.types tt tt, tt)
   address_calm at (Err why) s = tt
 
   -- of an operand

@@ -8,6 +8,7 @@ use Rattle.hs_expressions.specs.Laws.Grown.{formed_grows}
 use Rattle.hs_fitting.specs.Noting.{NamesAllow, Noting, Notes, same_noted, then_noting}
 use Rattle.hs_fitting.specs.NotingSteps.{gives_notes, looks_notes, on_types_notes, after_notes}
 use Rattle.hs_fitting.specs.NotingTyping.{specified_notes, derivations_notes}
+use Rattle.hs_fitting.specs.Rightness.{right_self, formed_rights}
 use Rattle.hs_functions.specs.Opening.{opened, opened_type}
 use Rattle.hs_syntax.specs.Trees as syntax
 use Rattle.hs_syntax.specs.Trees.{Specification, Declared, Parameters}
@@ -32,17 +33,20 @@ module _ (Q : ℕ → TypeId → Type 0) (final : TypeTable) where
   pub item_type_notes : (at : Place) (base : TypeId) (it : Declared) → Notes Q final IsConstant (λ it. Unit {0}) (item_type at base it)
   item_type_notes at base it =
       after_notes (derivations_notes Q final at it)
-      (λ its. on_types_notes (formed (place_of at it) its base) (λ types. formed_grows (place_of at it) its base types))
+      (λ its. on_types_notes (formed (place_of at it) its base) (λ types. formed_grows (place_of at it) its base types)
+      (λ types. formed_rights (place_of at it) its base types))
 
   -- from the place at which the scope is kept
   keeping_noting : {A : Type 0} → (holds : A → Type 0) (s : Typer) (given : Result (A × Typer) TypeError)
       → Noting Q final holds (record s { keeps = true }) given → Noting Q final holds s given
-  keeping_noting holds s (Ok p) is = record { names = is.names; fact = is.fact; table = is.table; types = is.types; calls = is.calls }
+  keeping_noting holds s (Ok p) is =
+      record { names = is.names; fact = is.fact; table = is.table; types = is.types; right = is.right; calls = is.calls }
   keeping_noting holds s (Err why) is = tt
 
   -- a scope that begins has the names around it
   entered_noting : (s : Typer) → NamesAllow Q s → Noting Q final (λ it. Unit {0}) s (opened s)
-  entered_noting s names = record { names = names; fact = tt; table = refl; types = grows_self s.types; calls = λ grows are. are }
+  entered_noting s names =
+      record { names = names; fact = tt; table = refl; types = grows_self s.types; right = right_self s.types; calls = λ grows are. are }
 
   -- the whole type
   pub opened_noting : (at : Place) (base : TypeId) (it : Declared) (its : Parameters) (s : Typer) → NamesAllow Q s

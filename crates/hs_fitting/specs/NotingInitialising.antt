@@ -7,6 +7,7 @@ use Rattle.hs_expressions.specs.Laws.Grown.{Growing, arrayed_grows, end_grows}
 use Rattle.hs_fitting.specs.Noting.{NamesAllow, Noting, Notes}
 use Rattle.hs_fitting.specs.NotingSteps.{gives_notes, refuses_notes, looks_notes, of_types_notes, on_types_notes, after_notes}
 use Rattle.hs_fitting.specs.NotingTyping.{valued_notes}
+use Rattle.hs_fitting.specs.Rightness.{Righting, right_self, arrayed_rights, end_rights}
 use Rattle.hs_initialisers.specs.Aggregates.{text_kind, fresh, reached, Reached, whole, count_begun, takes}
 use Rattle.hs_initialisers.specs.Initialisers.{Filled, part_of, text_of, is_string, lone_string, scalar, excess, simple, placed_value, whole_at, text_filled, text_or, placed, all_placed, braced, all_of, sized_by, sized, alone, listed, initialised, assigned_start, constant_start, starting, with_parts}
 use Rattle.hs_initialisers.specs.InlineWords.{inline_word, inline_in_list, inline_list, inline_words}
@@ -38,6 +39,18 @@ sized_grows at id count (Some (row.Struct number)) types = grows_self types
 sized_grows at id count (Some (row.Array of size layout)) types = grows_self types
 sized_grows at id count (Some (row.OpenArray of)) types = end_grows at types (arrayed of count types) (arrayed_grows of count types)
 sized_grows at id count (Some (row.Function result list)) types = grows_self types
+
+-- and the table stays right
+sized_rights : (at : Place) (id : TypeId) (count : ℕ) (it : Option Row) (types : TypeTable) → Righting types (sized_by at id count it types)
+sized_rights at id count None types = right_self types
+sized_rights at id count (Some row.Void) types = right_self types
+sized_rights at id count (Some (row.Integer kind)) types = right_self types
+sized_rights at id count (Some (row.Pointer of)) types = right_self types
+sized_rights at id count (Some (row.Enumeration number)) types = right_self types
+sized_rights at id count (Some (row.Struct number)) types = right_self types
+sized_rights at id count (Some (row.Array of size layout)) types = right_self types
+sized_rights at id count (Some (row.OpenArray of)) types = end_rights at types (arrayed of count types) (arrayed_rights of count types)
+sized_rights at id count (Some (row.Function result list)) types = right_self types
 
 module _ (Q : ℕ → TypeId → Type 0) (final : TypeTable) where
   -- both ways of a test on what is known
@@ -111,7 +124,9 @@ module _ (Q : ℕ → TypeId → Type 0) (final : TypeTable) where
 
   -- the type of the object
   sized_notes : (at : Place) (id : TypeId) (count : ℕ) → Notes Q final IsConstant (λ it. Unit {0}) (on_types (sized at id count))
-  sized_notes at id count = on_types_notes (sized at id count) (λ types. sized_grows at id count (row_of types id) types)
+  sized_notes at id count =
+      on_types_notes (sized at id count) (λ types. sized_grows at id count (row_of types id) types)
+      (λ types. sized_rights at id count (row_of types id) types)
 
   -- an expression alone, and a list
   pub alone_notes : (id : TypeId) (e : Expression) → Notes Q final IsConstant (λ it. Unit {0}) (alone id e)

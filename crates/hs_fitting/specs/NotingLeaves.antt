@@ -17,6 +17,7 @@ use Rattle.hs_fitting.specs.Noting.{Met, AllowsBound, AllowsName, NamesAllow, Is
 use Rattle.hs_fitting.specs.NotingCalm.{addressed_notes}
 use Rattle.hs_fitting.specs.NotingRoles.{fits_role_stays}
 use Rattle.hs_fitting.specs.NotingSteps.{gives_notes, refuses_notes, of_types_notes, on_types_notes, after_notes, and_notes, value_met, object_met, values_notes}
+use Rattle.hs_fitting.specs.Rightness.{right_self, listed_rights, parameter_type_rights}
 use Rattle.hs_names.specs.Scopes.{Declared, newest, entity_of, find, find_here, declared}
 use Rattle.hs_operands.specs.Answers as answers
 use Rattle.hs_operands.specs.Assignments.{called, update_of, one}
@@ -151,6 +152,7 @@ module _ (Q : ℕ → TypeId → Type 0) (final : TypeTable) where
         fact = is;
         table = refl;
         types = grows_self s.types;
+        right = right_self s.types;
         calls = λ grows are. all_appended (IsCallOf Q s.table final) s.calls (record { routine = number; type_id = it.head.type_id } ∷ []) are
             ((allowed, fits_role_stays s.types final s.table number it.head.type_id met grows), tt);
       }
@@ -195,7 +197,8 @@ module _ (Q : ℕ → TypeId → Type 0) (final : TypeTable) where
 
   -- a list of parameter types
   pub list_of_notes : (ids : List TypeId) → Notes Q final IsConstant (λ it. Unit {0}) (list_of ids)
-  list_of_notes ids = on_types_notes (λ types. Ok (listed ids types)) (λ types. listed_grows ids types)
+  list_of_notes ids =
+      on_types_notes (λ types. Ok (listed ids types)) (λ types. listed_grows ids types) (λ types. listed_rights ids types)
 
   -- a name
   declared_noting : (nothing : Unit {0}) (word : Word) (it : Entity) (b : Bool) (s : Typer) → NamesAllow Q s → AllowsName Q it
@@ -204,7 +207,14 @@ module _ (Q : ℕ → TypeId → Type 0) (final : TypeTable) where
       )
   declared_noting nothing word it true s names is = tt
   declared_noting nothing word it false s names is =
-      record { names = (is, names); fact = tt; table = refl; types = grows_self s.types; calls = λ grows are. are }
+      record {
+        names = (is, names);
+        fact = tt;
+        table = refl;
+        types = grows_self s.types;
+        right = right_self s.types;
+        calls = λ grows are. are;
+      }
 
   -- in the innermost scope
   pub declare_notes : (allowed : Entity → Type 0) (word : Word) (it : Entity) → allowed it → AllowsName Q it
@@ -232,5 +242,6 @@ module _ (Q : ℕ → TypeId → Type 0) (final : TypeTable) where
       → Notes Q final Anything (λ it. Unit {0}) (parameter first its id it place)
   parameter_notes first its id it place =
       after_notes
-      (on_types_notes (parameter_type (place_of first it) its id) (λ types. parameter_type_grows (place_of first it) its id types))
+      (on_types_notes (parameter_type (place_of first it) its id) (λ types. parameter_type_grows (place_of first it) its id types)
+      (λ types. parameter_type_rights (place_of first it) its id types))
       (λ made. and_notes (declare_parameter_notes (word_of it) place made) (gives_notes made))

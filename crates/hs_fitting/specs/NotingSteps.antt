@@ -10,6 +10,7 @@ use Rattle.hs_expressions.specs.Laws.Always.{Always, Anything, gives_always, ref
 use Rattle.hs_expressions.specs.Laws.Grown.{Growing, lifted_grows, loaded_grows}
 use Rattle.hs_expressions.specs.Operations.{as_value, as_object, value_of}
 use Rattle.hs_fitting.specs.Noting.{Met, NamesAllow, IsOperandOf, Notes, inside, same_noted, kept_noting, types_noting, then_noting, restored_noting, ending_noting}
+use Rattle.hs_fitting.specs.Rightness.{Righting, lifted_rights, loaded_rights}
 use Rattle.hs_operands.specs.Objects.{loaded}
 use Rattle.hs_operands.specs.Operands.{TypedOperand}
 use Rattle.hs_operands.specs.declared.operand_end.OperandEnd.{OperandEnd}
@@ -81,11 +82,14 @@ module _ {Q : ℕ → TypeId → Type 0} {final : TypeTable} {allowed : Entity �
   pub objects_notes : (f : TypeTable → Result LeftValue OperandEnd) → Notes Q final allowed (IsOperandOf Q) (of_types (λ types. as_object (f types)))
   objects_notes f = of_types_met (λ types. as_object (f types)) (λ types. object_met Q (f types))
 
-  -- a step that changes the table alone
+  -- a step that changes the table alone, which grows and stays right
   pub on_types_notes : {A : Type 0} → (f : TypeTable → Result (A × TypeTable) TypeError) → ((types : TypeTable) → Growing types (f types))
-      → Notes Q final allowed (λ it. Unit {0}) (on_types f)
-  on_types_notes f grows =
-      record { always = on_types_always f grows; gives = λ s names. types_noting Q final s (f s.types) (grows s.types) names }
+      → ((types : TypeTable) → Righting types (f types)) → Notes Q final allowed (λ it. Unit {0}) (on_types f)
+  on_types_notes f grows rights =
+      record {
+        always = on_types_always f grows;
+        gives = λ s names. types_noting Q final s (f s.types) (grows s.types) (rights s.types) names;
+      }
 
   -- one step after another, by what the first one gives
   pub then_notes : {A B : Type 0} → {holds : A → Type 0} → {holds' : B → Type 0} → {first : Step A} → {next : A → Step B}
@@ -119,7 +123,8 @@ module _ {Q : ℕ → TypeId → Type 0} {final : TypeTable} {allowed : Entity �
       → Notes Q final allowed (λ it. Unit {0}) (value_of step)
   value_notes is =
       after_notes is
-      (λ it. on_types_notes (λ types. lifted (loaded types it)) (λ types. lifted_grows types (loaded types it) (loaded_grows types it)))
+      (λ it. on_types_notes (λ types. lifted (loaded types it)) (λ types. lifted_grows types (loaded types it) (loaded_grows types it))
+      (λ types. lifted_rights types (loaded types it) (loaded_rights types it)))
 
   -- what is not evaluated
   pub unevaluated_notes : {A : Type 0} → {holds : A → Type 0} → {step : Step A} → Notes Q final allowed holds step

@@ -13,6 +13,7 @@ use Rattle.hs_fitting.specs.Noting.{NamesAllow, IsOperandOf, AreCallsOf, Noting,
 use Rattle.hs_fitting.specs.NotingCalm.{struct_type_notes, enumeration_type_notes, tagged_struct_notes, begun_struct_notes, begun_enumeration_notes, completed_struct_notes, completed_enumeration_notes, string_notes}
 use Rattle.hs_fitting.specs.NotingLeaves.{prefix_object_notes, prefix_met, named_met, number_of_met, character_of_met, call_operand_notes, list_of_notes, enumerator_notes, parameter_notes}
 use Rattle.hs_fitting.specs.NotingSteps.{gives_notes, looks_notes, of_types_notes, looks_met, of_types_met, values_notes, objects_notes, on_types_notes, then_notes, after_notes, and_notes, either_notes, value_notes, unevaluated_notes, prototype_notes, wider_notes}
+use Rattle.hs_fitting.specs.Rightness.{formed_rights, member_rights}
 use Rattle.hs_names.specs.Scopes.{find}
 use Rattle.hs_operands.specs.Answers as answers
 use Rattle.hs_operands.specs.Assignments.{post_update_of, cast_of, conditional_of, comma_of}
@@ -118,7 +119,8 @@ module _ (Q : ℕ → TypeId → Type 0) (final : TypeTable) where
         after_notes (type_notes (first_place at specification) (specified_notes false (first_place at specification) no_specifiers specification))
         (λ id. after_notes (derivations_notes (first_place at specification) it)
         (λ its. on_types_notes (formed (place_of (first_place at specification) it) its id)
-        (λ types. formed_grows (place_of (first_place at specification) it) its id types)))
+        (λ types. formed_grows (place_of (first_place at specification) it) its id types)
+        (λ types. formed_rights (place_of (first_place at specification) it) its id types)))
 
     -- specifiers
     pub specified_notes : (stored : Bool) (first : Place) (done : Specifiers) (its : Specification)
@@ -165,7 +167,9 @@ module _ (Q : ℕ → TypeId → Type 0) (final : TypeTable) where
     members_as_notes first id done syntax.no_declarators = gives_notes done
     members_as_notes first id done (syntax.more_declarators it rest) =
         after_notes (derivations_notes first it)
-        (λ its. after_notes (on_types_notes (with_member first done id its (word_of it)) (λ types. member_grows first done id its (word_of it) types))
+        (λ its. after_notes
+        (on_types_notes (with_member first done id its (word_of it)) (λ types. member_grows first done id its (word_of it) types)
+        (λ types. member_rights first done id its (word_of it) types))
         (λ next. members_as_notes first id next rest))
 
     -- constants

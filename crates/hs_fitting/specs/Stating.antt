@@ -1,8 +1,8 @@
 -- Statements move on what is known of a program: scopes that begin in them end, and the variables that they make stay.
 --     scoped_moved                    a step in a scope of its own
 --     body_moved                      the body of a function
-use Rattle.std.proofs.Common.{◌≡◌, ℕ, suc, ◌≤◌, true, not, List, [], ◌∷◌, ◌++◌, nat_eq, Option, Some, None, Result, Ok, Err, sym, subst, ◌∙◌, arith}
-use Rattle.std.specs.List.{AllByRecursion, list_any}
+use Rattle.std.proofs.Common.{◌≡◌, suc, true, not, List, [], ◌∷◌, ◌++◌, nat_eq, Option, Some, None, Result, Ok, Err, sym, subst, ◌∙◌}
+use Rattle.std.specs.List.{list_any}
 use Rattle.indexmap.specs.IndexSet.{insert_key}
 use Rattle.hs_declarations.specs.Declarations.{block_declared}
 use Rattle.hs_expressions.specs.Expressions.{typed, enter, leave, first_place}
@@ -10,7 +10,7 @@ use Rattle.hs_expressions.specs.Operations.{value_of}
 use Rattle.hs_expressions.specs.Laws.{HasMore, IsConstant, IsTagAt, IsScoped, AreOutside}
 use Rattle.hs_expressions.specs.Laws.Always.{Anything, deeper, value_always, of_types_always}
 use Rattle.hs_expressions.specs.Laws.Extending.{typed_always}
-use Rattle.hs_expressions.specs.Laws.Reached.{IsAllowedAt, Reaches, all_so, left_entered}
+use Rattle.hs_expressions.specs.Laws.Reached.{IsAllowedAt, Reaches, left_entered}
 use Rattle.hs_fitting.specs.Blocks.{block_declared_moved}
 use Rattle.hs_fitting.specs.Moving.{Moving, Moved, passes_moved, stops_moved, knowing_moved, unless_moved, then_moved, typing_moved}
 use Rattle.hs_linkage.specs.Works.{Work, knowing, unless}

@@ -39,7 +39,7 @@ fits_stays old new it grows fits = (
   gives_stays old new it.result grows fits.2,
 )
 
-all_stay : (old new : TypeTable) (its : List TypedFunction) → Grows old new → AllByRecursion (FitsDefinition old) its
+pub all_stay : (old new : TypeTable) (its : List TypedFunction) → Grows old new → AllByRecursion (FitsDefinition old) its
     → AllByRecursion (FitsDefinition new) its
 all_stay old new its grows fit = all_so (FitsDefinition old) (FitsDefinition new) (λ it fits. fits_stays old new it grows fits) its fit
 
@@ -49,7 +49,7 @@ AllFit m (Ok p) = Passes m p.1 × AllByRecursion (FitsDefinition p.1.typer.types
 AllFit m (Err why) = Unit {0}
 
 -- one more, if there is one
-abbrev IfFits : Translator → Result (Option TypedFunction × Translator) TypeError → Type 0
+abbrev pub IfFits : Translator → Result (Option TypedFunction × Translator) TypeError → Type 0
 IfFits m (Ok p) = Passes m p.1 × AllByRecursion (FitsDefinition p.1.typer.types) (with_function [] p.0)
 IfFits m (Err why) = Unit {0}
 
@@ -67,14 +67,14 @@ declared_if_moved : (at : Option Place) (it : Declaration) → Moved (declared_i
 declared_if_moved None it = passes_moved tt
 declared_if_moved (Some at) it = file_declared_moved at it
 
-external_fits : (number : ℕ) (it : ExternalDeclaration) (m : Translator) → IsScoped m.typer → AreWhole m.typer.types m.locals
+pub external_fits : (number : ℕ) (it : ExternalDeclaration) (m : Translator) → IsScoped m.typer → AreWhole m.typer.types m.locals
     → IfFits m (external number it m)
 external_fits number (syntax.function_definition words it body) m scoped are =
     some_fits m (defined number words it body m) (defined_fits number words it body m scoped are)
 external_fits number (syntax.declaration it) m scoped are =
     none_fits m (declared_if (place_of_declaration it) it m) are ((declared_if_moved (place_of_declaration it) it).from m scoped)
 
-with_fits_more : (types : TypeTable) (done : List TypedFunction) (it : Option TypedFunction) → AllByRecursion (FitsDefinition types) done
+pub with_fits_more : (types : TypeTable) (done : List TypedFunction) (it : Option TypedFunction) → AllByRecursion (FitsDefinition types) done
     → AllByRecursion (FitsDefinition types) (with_function [] it) → AllByRecursion (FitsDefinition types) (with_function done it)
 with_fits_more types done None fit fits = fit
 with_fits_more types done (Some it) fit fits = all_appended (FitsDefinition types) done (it ∷ []) fit fits
@@ -97,7 +97,7 @@ next_fits done rest m (Ok p) fit fits others =
     (with_fits_more p.1.typer.types done p.0 (all_stay m.typer.types p.1.typer.types done fits.0.types fit) fits.1))
 next_fits done rest m (Err why) fit fits others = tt
 
-externals_fit : (its : List ExternalDeclaration) (done : List TypedFunction) (m : Translator) → IsScoped m.typer → AreWhole m.typer.types m.locals
+pub externals_fit : (its : List ExternalDeclaration) (done : List TypedFunction) (m : Translator) → IsScoped m.typer → AreWhole m.typer.types m.locals
     → AllByRecursion (FitsDefinition m.typer.types) done → AllFit m (externals done its m)
 externals_fit [] done m scoped are fit = (passes_self m scoped are, fit)
 externals_fit (it ∷ rest) done m scoped are fit =
@@ -146,7 +146,7 @@ checked_fits m (Ok p) fits =
     (last_fits m p.1 p.0 (unfit p.1.typer.types p.1.typer.origins p.1.routines p.1.routines) fits.0 fits.1)
 checked_fits m (Err why) fits = tt
 
-unit_fits : (done : List TypedFunction) (its : List ExternalDeclaration) (m : Translator) → IsScoped m.typer → AreWhole m.typer.types m.locals
+pub unit_fits : (done : List TypedFunction) (its : List ExternalDeclaration) (m : Translator) → IsScoped m.typer → AreWhole m.typer.types m.locals
     → AllByRecursion (FitsDefinition m.typer.types) done → AllFit m (unit_of done its m)
 unit_fits done its m scoped are fit = checked_fits m (externals done its m) (externals_fit its done m scoped are fit)
 

@@ -3,9 +3,7 @@
 --     Walks here program function pre work after holds
 --         from every place of the text that meets pre, what is given meets after there, and in a program that continues it, holds
 --     then_walks, ..                             steps one after another
-use Rattle.std.proofs.Common.{◌≡◌, ◌<◌, ℕ, Bool, true, false, List, ◌++◌, length, slice_get, Option, Some, None, Result, Ok, Err, refl, sym, subst, ◌∙◌, if◌then◌else◌}
-use Rattle.std.specs.List.{AllByRecursion}
-use Rattle.hs_expressions.specs.Binding.{IsDefined}
+use Rattle.std.proofs.Common.{◌≡◌, ℕ, Bool, true, false, List, slice_get, Option, Some, None, Result, Ok, Err, refl, sym, subst, ◌∙◌, if◌then◌else◌}
 use Rattle.hs_expressions.specs.Binding.Keeping.{IsNoted, noted_first, noted_second}
 use Rattle.hs_expressions.specs.Laws.{IsPrefix, IsScoped}
 use Rattle.hs_expressions.specs.Laws.Always.{Anything}
@@ -14,14 +12,11 @@ use Rattle.hs_fitting.specs.Claims.{Claims, AreFulfilled, AreObjects, IsMet, Sta
 use Rattle.hs_fitting.specs.Declaring.{either_moved}
 use Rattle.hs_fitting.specs.Moves.{Moves}
 use Rattle.hs_fitting.specs.Moving.{Moved, Moving, passes_moved, stops_moved, knowing_moved, unless_moved, then_moved}
-use Rattle.hs_linkage.specs.Works.{Work, work_with, ◌>>=◌, ◌>>◌, pass, stop, knowing, same_work, unless}
+use Rattle.hs_linkage.specs.Works.{Work, work_with, ◌>>=◌, pass, stop, knowing, same_work, unless}
 use Rattle.hs_linkage.specs.declared.definitions.Definition.{Definition}
-use Rattle.hs_linkage.specs.declared.translator.StaticObject.{StaticObject}
 use Rattle.hs_linkage.specs.declared.translator.Translator.{Translator}
-use Rattle.hs_tree.specs.Fitting.{types_of, variable_of_global}
-use Rattle.hs_tree.specs.Kinds.{Category, category_of}
+use Rattle.hs_tree.specs.Fitting.{types_of}
 use Rattle.hs_tree.specs.Trees.{TypedFunction, TypedProgram}
-use Rattle.hs_tree.specs.declared.head.VariableDecl.{VariableDecl}
 use Rattle.hs_typer.specs.declared.type_error.TypeError.{TypeError}
 use Rattle.hs_types.specs.Growing.{grows_then}
 use Rattle.hs_types.specs.TypeTables.{TypeTable, Grows}

@@ -5,9 +5,9 @@ use hs_decl_parser::unit;
 use hs_syntax::Unit;
 use hs_table::built_in;
 use hs_tokens::{Origin, SourceToken, Token, scan};
-use hs_tree::{BoundRoutine, Global as Object};
+use hs_tree::{BoundRoutine, Global as Object, Program};
 use hs_types::FieldId;
-use hs_typing::{ProgramError, Typed, program_of};
+use hs_typing::{ProgramError, program_of};
 use std::alloc::{AllocFailed, Global};
 use std::test::Fail;
 
@@ -88,7 +88,7 @@ fn units_of(alloc: Global, texts: &[&str]) -> Result<Vec<Unit>, Why> {
 }
 
 /// The program that a text is.
-fn program(alloc: Global, text: &str) -> Result<Typed, Why> {
+fn program(alloc: Global, text: &str) -> Result<Program, Why> {
     let units = units_of(alloc, &[text])?;
     Ok(program_of(alloc, built_in(alloc)?, &units)?)
 }

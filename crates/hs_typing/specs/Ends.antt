@@ -1,6 +1,7 @@
 -- What units leave at their end: objects, what the program takes the address of, and how routines are declared.
 --     finished_object id types         the type of an object (X3.159-1989 3.7.2)
---     globals_of taken place done its types      objects from that place on, marked if their addresses are taken
+--     globals_of taken place done its types      objects from that place on, marked if their addresses are taken, without their sizes
+--     sized_globals types its         the same objects, with the sizes of their types
 --     taken_globals, taken_fields      what the program takes the address of, once each
 --     first_types done its             of each routine, the type of its declaration at its first call
 --     bound_routines types its calls   the routines, each with that declaration
@@ -49,20 +50,28 @@ finished_row id (Some (row.Function its list)) types = (id, types)
 abbrev pub finished_object : TypeId → TypeTable → TypeId × TypeTable
 finished_object id types = finished_row id (row_of types id) types
 
--- an object of that type; it has no bytes if its type stays incomplete
-abbrev pub global_of : Bool → StaticObject → TypeId → TypeTable → Global
-global_of mark it id types =
-    record { variable = record it.variable { type_id = id; taken = mark }; size = size_of types id; parts = it.parts }
+-- an object of that type, without its size
+abbrev pub global_of : Bool → StaticObject → TypeId → Global
+global_of mark it id = record { variable = record it.variable { type_id = id; taken = mark }; size = 0; parts = it.parts }
 
 -- with one more
 abbrev pub with_global : List ℕ → ℕ → List Global → StaticObject → TypeId × TypeTable → List Global × TypeTable
-with_global marks place done it p = (done ++ global_of (list_any (nat_eq place) marks) it p.0 p.1 ∷ [], p.1)
+with_global marks place done it p = (done ++ global_of (list_any (nat_eq place) marks) it p.0 ∷ [], p.1)
 
 -- in their order; `done` are those before
 abbrev pub globals_of : List ℕ → ℕ → List Global → List StaticObject → TypeTable → List Global × TypeTable
 globals_of marks place done [] types = (done, types)
 globals_of marks place done (it ∷ rest) types =
     let p = with_global marks place done it (finished_object it.variable.type_id types) in globals_of marks (suc place) p.0 rest p.1
+
+-- an object with the size of its type; it has no bytes if that stays incomplete
+abbrev pub sized_global : TypeTable → Global → Global
+sized_global types it = record it { size = size_of types it.variable.type_id }
+
+-- 3.7.2: the types are those of the end, so the sizes are measured when all objects have theirs
+abbrev pub sized_globals : TypeTable → List Global → List Global
+sized_globals types [] = []
+sized_globals types (it ∷ rest) = sized_global types it ∷ sized_globals types rest
 
 -- the place of an object, with those before
 abbrev pub with_taken_global : List ℕ → Taken → List ℕ
@@ -112,11 +121,7 @@ abbrev pub listed_in : ℕ → TypeTable → List TypeId → ListId → List Typ
 listed_in zero types done list = done
 listed_in (suc fewer) types done list = listed_next (λ next others. listed_in fewer types next others) done (slice_get types.lists list.number)
 
--- no function has more parameters: the limit of tokens is far below
-unfoldable pub most_parameters : ℕ
-most_parameters = 4000000000
-
--- the result and the parameters of a function
+-- the result and the parameters of a function, of which there are no more than the table has lists
 abbrev pub prototype_of_row : TypeTable → Option Row → Option Prototype
 prototype_of_row types None = None
 prototype_of_row types (Some row.Void) = None
@@ -127,7 +132,7 @@ prototype_of_row types (Some (row.Struct number)) = None
 prototype_of_row types (Some (row.Array of length layout)) = None
 prototype_of_row types (Some (row.OpenArray of)) = None
 prototype_of_row types (Some (row.Function its list)) =
-    Some (record { result = its; parameters = listed_in most_parameters types [] list })
+    Some (record { result = its; parameters = listed_in (length types.lists) types [] list })
 
 -- of a routine that is called
 abbrev pub prototype_of : TypeTable → Option TypeId → Option Prototype

@@ -1,2 +1,8 @@
 pub mod Ends
+pub mod Finishing
+pub mod FirstCalls
+pub mod Globals
+pub mod Keeping
+pub mod Marking
 pub mod Programs
+pub mod Prototypes

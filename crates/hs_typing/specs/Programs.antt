@@ -4,7 +4,7 @@
 --     usable_main types functions main      the number of `main`, if that function can be one
 --     parts_of m                    what the units leave at their end; assembled, the program of these parts
 --     within program                the program, unless it has more bytes than it may have
---     IsTyped given result          what an answer of the code says of the definition's
+--     IsTyped, IsProgram given result      what an answer of the code says of the definition's, as parts and as a program
 use Rattle.std.specs.Prelude.{◌≡◌, ℕ, ◌==◌, Bool, false, ◌||◌, ◌&&◌, codes, List, [], Option, Some, None, slice_get, Result, Ok, Err, if◌then◌else◌}
 use Rattle.hs_base.specs.Limit.{number_of}
 use Rattle.hs_base.specs.declared.limit.LimitKind.TheVariants.{Objects}
@@ -20,11 +20,12 @@ use Rattle.hs_tree.specs.Trees.{TypedFunction, TypedProgram}
 use Rattle.hs_tree.specs.Views.{program_of}
 use Rattle.hs_tree.specs.declared.function.BoundRoutine.{BoundRoutine}
 use Rattle.hs_tree.specs.declared.globals.Global.{Global}
+use Rattle.hs_tree.specs.declared.program.Program.{Program}
 use Rattle.hs_typer.specs.declared.type_error.TypeError.{TypeError}
 use Rattle.hs_typer.specs.declared.type_error.TypeError.TheVariants as typing
 use Rattle.hs_types.specs.TypeTables.{TypeTable}
 use Rattle.hs_types.specs.declared.row.FieldId.{FieldId}
-use Rattle.hs_typing.specs.Ends.{globals_of, taken_globals, taken_fields, no_types, first_types, bound_routines, passes}
+use Rattle.hs_typing.specs.Ends.{globals_of, sized_globals, taken_globals, taken_fields, no_types, first_types, bound_routines, passes}
 use Rattle.hs_typing.specs.declared.program.ProgramError.{ProgramError}
 use Rattle.hs_typing.specs.declared.program.ProgramError.TheVariants.{Refused, NoMain, Limit, NoMemory}
 use Rattle.hs_typing.specs.declared.program.Typed.{Typed}
@@ -46,11 +47,11 @@ may_be_main types (Some it) = (it.parameters == 0) && (is_number types it.result
 abbrev pub Parts : Type 0
 Parts = TypeTable × List Global × List (List ℕ) × List BoundRoutine × List FieldId
 
--- with the objects, and the types that they have
+-- with the objects, and the types that they have, which say how large they are
 abbrev pub parts_with : Translator → List Global × TypeTable → Parts
 parts_with m p = (
   p.1,
-  p.0,
+  sized_globals p.1 p.0,
   m.typer.literals,
   bound_routines p.1 [] m.typer.table (first_types (no_types m.typer.table) m.typer.calls),
   taken_fields [] m.typer.taken,
@@ -97,17 +98,27 @@ ended (Ok p) = with_main p.0 p.1 (usable_main p.1.typer.types p.0 (main_number p
 abbrev pub typed : List Routine → List (List ExternalDeclaration) → Result TypedProgram ProgramError
 typed table units = ended (translated table units)
 
--- a program of the code
+-- the parts of a program, and a program of the code
 abbrev pub view_typed : Typed → TypedProgram
 view_typed it = program_of it.types it.globals it.literals it.functions.items it.routines it.taken it.main
 
+abbrev pub view_program : Program → TypedProgram
+view_program it = program_of it.types it.globals it.literals it.functions.items it.routines it.taken it.main
+
 -- the program, or the refusal, is that of the definition, unless memory ran out
+abbrev pub IsGivenAs : {A : Type 0} → (A → TypedProgram) → Result TypedProgram ProgramError → Result A ProgramError → Type 0
+IsGivenAs view given (Ok it) = given ≡ Ok (view it)
+IsGivenAs view given (Err (Refused why)) = given ≡ Err (Refused why)
+IsGivenAs view given (Err NoMain) = given ≡ Err NoMain
+IsGivenAs view given (Err (Limit limit)) = given ≡ Err (Limit limit)
+IsGivenAs view given (Err NoMemory) = Unit {0}
+
+-- its parts, and the program
 abbrev pub IsTyped : Result TypedProgram ProgramError → Result Typed ProgramError → Type 0
-IsTyped given (Ok it) = given ≡ Ok (view_typed it)
-IsTyped given (Err (Refused why)) = given ≡ Err (Refused why)
-IsTyped given (Err NoMain) = given ≡ Err NoMain
-IsTyped given (Err (Limit limit)) = given ≡ Err (Limit limit)
-IsTyped given (Err NoMemory) = Unit {0}
+IsTyped given result = IsGivenAs view_typed given result
+
+abbrev pub IsProgram : Result TypedProgram ProgramError → Result Program ProgramError → Type 0
+IsProgram given result = IsGivenAs view_program given result
 
 -- a refusal of typing
 abbrev pub refusal_of : TypeError → ProgramError

@@ -9,4 +9,4 @@ mod objects;
 mod program;
 mod routines;
 
-pub use program::{ProgramError, Typed, program_of};
+pub use program::{ProgramError, program_of};

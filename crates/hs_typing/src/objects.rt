@@ -1,7 +1,7 @@
 //! The objects of a program, with the types that they have at its end (X3.159-1989 3.7.2).
 
 ghost use Rattle.std.specs.Prelude.{◌≡◌, ◌++◌, ◌∷◌, [], IfOk};
-ghost use Rattle.hs_typing.specs.Ends.{finished_object, global_of, globals_of};
+ghost use Rattle.hs_typing.specs.Ends.{finished_object, global_of, globals_of, sized_global, sized_globals};
 
 use hs_base::NoMemory;
 use hs_linkage::StaticObject;
@@ -34,14 +34,10 @@ fn finished_object(types: &mut Types, id: TypeId) -> Result<TypeId, NoMemory>
     }
 }
 
-/// An object of that type, marked if its address is taken.
-fn global_of(types: &Types, mark: bool, it: StaticObject, id: TypeId) -> Object
-    ensures { result ≡ global_of mark it id types.now }
+/// An object of that type, marked if its address is taken, without its size.
+fn global_of(mark: bool, it: StaticObject, id: TypeId) -> Object
+    ensures { result ≡ global_of mark it id }
 {
-    let size = match types.layout(id) {
-        Some(layout) => layout.size,
-        None => 0,
-    };
     let StaticObject {
         variable,
         parts,
@@ -55,6 +51,26 @@ fn global_of(types: &Types, mark: bool, it: StaticObject, id: TypeId) -> Object
             type_id: id,
             taken: mark,
         },
+        size: 0,
+        parts,
+    }
+}
+
+/// The object, with the size of its type. It has no bytes if that is incomplete.
+fn sized_global(types: &Types, it: Object) -> Object
+    ensures { result ≡ sized_global types.now it }
+{
+    let size = match types.layout(it.variable.type_id) {
+        Some(layout) => layout.size,
+        None => 0,
+    };
+    let Object {
+        variable,
+        parts,
+        ..
+    } = it;
+    Object {
+        variable,
         size,
         parts,
     }
@@ -69,7 +85,7 @@ fn with<T: Drop>(done: Vec<T>, it: T) -> Result<Vec<T>, NoMemory>
     Ok(all)
 }
 
-/// The objects of a program, in their order, marked by the places of those whose addresses it takes.
+/// The objects of a program, in their order, marked by the places of those whose addresses it takes, without their sizes.
 pub(crate) fn globals_of(
     alloc: Global,
     types: &mut Types,
@@ -83,8 +99,23 @@ pub(crate) fn globals_of(
     'its: for it in its {
         let id = finished_object(types, it.variable.type_id)?;
         let mark = marks.contains(&place);
-        done = with(done, global_of(types, mark, it, id))?;
+        done = with(done, global_of(mark, it, id))?;
         place = next_place(place)?;
+    }
+    Ok(done)
+}
+
+/// The objects, with the sizes of their types.
+pub(crate) fn sized_globals(
+    alloc: Global,
+    types: &Types,
+    its: Vec<Object>,
+) -> Result<Vec<Object>, NoMemory>
+    ensures { IfOk result (λ all. all.items ≡ sized_globals types.now its.items) }
+{
+    let mut done = Vec::new(alloc);
+    'its: for it in its {
+        done = with(done, sized_global(types, it))?;
     }
     Ok(done)
 }

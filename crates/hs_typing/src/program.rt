@@ -5,21 +5,22 @@ ghost use Rattle.hs_functions.specs.Units.{units_of};
 ghost use Rattle.hs_linkage.specs.Definitions.{all_definitions};
 ghost use Rattle.hs_linkage.specs.Works.{before_units};
 ghost use Rattle.hs_syntax.specs.Views.{view_unit};
+ghost use Rattle.hs_tree.specs.Fitting.{Fits};
 ghost use Rattle.hs_tree.specs.Views.{view_function};
 ghost use Rattle.hs_typing.specs.Ends.{globals_of, taken_globals, no_types, first_types, bound_routines};
-ghost use Rattle.hs_typing.specs.Programs.{parts_of, assembled, usable_main, within, with_main, no_memory, refusal_of, ended, typed, view_typed, IsTyped};
+ghost use Rattle.hs_typing.specs.Programs.{parts_of, assembled, usable_main, within, with_main, no_memory, refusal_of, ended, typed, view_typed, view_program, IsTyped, IsProgram};
 
 use crate::bytes::passes;
 use crate::ends::{taken_fields, taken_globals};
 use crate::main_function::{main_number, may_be_main};
-use crate::objects::globals_of;
+use crate::objects::{globals_of, sized_globals};
 use crate::routines::{bound_routines, first_types};
 use hs_base::{Limit, LimitKind, NoMemory};
 use hs_functions::functions_of;
 use hs_linkage::{Definitions, Objects, Translator};
 use hs_syntax::Unit;
 use hs_table::Table;
-use hs_tree::{Function, Globals, Literals, Routines, TakenFields};
+use hs_tree::{Function, Global as Object, Globals, Literals, Program, Routines, TakenFields};
 use hs_typer::{TypeError, Typer};
 use hs_types::Types;
 use std::alloc::Global;
@@ -49,17 +50,13 @@ impl From<NoMemory> for ProgramError {
 
 /// The parts of a typed program.
 #[derive(Drop)]
-pub struct Typed {
-    /// Its types, each once.
+pub(crate) struct Typed {
     pub types: Types,
     pub globals: Globals,
     pub literals: Literals,
-    /// The functions that are defined, in the order of the text.
     pub functions: Vec<Function>,
     pub routines: Routines,
-    /// The fields whose addresses the program takes.
     pub taken: TakenFields,
-    /// The number of the function `main`.
     pub main: u32,
 }
 
@@ -71,16 +68,15 @@ struct Ends {
     taken: TakenFields,
 }
 
-/// The objects, with the types that they have at the end.
-fn globals_at_end(alloc: Global, m: &mut Translator) -> Result<Globals, NoMemory>
+/// The objects, with the types that they have at the end, without their sizes.
+fn globals_at_end(alloc: Global, m: &mut Translator) -> Result<Vec<Object>, NoMemory>
     ensures globals { IfOk result
-        (λ its. globals_of (taken_globals [] m.old.typer.taken) 0 [] m.old.objects m.old.typer.types ≡ (its, m.new.typer.types)) }
+        (λ its. globals_of (taken_globals [] m.old.typer.taken) 0 [] m.old.objects m.old.typer.types ≡ (its.items, m.new.typer.types)) }
     ensures others { m.new ≡ record m.old { typer = record m.old.typer { types = m.new.typer.types }; objects = [] } }
 {
     let objects = replace(&mut m.objects, Objects::new(alloc));
     let marks = taken_globals(alloc, m.typer.taken.items())?;
-    let its = globals_of(alloc, &mut m.typer.types, &marks, objects.into_vec())?;
-    Ok(Globals::from_vec(its))
+    globals_of(alloc, &mut m.typer.types, &marks, objects.into_vec())
 }
 
 /// The routines, with the types that are known at the end.
@@ -97,7 +93,8 @@ fn routines_at_end(alloc: Global, m: &Translator) -> Result<Routines, NoMemory>
 fn ends_of(alloc: Global, m: &mut Translator) -> Result<Ends, NoMemory>
     ensures { IfOk result (λ it. parts_of m.old ≡ (m.new.typer.types, it.globals, m.new.typer.literals, it.routines, it.taken)) }
 {
-    let globals = globals_at_end(alloc, m)?;
+    let objects = globals_at_end(alloc, m)?;
+    let globals = Globals::from_vec(sized_globals(alloc, &m.typer.types, objects)?);
     let routines = routines_at_end(alloc, m)?;
     let taken = taken_fields(alloc, m.typer.taken.items())?;
     Ok(Ends {
@@ -227,7 +224,42 @@ fn translated(alloc: Global, m: Translator, units: &[Unit]) -> Result<Typed, Pro
     }
 }
 
-/// The typed program that units are with a table of routines.
+/// The parts of the program that units are with a table of routines.
+fn typed_parts(alloc: Global, table: Table, units: &[Unit]) -> Result<Typed, ProgramError>
+    ensures { IsTyped (typed table (map view_unit units.now)) result }
+{
+    match beginning(alloc, table, units) {
+        Ok(m) => translated(alloc, m, units),
+        Err(NoMemory) => Err(ProgramError::NoMemory),
+    }
+}
+
+/// The program of parts that fit.
+fn whole(it: Typed) -> Program
+    requires fits { Fits (view_typed it) }
+    ensures { view_program result ≡ view_typed it }
+{
+    let Typed {
+        types,
+        globals,
+        literals,
+        functions,
+        routines,
+        taken,
+        main,
+    } = it;
+    Program {
+        types,
+        globals,
+        literals,
+        functions,
+        routines,
+        taken,
+        main,
+    }
+}
+
+/// The typed program that units are with a table of routines. Every fact that a program keeps is proved of it.
 ///
 /// # Errors
 ///
@@ -235,11 +267,11 @@ fn translated(alloc: Global, m: Translator, units: &[Unit]) -> Result<Typed, Pro
 /// [`ProgramError::NoMain`]; then [`ProgramError::Limit`], of Objects.
 ///
 /// Example: no units have no `main`.
-pub fn program_of(alloc: Global, table: Table, units: &[Unit]) -> Result<Typed, ProgramError>
-    ensures { IsTyped (typed table (map view_unit units.now)) result }
+pub fn program_of(alloc: Global, table: Table, units: &[Unit]) -> Result<Program, ProgramError>
+    ensures { IsProgram (typed table (map view_unit units.now)) result }
 {
-    match beginning(alloc, table, units) {
-        Ok(m) => translated(alloc, m, units),
-        Err(NoMemory) => Err(ProgramError::NoMemory),
+    match typed_parts(alloc, table, units) {
+        Ok(it) => Ok(whole(it)),
+        Err(why) => Err(why),
     }
 }

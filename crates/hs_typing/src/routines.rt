@@ -1,12 +1,12 @@
 //! The routines of the table, each with its declaration at its first call.
 
-ghost use Rattle.std.specs.Prelude.{◌≡◌, [], slice_get, IfOk};
-ghost use Rattle.hs_typing.specs.Ends.{no_types, with_call, first_types, listed_in, most_parameters, prototype_of_row, prototype_of, bound_routine, bound_routines};
+ghost use Rattle.std.specs.Prelude.{◌≡◌, [], slice_get, length, IfOk};
+ghost use Rattle.hs_typing.specs.Ends.{no_types, with_call, first_types, listed_in, prototype_of_row, prototype_of, bound_routine, bound_routines};
 
 use hs_base::NoMemory;
 use hs_table::Routine;
 use hs_tree::{BoundRoutine, Prototype, TypeIds};
-use hs_typer::{RoutineCall, copied};
+use hs_typer::{RoutineCall, copied, next_place};
 use hs_types::{ListId, Parameters, Row, TypeId, Types};
 use std::alloc::Global;
 
@@ -52,27 +52,21 @@ pub(crate) fn first_types(
     Ok(all)
 }
 
-/// No function has more parameters: the limit of tokens is far below.
-fn most_parameters() -> u32
-    ensures { result ≡ most_parameters }
-{
-    4_000_000_000
-}
-
-/// The types of a list of parameters.
+/// The types of a list of parameters. There are no more than the table has lists, so there is a turn for each of those.
+#[tactic(auto, using(crate::proofs::Turns::turn_ends))]
 fn listed(alloc: Global, types: &Types, list: ListId) -> Result<TypeIds, NoMemory>
-    ensures { IfOk result (λ ids. ids ≡ listed_in most_parameters types.now [] list) }
+    ensures { IfOk result (λ ids. ids ≡ listed_in (length types.now.lists) types.now [] list) }
 {
     let mut done = Vec::new(alloc);
     let mut left = list;
-    let mut fewer = most_parameters();
-    'fewer: while fewer > 0 {
+    let mut turn = 0u32;
+    'turn: while types.parameters(ListId { number: turn }).is_some() {
         let Some(Parameters::More { first, others }) = types.parameters(left) else {
             return Ok(TypeIds::from_vec(done));
         };
         done.push(first)?;
         left = others;
-        fewer -= 1;
+        turn = next_place(turn)?;
     }
     Ok(TypeIds::from_vec(done))
 }

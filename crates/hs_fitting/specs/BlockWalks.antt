@@ -1,0 +1,332 @@
+-- Declarations of blocks refer to what was claimed, and start variables with what fits them, as the program goes on (X3.159-1989 3.5 and 3.6.2).
+--     either_known_walks              both ways of a test, each of which knows how it went
+--     nothing_named_walks             specifiers without a declarator
+--     function_declared_walks         a function that is declared
+--     static_local_walks, extern_object_walks      objects of static storage duration that a block declares
+--     block_declared_walks            a declaration of a block
+use Rattle.std.proofs.Common.{◌≡◌, ℕ, Bool, true, false, not, ◌||◌, List, [], ◌∷◌, Option, Some, None, refl, sym, ap, subst, ◌∙◌, if◌then◌else◌}
+use Rattle.std.specs.List.{AllByRecursion}
+use Rattle.hs_declarations.specs.Declarations.{is_object, can_start, object_place, is_static, is_typedef_word, with_inline_words, function_declared, nothing_named, static_started, static_local, not_started, extern_object, block_object, block_function, block_entity, block_item_as, block_item, with_given, block_items, block_items_as, block_declared_at, block_declared}
+use Rattle.hs_declarations.specs.Fronts.{front, item_type, tag_alone, tag_alone_as, lone_tag, declares_any, storage_place, place_of_start}
+use Rattle.hs_declarations.specs.declared.fronts.Front.{Front}
+use Rattle.hs_expressions.specs.Expressions.{first_place}
+use Rattle.hs_expressions.specs.Laws.{IsConstant, IsScoped}
+use Rattle.hs_expressions.specs.Laws.Always.{Always, Reaching}
+use Rattle.hs_expressions.specs.Laws.Leaves.{begun_struct_always}
+use Rattle.hs_expressions.specs.Laws.Reached.{all_appended, reaches_self}
+use Rattle.hs_fitting.specs.Automatic.{IsRightItemIf, passed, unless_grown_walks, automatic_walks}
+use Rattle.hs_fitting.specs.Claims.{Claims, RefersTo, IsVariableIn, Stands}
+use Rattle.hs_fitting.specs.Declaring.{either_moved, new_object_moved}
+use Rattle.hs_fitting.specs.Initialised.{initialised_walks}
+use Rattle.hs_fitting.specs.Known.{typing_walks}
+use Rattle.hs_fitting.specs.LinkedNames.{IsObject, refers_kept, kept_walks, placed_object_walks, define_object_walks, named_walks, renamed_walks, linked_walks}
+use Rattle.hs_fitting.specs.Linking.{MayMake}
+use Rattle.hs_fitting.specs.Making.{designates_makes}
+use Rattle.hs_fitting.specs.Noting.{NamesAllow, Noting, Notes, same_noted}
+use Rattle.hs_fitting.specs.NotingCalm.{begun_struct_notes}
+use Rattle.hs_fitting.specs.NotingDeclaring.{front_notes, item_type_notes}
+use Rattle.hs_fitting.specs.NotingInitialising.{inline_words_notes}
+use Rattle.hs_fitting.specs.Phrases.{IsRightItem}
+use Rattle.hs_fitting.specs.Walk.{Anywhere, Nothing, Walking, Walks, passes_walks, stops_walks, unless_walks, then_walks, so_walks}
+use Rattle.hs_fitting.specs.Whole.{MayStart}
+use Rattle.hs_initialisers.specs.Initialisers.{initialised}
+use Rattle.hs_initialisers.specs.InlineWords.{inline_words}
+use Rattle.hs_linkage.specs.Linkage.{is_function, linked, new_object, define_object}
+use Rattle.hs_linkage.specs.Works.{Work, typing, unless}
+use Rattle.hs_linkage.specs.declared.translator.Translator.{Translator}
+use Rattle.hs_names.specs.Scopes.{find_here}
+use Rattle.hs_operands.specs.Types.{designates, is_open}
+use Rattle.hs_syntax.specs.Trees.{Declaring, Declaration, Initialising, Specification}
+use Rattle.hs_syntax.specs.declared.operators.Storage.{Storage}
+use Rattle.hs_syntax.specs.declared.operators.Storage.TheVariants as storage
+use Rattle.hs_syntax.specs.declared.word.Word.{Word}
+use Rattle.hs_tokens.specs.declared.place.Place.{Place}
+use Rattle.hs_tree.specs.Kinds.{of_function, category_of}
+use Rattle.hs_tree.specs.Trees.{TypedItem, TypedFunction, TypedProgram}
+use Rattle.hs_tree.specs.declared.head.Variable.TheVariants as variable
+use Rattle.hs_tree.specs.declared.head.VariableDecl.{VariableDecl}
+use Rattle.hs_typer.specs.Declarators.{declare, word_of}
+use Rattle.hs_typer.specs.Specifiers.{begun_struct_as}
+use Rattle.hs_typer.specs.declared.type_error.TypeError.TheVariants.{Untyped}
+use Rattle.hs_typer.specs.declared.typer.Entity.{Entity}
+use Rattle.hs_typer.specs.declared.typer.Entity.TheVariants as entity
+use Rattle.hs_typer.specs.declared.typer.Tag.{Tag}
+use Rattle.hs_typer.specs.declared.typer.Tag.TheVariants as tag
+use Rattle.hs_typer.specs.declared.typer.Typer.{Typer}
+use Rattle.hs_types.specs.TypeTables.{TypeTable, is_complete, IsRight}
+use Rattle.hs_types.specs.declared.row.TypeId.{TypeId}
+
+-- ---- variables that are given values
+
+-- with one more, if it is given a value
+given_right : (program : TypedProgram) (function : TypedFunction) (done : List TypedItem) (next : Option TypedItem)
+    → IsRightItemIf program function next → AllByRecursion (IsRightItem program function) done
+    → AllByRecursion (IsRightItem program function) (with_given done next)
+given_right program function done None is are = are
+given_right program function done (Some it) is are = all_appended (IsRightItem program function) done (it ∷ []) are (is, tt)
+
+-- ---- both ways of a test
+
+module _ {here : List ℕ → Bool} {program : TypedProgram} {function : TypedFunction} where
+  -- Each of them knows how it went.
+  pub either_known_walks : {A : Type 0} → {pre : Claims → Translator → Type 0} → {after : Claims → Translator → A → Type 0} → {holds : A → Type 0}
+      → (test : Translator → Bool) (one other : Work A) → Walks here program function (λ its m. pre its m × (test m ≡ true)) one after holds
+      → Walks here program function (λ its m. pre its m × (test m ≡ false)) other after holds
+      → Walks here program function pre (λ m. if test m then one m else other m) after holds
+  either_known_walks {pre = pre} {after = after} {holds = holds} test one other is is' =
+      record {
+        moved = either_moved test one other is.moved is'.moved;
+        from = λ its m scoped counts stands met. both (test m) its m scoped counts stands met refl;
+      }
+    where
+      both : (b : Bool) (its : Claims) (m : Translator) → IsScoped m.typer → m.typer.counts ≡ true → Stands program here its m.locals m → pre its m
+          → test m ≡ b → Walking here program function its m after holds (if b then one m else other m)
+      both true its m scoped counts stands met went = is.from its m scoped counts stands (met, went)
+      both false its m scoped counts stands met went = is'.from its m scoped counts stands (met, went)
+
+-- ---- specifiers without a declarator
+
+-- a tag alone
+tag_reached : (word : Word) (s : Typer) (o : Option Tag) → find_here word.text s.tags ≡ o → IsScoped s
+    → Reaching IsConstant s (tag_alone_as word o s)
+tag_reached word s None is scoped =
+    subst (λ o. Reaching IsConstant s (begun_struct_as word o s)) is ((begun_struct_always (Some word)).from s scoped)
+tag_reached word s (Some (tag.Struct number)) is scoped = reaches_self IsConstant s
+tag_reached word s (Some (tag.Enumeration number)) is scoped = tt
+
+-- what it extends
+tag_always : (word : Word) → Always IsConstant (tag_alone word)
+tag_always word = record { from = λ s scoped. tag_reached word s (find_here word.text s.tags) refl scoped }
+
+module _ (Q : ℕ → TypeId → Type 0) (final : TypeTable) where
+  -- what it notes of calls
+  tag_noting : (word : Word) (s : Typer) (o : Option Tag) → find_here word.text s.tags ≡ o → NamesAllow Q s
+      → Noting Q final (λ it. Unit {0}) s (tag_alone_as word o s)
+  tag_noting word s None is names =
+      let begun = subst (λ o. Noting Q final (λ it. Unit {0}) s (begun_struct_as word o s)) is ((begun_struct_notes Q final (Some word)).gives s names) in
+      record { names = begun.names; fact = tt; table = begun.table; types = begun.types; right = begun.right; calls = begun.calls }
+  tag_noting word s (Some (tag.Struct number)) is names = same_noted Q final (λ it. Unit {0}) s tt names tt
+  tag_noting word s (Some (tag.Enumeration number)) is names = tt
+
+  -- from every place of the text
+  tag_notes : (word : Word) → Notes Q final IsConstant (λ it. Unit {0}) (tag_alone word)
+  tag_notes word = record { always = tag_always word; gives = λ s names. tag_noting word s (find_here word.text s.tags) refl names }
+
+module _ {here : List ℕ → Bool} {program : TypedProgram} {function : TypedFunction} where
+  -- `struct tag;`, or others
+  pub nothing_named_walks : (at : Place) (its : Specification) (word : Option Word)
+      → Walks here program function Anywhere (nothing_named at its word) Nothing (λ done. Unit {0})
+  nothing_named_walks at its None =
+      then_walks {after = Nothing} {holds = λ said. Unit {0}} (typing (front at its))
+      (typing_walks (front at its) (λ Q. front_notes Q program.types at its) (λ s scoped counts knows binds p given noted. tt))
+      (λ said. so_walks {holds = λ done. Unit {0}} (λ its m met. met) (λ its m done is. tt) (λ done is before. tt)
+      (unless_walks {pre = Anywhere} {after = Nothing} (Untyped at) (λ m. not (declares_any its)) (λ its m met failed. tt)))
+  nothing_named_walks at its (Some word) =
+      typing_walks (tag_alone word) (λ Q. tag_notes Q program.types word) (λ s scoped counts knows binds p given noted. tt)
+
+  -- ---- functions
+
+  -- the words of an inline trap
+  words_walks : (it : Option Initialising) → Walks here program function Anywhere (with_inline_words it) Nothing (λ done. Unit {0})
+  words_walks None = passes_walks tt (λ its m met. tt) tt
+  words_walks (Some it) =
+      typing_walks (inline_words it) (λ Q. inline_words_notes Q program.types it) (λ s scoped counts knows binds p given noted. tt)
+
+  -- a function that is declared, at any level
+  pub function_declared_walks : (static : Bool) (word : Word) (id : TypeId) (it : Option Initialising) → (static ≡ true → here word.text ≡ true)
+      → Walks here program function (λ its m. MayMake program m id) (function_declared static word id it) Nothing (λ done. Unit {0})
+  function_declared_walks static word id it inside =
+      then_walks {holds = λ its. Unit {0}} (linked static word id) (linked_walks static word id inside)
+      (λ its. so_walks {holds = λ done. Unit {0}} (λ its m met. tt) (λ its m done is. tt) (λ done is before. tt) (words_walks it))
+
+  -- ---- objects
+
+  -- a step that keeps what a name refers to
+  referring_walks : {A : Type 0} → {pre : Claims → Translator → Type 0} → {after : Claims → Translator → A → Type 0} → {holds : A → Type 0}
+      → {work : Work A} → (it : Entity) → Walks here program function pre work after holds
+      → Walks here program function (λ its m. pre its m × RefersTo program.types its m.objects it) work
+      (λ its m made. after its m made × RefersTo program.types its m.objects it) holds
+  referring_walks it walks =
+      kept_walks (λ its m. RefersTo program.types its m.objects it)
+      (λ its more m n proceeds moves is. refers_kept program it its more m n proceeds is) walks
+
+  -- a type that an object can be of is none of functions in the program
+  object_walks : (word : Word) (id : TypeId)
+      → Walks here program function Anywhere (is_object word id) (λ its m done. category_of program.types id ≡ Some of_function → ⊥) (λ done. Unit {0})
+  object_walks word id =
+      unless_grown_walks (Untyped word.place) (λ m. not (designates m.typer.types id))
+      (λ its m met failed grows. designates_makes m.typer.types program.types id grows (passed (designates m.typer.types id) failed))
+
+  -- an object that a block declares with `extern` has no initialiser there
+  not_started_walks : {pre : Claims → Translator → Type 0} → (it : Option Initialising)
+      → Walks here program function pre (not_started it) (λ its m done. pre its m) (λ done. Unit {0})
+  not_started_walks None = passes_walks tt (λ its m met. met) tt
+  not_started_walks (Some it) = stops_walks (Untyped (place_of_start it))
+
+  -- an object with linkage
+  pub extern_object_walks : (word : Word) (id : TypeId) (it : Option Initialising)
+      → Walks here program function Anywhere (extern_object word id it) Nothing (IsRightItemIf program function)
+  extern_object_walks word id it =
+      then_walks (is_object word id) (object_walks word id)
+      (λ may. then_walks {holds = λ done. Unit {0}} (not_started it)
+      (not_started_walks {pre = λ its m. category_of program.types id ≡ Some of_function → ⊥} it)
+      (λ none. then_walks {holds = λ its. Unit {0}} (linked false word id)
+      (so_walks (λ its m no_function other. no_function) (λ its m made is. is) (λ made is. is) (linked_walks false word id (λ is. absurd (not_static is))))
+      (λ its. passes_walks None (λ its m is. tt) (λ a b c. tt))))
+    where
+      not_static : false ≡ true → ⊥
+      not_static is = cc
+
+  -- an object without linkage is a new one
+  fresh_walks : (word : Word) (id : TypeId)
+      → Walks here program function (λ its m. category_of program.types id ≡ Some of_function → ⊥) (new_object word id)
+      (λ its m it. RefersTo program.types its m.objects it × IsObject id it) (λ it. Unit {0})
+  fresh_walks word id =
+      record {
+        moved = new_object_moved word id;
+        from = λ its m scoped counts stands no_function.
+            (placed_object_walks {pre = Anywhere} word id no_function).from its m scoped counts stands tt;
+      }
+
+  -- its name
+  object_named_walks : (word : Word) (id : TypeId) (it : Entity)
+      → Walks here program function (λ its m. RefersTo program.types its m.objects it × IsObject id it) (typing (declare word it))
+      (λ its m done. RefersTo program.types its m.objects it × IsObject id it) (λ done. Unit {0})
+  object_named_walks word id it =
+      so_walks (λ its m is. ((is.0, no_local m.locals is.1), is)) (λ its m done is. is.1) (λ done is. is)
+      (kept_walks (λ its m. RefersTo program.types its m.objects it × IsObject id it)
+      (λ its more m n proceeds moves is. (refers_kept program it its more m n proceeds is.0, is.1)) (named_walks word it))
+    where
+      no_local : (locals : List VariableDecl) → IsObject id it → IsVariableIn program.types locals it
+      no_local locals is = subst (IsVariableIn program.types locals) (sym is.1) tt
+
+  module _ (sound : IsRight program.types) where
+    -- its initialiser
+    placed_started_walks : (word : Word) (id : TypeId) (place : ℕ) (it : Option Initialising)
+        → Walks here program function (λ its m. RefersTo program.types its m.objects (entity.Variable (variable.Global place) id))
+        (static_started word id (Some place) it) Nothing (λ done. Unit {0})
+    placed_started_walks word id place None =
+        unless_walks (Untyped word.place) (λ m. not (is_complete m.typer.types id)) (λ its m met failed. tt)
+    placed_started_walks word id place (Some it) =
+        then_walks {holds = λ done. Unit {0}} (can_start word id)
+        (unless_walks {after = λ its m done.
+        MayStart m.typer.types id × RefersTo program.types its m.objects (entity.Variable (variable.Global place) id)} (Untyped word.place)
+        (λ m. not (is_complete m.typer.types id || is_open m.typer.types id))
+        (λ its m met failed. (passed (is_complete m.typer.types id || is_open m.typer.types id) failed, met)))
+        (λ may. then_walks {holds = λ p. Unit {0}} (typing (initialised word.place id it))
+        (referring_walks (entity.Variable (variable.Global place) id) (initialised_walks sound word.place id it))
+        (λ p. then_walks {after = λ its m done. RefersTo program.types its m.objects (entity.Variable (variable.Global place) p.0)}
+        {holds = λ done. Unit {0}} (define_object place p.0 p.1)
+        (so_walks (λ its m is. ((is.1 ∙ ap Some (sym is.0.1), is.0.0), is.1 ∙ ap Some (sym is.0.1))) (λ its m done is. is.1) (λ done is. is)
+        (referring_walks (entity.Variable (variable.Global place) p.0) (define_object_walks place p.0 p.1)))
+        (λ done. so_walks {holds = λ done. Unit {0}} (λ its m is. (is, tt)) (λ its m made is. tt) (λ made is a b c. tt)
+        (renamed_walks word (entity.Variable (variable.Global place) p.0)))))
+
+    -- of the object that the declaration made
+    static_started_walks : (word : Word) (id : TypeId) (its : Entity) (it : Option Initialising)
+        → Walks here program function (λ c m. RefersTo program.types c m.objects its × IsObject id its) (static_started word id (object_place its) it)
+        Nothing (λ done. Unit {0})
+    static_started_walks word id (entity.Variable (variable.Global place) other) it =
+        so_walks (λ c m is. subst (λ type. RefersTo program.types c m.objects (entity.Variable (variable.Global place) type)) (type_same is.1.0 is.1.1) is.0)
+        (λ c m done is. is) (λ done is. is) (placed_started_walks word id place it)
+      where
+        type_same : (n : ℕ) → entity.Variable (variable.Global place) other ≡ entity.Variable (variable.Global n) id → other ≡ id
+        type_same n same = cc
+    static_started_walks word id (entity.Constant bits) it = passes_walks tt (λ c m is. tt) tt
+    static_started_walks word id (entity.Variable (variable.Local place) other) it = passes_walks tt (λ c m is. tt) tt
+    static_started_walks word id (entity.Function other to) it = passes_walks tt (λ c m is. tt) tt
+    static_started_walks word id (entity.Typedef other) it = passes_walks tt (λ c m is. tt) tt
+
+    -- an object of static storage duration without linkage
+    pub static_local_walks : (word : Word) (id : TypeId) (it : Option Initialising)
+        → Walks here program function Anywhere (static_local word id it) Nothing (IsRightItemIf program function)
+    static_local_walks word id it =
+        then_walks (is_object word id) (object_walks word id)
+        (λ may. then_walks {holds = λ its. Unit {0}} (new_object word id) (fresh_walks word id)
+        (λ its. then_walks {holds = λ done. Unit {0}} (typing (declare word its)) (object_named_walks word id its)
+        (λ named. then_walks {holds = λ done. Unit {0}} (static_started word id (object_place its) it) (static_started_walks word id its it)
+        (λ done. passes_walks None (λ c m is. tt) (λ a b c d. tt)))))
+
+    -- ---- declarations
+
+    -- by the storage word
+    block_object_walks : (storage : Option Storage) (word : Word) (id : TypeId) (it : Option Initialising)
+        → Walks here program function Anywhere (block_object storage word id it) Nothing (IsRightItemIf program function)
+    block_object_walks None word id it = automatic_walks sound word id it
+    block_object_walks (Some storage.Typedef) word id it = automatic_walks sound word id it
+    block_object_walks (Some storage.Extern) word id it = extern_object_walks word id it
+    block_object_walks (Some storage.Static) word id it = static_local_walks word id it
+
+    -- a function that a block declares
+    block_function_walks : (stored : Place) (storage : Option Storage) (word : Word) (id : TypeId) (it : Option Initialising)
+        → Walks here program function (λ its m. Unit {0} × (is_function m.typer.types id ≡ true)) (block_function stored storage word id it) Nothing
+        (IsRightItemIf program function)
+    block_function_walks stored storage word id it =
+        then_walks {after = λ its m done. MayMake program m id} {holds = λ done. Unit {0}} (unless (Untyped stored) (λ m. is_static storage))
+        (unless_walks (Untyped stored) (λ m. is_static storage) (λ its m met failed other. absurd (both (is_function m.typer.types id) met.1 other)))
+        (λ may. then_walks {holds = λ done. Unit {0}} (function_declared false word id it)
+        (function_declared_walks false word id it (λ is. absurd (both false is refl)))
+        (λ done. passes_walks None (λ its m is. tt) (λ a b. tt)))
+      where
+        both : (b : Bool) → b ≡ true → b ≡ false → ⊥
+        both b is is' = cc
+
+    -- by its type
+    block_entity_walks : (stored : Place) (storage : Option Storage) (word : Word) (id : TypeId) (it : Option Initialising)
+        → Walks here program function Anywhere (block_entity stored storage word id it) Nothing (IsRightItemIf program function)
+    block_entity_walks stored storage word id it =
+        either_known_walks (λ m. is_function m.typer.types id) (block_function stored storage word id it) (block_object storage word id it)
+        (block_function_walks stored storage word id it)
+        (so_walks (λ its m met. tt) (λ its m made is. is) (λ made is. is) (block_object_walks storage word id it))
+
+    -- a declarator names something
+    block_item_as_walks : (at stored : Place) (storage : Option Storage) (word : Option Word) (id : TypeId) (it : Option Initialising)
+        → Walks here program function Anywhere (block_item_as at stored storage word id it) Nothing (IsRightItemIf program function)
+    block_item_as_walks at stored storage None id it = stops_walks (Untyped at)
+    block_item_as_walks at stored storage (Some word) id it = block_entity_walks stored storage word id it
+
+    -- one declarator of a block
+    block_item_walks : (at stored : Place) (said : Front) (it : Declaring)
+        → Walks here program function Anywhere (block_item at stored said it) Nothing (IsRightItemIf program function)
+    block_item_walks at stored said it =
+        then_walks {after = Nothing} {holds = λ id. Unit {0}} (typing (item_type at said.type_id it.declarator))
+        (typing_walks (item_type at said.type_id it.declarator) (λ Q. item_type_notes Q program.types at said.type_id it.declarator)
+        (λ s scoped counts knows binds p given noted. tt))
+        (λ id. so_walks {holds = IsRightItemIf program function} (λ its m met. tt) (λ its m made is. tt) (λ made is before. is)
+        (block_item_as_walks at stored said.storage (word_of it.declarator) id it.initialiser))
+
+    -- those of a declaration, in their order
+    block_items_walks : (at stored : Place) (said : Front) (done : List TypedItem) (its : List Declaring)
+        → Walks here program function Anywhere (block_items at stored said done its) Nothing
+        (λ made. AllByRecursion (IsRightItem program function) done → AllByRecursion (IsRightItem program function) made)
+    block_items_walks at stored said done [] = passes_walks done (λ its m met. tt) (λ are. are)
+    block_items_walks at stored said done (it ∷ rest) =
+        then_walks (block_item at stored said it) (block_item_walks at stored said it)
+        (λ next. so_walks (λ its m met. tt) (λ its m made met. tt) (λ made so is are. so (given_right program function done next is are))
+        (block_items_walks at stored said (with_given done next) rest))
+
+    -- no typedef
+    block_items_as_walks : (at stored : Place) (its : List Declaring) (said : Front)
+        → Walks here program function Anywhere (block_items_as at stored its said) Nothing (λ made. AllByRecursion (IsRightItem program function) made)
+    block_items_as_walks at stored its said =
+        then_walks {after = Nothing} {holds = λ done. Unit {0}} (unless (Untyped stored) (λ m. is_typedef_word said.storage))
+        (unless_walks (Untyped stored) (λ m. is_typedef_word said.storage) (λ its m met failed. tt))
+        (λ may. so_walks (λ its m met. tt) (λ its m made met. tt) (λ made so before. so tt) (block_items_walks at stored said [] its))
+
+    -- with or without declarators
+    block_declared_at_walks : (at : Place) (words : Specification) (its : List Declaring)
+        → Walks here program function Anywhere (block_declared_at at words its) Nothing (λ made. AllByRecursion (IsRightItem program function) made)
+    block_declared_at_walks at words [] =
+        then_walks (nothing_named at words (lone_tag words)) (nothing_named_walks at words (lone_tag words))
+        (λ done. passes_walks [] (λ its m met. tt) (λ before. tt))
+    block_declared_at_walks at words (it ∷ rest) =
+        then_walks {after = Nothing} {holds = λ said. Unit {0}} (typing (front at words))
+        (typing_walks (front at words) (λ Q. front_notes Q program.types at words) (λ s scoped counts knows binds p given noted. tt))
+        (λ said. so_walks {holds = λ made. AllByRecursion (IsRightItem program function) made} (λ its m met. tt) (λ its m made met. tt)
+        (λ made are before. are) (block_items_as_walks at (storage_place at words) (it ∷ rest) said))
+
+-- A declaration of a block: all names refer to what was claimed, and what it gives its variables fits them.
+pub block_declared_walks : {here : List ℕ → Bool} → {program : TypedProgram} → {function : TypedFunction} → (sound : IsRight program.types)
+    → (other : Place) (it : Declaration)
+    → Walks here program function Anywhere (block_declared other it) Nothing (λ its. AllByRecursion (IsRightItem program function) its)
+block_declared_walks sound other it = block_declared_at_walks sound (first_place other it.specifiers) it.specifiers it.items

@@ -1,0 +1,408 @@
+-- Declarations of file scope refer to what was claimed, and start objects with what fits them (X3.159-1989 3.5 and 3.7.2).
+--     tag_notes                       what `struct tag;` notes of calls
+--     then_plain, any_typing          steps of which no fact is wanted
+--     unless_grown, tested_walks, given_walks          tests, and facts that do not change
+--     is_object_walks                 an object is of no type of functions
+--     item_walks, function_declared_walks, nothing_named_walks      declarators, functions and tags, at any level
+--     file_declared_walks             a declaration of file scope
+use Rattle.std.proofs.Common.{◌≡◌, ℕ, Bool, true, false, not, ◌&&◌, ◌||◌, List, [], ◌∷◌, ◌++◌, slice_get, Option, Some, None, is_none, Ok, Err, refl, sym, ap, ◌∙◌, if◌then◌else◌}
+use Rattle.std.specs.List.{AllByRecursion}
+use Rattle.hs_declarations.specs.Declarations.{is_object, can_start, is_first, object_started, object_with_start, may_be_tentative, file_object, with_inline_words, function_declared, file_entity, is_static, is_typedef_word, file_item_as, file_item, file_items, typedef_as, typedef_item, typedef_types, typedef_named, typedefs_named, typedef_items, nothing_named, file_items_as, file_declared_at, file_declared}
+use Rattle.hs_declarations.specs.Fronts.{front, item_type, tag_alone, tag_alone_as, lone_tag, declares_any, place_of_start}
+use Rattle.hs_declarations.specs.declared.fronts.Front.{Front}
+use Rattle.hs_expressions.specs.Expressions.{first_place}
+use Rattle.hs_expressions.specs.Laws.{IsConstant, IsScoped}
+use Rattle.hs_expressions.specs.Laws.Always.{Reaching}
+use Rattle.hs_expressions.specs.Laws.Reached.{reaches_self}
+use Rattle.hs_fitting.specs.Claims.{Claims, RefersTo, Endures, Stands, Proceeds, category_at}
+use Rattle.hs_fitting.specs.Declaring.{either_moved}
+use Rattle.hs_fitting.specs.Initialised.{initialised_walks}
+use Rattle.hs_fitting.specs.Known.{typing_known, typing_walks}
+use Rattle.hs_fitting.specs.Lasting.{endures_moves}
+use Rattle.hs_fitting.specs.LinkedNames.{kept_walks, define_object_walks, named_walks, linked_walks, completed_link_walks}
+use Rattle.hs_fitting.specs.Linking.{MayMake}
+use Rattle.hs_fitting.specs.Making.{designates_makes}
+use Rattle.hs_fitting.specs.Moves.{Moves}
+use Rattle.hs_fitting.specs.Moving.{Moved, unless_moved}
+use Rattle.hs_fitting.specs.Noting.{NamesAllow, Noting, Notes, same_noted}
+use Rattle.hs_fitting.specs.NotingCalm.{begun_struct_notes}
+use Rattle.hs_fitting.specs.NotingDeclaring.{front_notes, item_type_notes}
+use Rattle.hs_fitting.specs.NotingInitialising.{inline_words_notes}
+use Rattle.hs_fitting.specs.Storage.{front_static}
+use Rattle.hs_fitting.specs.Walk.{Anywhere, Nothing, Walking, Walks, stays_walked, passes_walks, stops_walks, unless_walks, then_walks, so_walks}
+use Rattle.hs_fitting.specs.Whole.{MayStart}
+use Rattle.hs_initialisers.specs.Initialisers.{initialised}
+use Rattle.hs_initialisers.specs.InlineWords.{inline_words}
+use Rattle.hs_linkage.specs.Definitions.{has_static}
+use Rattle.hs_linkage.specs.Linkage.{with_type_id, is_function, linked, completed_link, clash_of}
+use Rattle.hs_linkage.specs.Objects.{is_defined}
+use Rattle.hs_linkage.specs.Works.{Work, ◌>>=◌, typing, unless}
+use Rattle.hs_linkage.specs.declared.translator.Translator.{Translator}
+use Rattle.hs_names.specs.Scopes.{find_here}
+use Rattle.hs_operands.specs.Types.{designates, is_open}
+use Rattle.hs_syntax.specs.Trees.{Declared, Declaring, Declaration, Initialising, Specification}
+use Rattle.hs_syntax.specs.declared.word.Word.{Word}
+use Rattle.hs_tokens.specs.declared.place.Place.{Place}
+use Rattle.hs_tree.specs.Kinds.{of_function, category_of}
+use Rattle.hs_tree.specs.Objects.{FitsParts}
+use Rattle.hs_tree.specs.Trees.{TypedFunction, TypedProgram}
+use Rattle.hs_tree.specs.declared.constant.Part.{Part}
+use Rattle.hs_tree.specs.declared.head.Variable.TheVariants as variable
+use Rattle.hs_typer.specs.Declarators.{word_of}
+use Rattle.hs_typer.specs.Specifiers.{begun_struct_as}
+use Rattle.hs_typer.specs.Steps.{Step}
+use Rattle.hs_typer.specs.declared.type_error.TypeError.{TypeError}
+use Rattle.hs_typer.specs.declared.type_error.TypeError.TheVariants.{Untyped}
+use Rattle.hs_typer.specs.declared.typer.Entity.{Entity}
+use Rattle.hs_typer.specs.declared.typer.Entity.TheVariants as entity
+use Rattle.hs_typer.specs.declared.typer.Tag.{Tag}
+use Rattle.hs_typer.specs.declared.typer.Tag.TheVariants as tag
+use Rattle.hs_typer.specs.declared.typer.Typer.{Typer}
+use Rattle.hs_types.specs.TypeTables.{TypeTable, IsRight, Grows, is_complete}
+use Rattle.hs_types.specs.declared.row.TypeId.{TypeId}
+
+-- ---- `struct tag;`
+
+-- it is made as one whose body begins
+tag_reaches : (word : Word) (o : Option Tag) (s : Typer) → Reaching IsConstant s (begun_struct_as word o s)
+    → Reaching IsConstant s (tag_alone_as word o s)
+tag_reaches word None s is = is
+tag_reaches word (Some (tag.Struct number)) s is = reaches_self IsConstant s
+tag_reaches word (Some (tag.Enumeration number)) s is = tt
+
+-- which notes no call
+tag_noting : (Q : ℕ → TypeId → Type 0) (final : TypeTable) (word : Word) (o : Option Tag) (s : Typer) → NamesAllow Q s
+    → Noting Q final (λ it. Unit {0}) s (begun_struct_as word o s) → Noting Q final (λ it. Unit {0}) s (tag_alone_as word o s)
+tag_noting Q final word None s names is =
+    record { names = is.names; fact = tt; table = is.table; types = is.types; right = is.right; calls = is.calls }
+tag_noting Q final word (Some (tag.Struct number)) s names is = same_noted Q final (λ it. Unit {0}) s tt names tt
+tag_noting Q final word (Some (tag.Enumeration number)) s names is = tt
+
+-- by what the tag means in its scope
+pub tag_notes : (Q : ℕ → TypeId → Type 0) (final : TypeTable) (word : Word) → Notes Q final IsConstant (λ it. Unit {0}) (tag_alone word)
+tag_notes Q final word =
+    record {
+      always = record {
+        from = λ s scoped. tag_reaches word (find_here word.text s.tags) s ((begun_struct_notes Q final (Some word)).always.from s scoped);
+      };
+      gives = λ s names. tag_noting Q final word (find_here word.text s.tags) s names ((begun_struct_notes Q final (Some word)).gives s names);
+    }
+
+-- ---- facts
+
+-- no function has that type
+abbrev pub IsNoFunction : TypeTable → TypeId → Type 0
+IsNoFunction types id = category_of types id ≡ Some of_function → ⊥
+
+-- an object of that category
+abbrev pub IsObjectAt : TypeTable → ℕ → TypeId → Translator → Type 0
+IsObjectAt types place id m = category_at types (slice_get m.objects place) ≡ Some (category_of types id)
+
+-- an object, and what it starts with
+abbrev IsStartedAt : TypedProgram → ℕ → TypeId → List Part → Claims → Translator → Type 0
+IsStartedAt program place id parts its m = IsObjectAt program.types place id m × (Endures program its m → FitsParts program id parts)
+
+-- which stays so
+started_kept : (program : TypedProgram) (place : ℕ) (id : TypeId) (parts : List Part) (its later : Claims) (m n : Translator)
+    → Proceeds program.types its m later n → Moves m n → IsStartedAt program place id parts its m → IsStartedAt program place id parts later n
+started_kept program place id parts its later m n proceeds moves is =
+    (proceeds.objects place (category_of program.types id) is.0, λ endures. is.1 (endures_moves program its later m n moves proceeds endures))
+
+-- the words of declarators have internal linkage
+abbrev AreHere : (List ℕ → Bool) → List Declaring → Type 0
+AreHere here its = AllByRecursion (λ item. (word : Word) → word_of item.declarator ≡ Some word → here word.text ≡ true) its
+
+-- a test that did not fail
+not_false : (b : Bool) → not b ≡ false → b ≡ true
+not_false true is = refl
+not_false false is = absurd cc
+
+-- a test has one answer
+true_false : (b : Bool) → b ≡ true → b ≡ false → ⊥
+true_false b is is' = cc
+
+-- ---- steps
+
+module _ {here : List ℕ → Bool} {program : TypedProgram} {function : TypedFunction} where
+  -- one after another, with no fact of what is given
+  pub then_plain : {A B : Type 0} → {pre : Claims → Translator → Type 0} → {after : Claims → Translator → A → Type 0} → {next : A → Work B}
+      → (first : Work A) → Walks here program function pre first after (λ it. Unit {0})
+      → ((it : A) → Walks here program function (λ its m. after its m it) (next it) Nothing (λ made. Unit {0}))
+      → Walks here program function pre (first >>= next) Nothing (λ made. Unit {0})
+  then_plain {after = after} first is are =
+      then_walks {after = after} {holds = λ it. Unit {0}} first is
+      (λ it. so_walks (λ its m met. met) (λ its m made met. tt) (λ made met before. tt) (are it))
+
+  -- a step of typing of which no fact is wanted
+  pub any_typing : {A : Type 0} → {pre : Claims → Translator → Type 0} → (step : Step A)
+      → ((Q : ℕ → TypeId → Type 0) → Notes Q program.types IsConstant (λ it. Unit {0}) step)
+      → Walks here program function pre (typing step) Nothing (λ it. Unit {0})
+  any_typing step notes = typing_walks step notes (λ s scoped counts knows binds p given noted. tt)
+
+  -- a test, by the types of the program
+  pub unless_grown : {pre : Claims → Translator → Type 0} → {after : Claims → Translator → Unit {0} → Type 0} → (why : TypeError)
+      (test : Translator → Bool)
+      → ((its : Claims) (m : Translator) → pre its m → test m ≡ false → Grows m.typer.types program.types → after its m tt)
+      → Walks here program function pre (unless why test) after (λ it. Unit {0})
+  unless_grown {pre = pre} {after = after} why test known =
+      record {
+        moved = unless_moved why test;
+        from = λ its m scoped counts stands met. by_test (test m) its m stands met refl;
+      }
+    where
+      by_test : (b : Bool) (its : Claims) (m : Translator) → Stands program here its m.locals m → pre its m → test m ≡ b
+          → Walking here program function its m after (λ it. Unit {0}) (if b then Err why else Ok (tt, m))
+      by_test true its m stands met is = tt
+      by_test false its m stands met is = λ grows.
+          stays_walked here program function after (λ it. Unit {0}) tt its m stands (known its m met is grows) tt grows
+
+  -- both ways of a test, each of which knows it
+  pub tested_walks : {A : Type 0} → {pre : Claims → Translator → Type 0} → {after : Claims → Translator → A → Type 0} → {holds : A → Type 0}
+      → (test : Translator → Bool) (one other : Work A)
+      → Walks here program function (λ its m. pre its m × (test m ≡ true)) one after holds
+      → Walks here program function (λ its m. pre its m × (test m ≡ false)) other after holds
+      → Walks here program function pre (λ m. if test m then one m else other m) after holds
+  tested_walks {pre = pre} {after = after} {holds = holds} test one other is is' =
+      record {
+        moved = either_moved test one other is.moved is'.moved;
+        from = λ its m scoped counts stands met. both (test m) its m scoped counts stands met refl;
+      }
+    where
+      both : (b : Bool) (its : Claims) (m : Translator) → IsScoped m.typer → m.typer.counts ≡ true → Stands program here its m.locals m → pre its m
+          → test m ≡ b → Walking here program function its m after holds (if b then one m else other m)
+      both true its m scoped counts stands met known = is.from its m scoped counts stands (met, known)
+      both false its m scoped counts stands met known = is'.from its m scoped counts stands (met, known)
+
+  -- with a fact that does not depend on the place
+  pub given_walks : {A : Type 0} → {after : Claims → Translator → A → Type 0} → {holds : A → Type 0} → {work : Work A} → (P : Type 0)
+      → Moved work → (P → Walks here program function Anywhere work after holds) → Walks here program function (λ its m. P) work after holds
+  given_walks P moved walks =
+      record { moved = moved; from = λ its m scoped counts stands met. (walks met).from its m scoped counts stands tt }
+
+  -- ---- objects and functions
+
+  -- an object is of no type of functions
+  pub is_object_walks : {pre : Claims → Translator → Type 0} → (word : Word) (id : TypeId)
+      → Walks here program function pre (is_object word id) (λ its m done. IsNoFunction program.types id) (λ done. Unit {0})
+  is_object_walks word id =
+      unless_grown (Untyped word.place) (λ m. not (designates m.typer.types id))
+      (λ its m met is grows. designates_makes m.typer.types program.types id grows (not_false (designates m.typer.types id) is))
+
+  -- the type of a declarator
+  pub item_walks : (at : Place) (base : TypeId) (it : Declared)
+      → Walks here program function Anywhere (typing (item_type at base it)) Nothing (λ id. Unit {0})
+  item_walks at base it = any_typing (item_type at base it) (λ Q. item_type_notes Q program.types at base it)
+
+  -- the words of an inline trap
+  words_walks : {pre : Claims → Translator → Type 0} → (it : Option Initialising)
+      → Walks here program function pre (with_inline_words it) Nothing (λ done. Unit {0})
+  words_walks None = passes_walks tt (λ its m met. tt) tt
+  words_walks (Some it) = any_typing (inline_words it) (λ Q. inline_words_notes Q program.types it)
+
+  -- a function that is declared, at any level
+  pub function_declared_walks : (static : Bool) (word : Word) (id : TypeId) (it : Option Initialising) → (static ≡ true → here word.text ≡ true)
+      → Walks here program function (λ its m. MayMake program m id) (function_declared static word id it) Nothing (λ done. Unit {0})
+  function_declared_walks static word id it inside =
+      then_plain (linked static word id) (linked_walks static word id inside) (λ its. words_walks it)
+
+  -- specifiers without a declarator
+  pub nothing_named_walks : (at : Place) (its : Specification) (word : Option Word)
+      → Walks here program function Anywhere (nothing_named at its word) Nothing (λ done. Unit {0})
+  nothing_named_walks at its None =
+      then_plain (typing (front at its)) (any_typing (front at its) (λ Q. front_notes Q program.types at its))
+      (λ said. unless_walks (Untyped at) (λ m. not (declares_any its)) (λ its m met failed. tt))
+  nothing_named_walks at its (Some word) = any_typing (tag_alone word) (λ Q. tag_notes Q program.types word)
+
+module _ {here : List ℕ → Bool} {program : TypedProgram} {function : TypedFunction} (sound : IsRight program.types) where
+  -- ---- the definition of an object
+
+  -- its initialiser
+  started_walks : (word : Word) (id : TypeId) (it : Initialising) (place : ℕ)
+      → Walks here program function
+      (λ its m. MayStart m.typer.types id × (IsObjectAt program.types place id m × IsNoFunction program.types id))
+      (typing (initialised word.place id it))
+      (λ its m p. IsStartedAt program place p.0 p.1 its m × IsNoFunction program.types p.0) (λ p. Unit {0})
+  started_walks word id it place =
+      so_walks (λ its m is. is)
+      (λ its m p is. ((is.1.0 ∙ ap Some (sym is.0.1), is.0.0), λ same. is.1.1 (sym is.0.1 ∙ same))) (λ p is. is)
+      (kept_walks (λ its m. IsObjectAt program.types place id m × IsNoFunction program.types id)
+      (λ its later m n proceeds moves is. (proceeds.objects place (category_of program.types id) is.0, is.1))
+      (initialised_walks sound word.place id it))
+
+  -- its name with the last type
+  completed_walks : (static : Bool) (word : Word) (id : TypeId) (parts : List Part) (place : ℕ) → (static ≡ true → here word.text ≡ true)
+      → Walks here program function (λ its m. IsStartedAt program place id parts its m × IsNoFunction program.types id)
+      (completed_link static word id) (λ its m again. IsStartedAt program place id parts its m) (λ again. Unit {0})
+  completed_walks static word id parts place inside =
+      so_walks (λ its m is. (λ other. is.1, is.0)) (λ its m again is. is.1) (λ again is. is)
+      (kept_walks (λ its m. IsStartedAt program place id parts its m)
+      (λ its later m n proceeds moves is. started_kept program place id parts its later m n proceeds moves is)
+      (completed_link_walks static word id inside))
+
+  -- the whole definition
+  object_started_walks : (static : Bool) (word : Word) (id : TypeId) (it : Initialising) (place : ℕ) → (static ≡ true → here word.text ≡ true)
+      → Walks here program function (λ its m. IsObjectAt program.types place id m × IsNoFunction program.types id)
+      (object_started static word id it (Some place)) Nothing (λ done. Unit {0})
+  object_started_walks static word id it place inside =
+      then_plain {after = λ its m done. MayStart m.typer.types id × (IsObjectAt program.types place id m × IsNoFunction program.types id)}
+      (can_start word id)
+      (unless_walks (Untyped word.place) (λ m. not (is_complete m.typer.types id || is_open m.typer.types id))
+      (λ its m met failed. (not_false (is_complete m.typer.types id || is_open m.typer.types id) failed, met)))
+      (λ may. then_plain {after = λ its m done. MayStart m.typer.types id × (IsObjectAt program.types place id m × IsNoFunction program.types id)}
+      (is_first word place) (unless_walks (clash_of word) (λ m. is_defined (slice_get m.objects place)) (λ its m met failed. met))
+      (λ first. then_plain (typing (initialised word.place id it)) (started_walks word id it place)
+      (λ p. then_plain (completed_link static word p.0) (completed_walks static word p.0 p.1 place inside)
+      (λ again. define_object_walks place p.0 p.1))))
+
+  -- the object that the name is linked to, if it has an initialiser
+  with_start_walks : (static : Bool) (word : Word) (id : TypeId) (it : Option Initialising) (entity : Entity)
+      → (static ≡ true → here word.text ≡ true)
+      → Walks here program function
+      (λ its m. RefersTo program.types its m.objects (with_type_id id entity) × IsNoFunction program.types id)
+      (object_with_start static word id it entity) Nothing (λ done. Unit {0})
+  with_start_walks static word id None its inside = passes_walks tt (λ its m met. tt) tt
+  with_start_walks static word id (Some it) (entity.Constant bits) inside = passes_walks tt (λ its m met. tt) tt
+  with_start_walks static word id (Some it) (entity.Variable (variable.Global place) old) inside =
+      object_started_walks static word id it place inside
+  with_start_walks static word id (Some it) (entity.Variable (variable.Local place) old) inside = passes_walks tt (λ its m met. tt) tt
+  with_start_walks static word id (Some it) (entity.Function old to) inside = passes_walks tt (λ its m met. tt) tt
+  with_start_walks static word id (Some it) (entity.Typedef old) inside = passes_walks tt (λ its m met. tt) tt
+
+  -- its name
+  object_linked_walks : (static : Bool) (word : Word) (id : TypeId) → (static ≡ true → here word.text ≡ true)
+      → Walks here program function (λ its m. IsNoFunction program.types id) (linked static word id)
+      (λ its m it. RefersTo program.types its m.objects (with_type_id id it) × IsNoFunction program.types id) (λ it. Unit {0})
+  object_linked_walks static word id inside =
+      so_walks (λ its m is. (λ other. is, is)) (λ its m it is. (is.0.1, is.1)) (λ it is. is)
+      (kept_walks (λ its m. IsNoFunction program.types id) (λ its later m n proceeds moves is. is) (linked_walks static word id inside))
+
+  -- an object of file scope
+  file_object_walks : {pre : Claims → Translator → Type 0} → (static : Bool) (word : Word) (id : TypeId) (it : Option Initialising)
+      → (static ≡ true → here word.text ≡ true)
+      → Walks here program function pre (file_object static word id it) Nothing (λ done. Unit {0})
+  file_object_walks static word id it inside =
+      then_plain (is_object word id) (is_object_walks word id)
+      (λ may. then_plain {after = λ its m done. IsNoFunction program.types id} (may_be_tentative static word id it)
+      (unless_walks (Untyped word.place) (λ m. static && is_none it && not (is_complete m.typer.types id)) (λ its m met failed. met))
+      (λ whole. then_plain (linked static word id) (object_linked_walks static word id inside)
+      (λ its. with_start_walks static word id it its inside)))
+
+  -- ---- declarators
+
+  -- by its type
+  file_entity_walks : (static : Bool) (word : Word) (id : TypeId) (it : Option Initialising) → (static ≡ true → here word.text ≡ true)
+      → Walks here program function Anywhere (file_entity static word id it) Nothing (λ done. Unit {0})
+  file_entity_walks static word id it inside =
+      tested_walks (λ m. is_function m.typer.types id) (function_declared static word id it) (file_object static word id it)
+      (so_walks (λ its m is other. absurd (true_false (is_function m.typer.types id) is.1 other)) (λ its m done is. is) (λ done is. is)
+      (function_declared_walks static word id it inside))
+      (file_object_walks static word id it inside)
+
+  -- a declarator names something
+  file_item_as_walks : (static : Bool) (at : Place) (o : Option Word) (id : TypeId) (it : Option Initialising)
+      → (static ≡ true → (word : Word) → o ≡ Some word → here word.text ≡ true)
+      → Walks here program function Anywhere (file_item_as static at o id it) Nothing (λ done. Unit {0})
+  file_item_as_walks static at None id it inside = stops_walks (Untyped at)
+  file_item_as_walks static at (Some word) id it inside = file_entity_walks static word id it (λ is. inside is word refl)
+
+  -- one declarator
+  file_item_walks : (static : Bool) (at : Place) (base : TypeId) (it : Declaring)
+      → (static ≡ true → (word : Word) → word_of it.declarator ≡ Some word → here word.text ≡ true)
+      → Walks here program function Anywhere (file_item static at base it) Nothing (λ done. Unit {0})
+  file_item_walks static at base it inside =
+      then_plain (typing (item_type at base it.declarator)) (item_walks at base it.declarator)
+      (λ id. file_item_as_walks static at (word_of it.declarator) id it.initialiser inside)
+
+  -- those of a declaration
+  file_items_walks : (static : Bool) (at : Place) (base : TypeId) (its : List Declaring) → (static ≡ true → AreHere here its)
+      → Walks here program function Anywhere (file_items static at base its) Nothing (λ done. Unit {0})
+  file_items_walks static at base [] inside = passes_walks tt (λ its m met. tt) tt
+  file_items_walks static at base (it ∷ rest) inside =
+      then_plain (file_item static at base it) (file_item_walks static at base it (λ is. (inside is).0))
+      (λ done. file_items_walks static at base rest (λ is. (inside is).1))
+
+  -- ---- typedef names
+
+  -- the type of one
+  typedef_as_walks : (at : Place) (o : Option Word) (id : TypeId) (it : Option Initialising)
+      → Walks here program function Anywhere (typedef_as at o id it) Nothing (λ id. Unit {0})
+  typedef_as_walks at None id it = stops_walks (Untyped at)
+  typedef_as_walks at (Some word) id None = passes_walks id (λ its m met. tt) tt
+  typedef_as_walks at (Some word) id (Some it) = stops_walks (Untyped (place_of_start it))
+
+  -- of all of them
+  typedef_types_walks : (at : Place) (base : TypeId) (done : List TypeId) (its : List Declaring)
+      → Walks here program function Anywhere (typedef_types at base done its) Nothing (λ ids. Unit {0})
+  typedef_types_walks at base done [] = passes_walks done (λ its m met. tt) tt
+  typedef_types_walks at base done (it ∷ rest) =
+      then_plain (typedef_item at base it)
+      (then_plain (typing (item_type at base it.declarator)) (item_walks at base it.declarator)
+      (λ id. typedef_as_walks at (word_of it.declarator) id it.initialiser))
+      (λ id. typedef_types_walks at base (done ++ id ∷ []) rest)
+
+  -- a name, which refers to nothing
+  typedef_named_walks : (o : Option Word) (id : TypeId) → Walks here program function Anywhere (typedef_named o id) Nothing (λ done. Unit {0})
+  typedef_named_walks None id = passes_walks tt (λ its m met. tt) tt
+  typedef_named_walks (Some word) id =
+      so_walks (λ its m is. (tt, tt)) (λ its m done is. is) (λ done is. is) (named_walks word (entity.Typedef id))
+
+  -- each with its type
+  typedefs_named_walks : (its : List Declaring) (ids : List TypeId)
+      → Walks here program function Anywhere (typedefs_named its ids) Nothing (λ done. Unit {0})
+  typedefs_named_walks [] ids = passes_walks tt (λ its m met. tt) tt
+  typedefs_named_walks (it ∷ rest) [] = passes_walks tt (λ its m met. tt) tt
+  typedefs_named_walks (it ∷ rest) (id ∷ ids) =
+      then_plain (typedef_named (word_of it.declarator) id) (typedef_named_walks (word_of it.declarator) id)
+      (λ done. typedefs_named_walks rest ids)
+
+  -- by the storage word
+  items_by_walks : (b : Bool) (at : Place) (its : List Declaring) (said : Front) → (is_static said.storage ≡ true → AreHere here its)
+      → Walks here program function Anywhere
+      (if b then typedef_items at said.type_id its else file_items (is_static said.storage) at said.type_id its) Nothing (λ done. Unit {0})
+  items_by_walks true at its said inside =
+      then_plain (typedef_types at said.type_id [] its) (typedef_types_walks at said.type_id [] its) (λ ids. typedefs_named_walks its ids)
+  items_by_walks false at its said inside = file_items_walks (is_static said.storage) at said.type_id its inside
+
+  -- by what the specifiers say
+  items_as_walks : (at : Place) (its : List Declaring) (said : Front) → (is_static said.storage ≡ true → AreHere here its)
+      → Walks here program function Anywhere (file_items_as at its said) Nothing (λ done. Unit {0})
+  items_as_walks at its said inside = items_by_walks (is_typedef_word said.storage) at its said inside
+
+-- where all words have internal linkage, those of declarators do
+all_here : (its : List Declaring) → AreHere (λ name. true) its
+all_here [] = tt
+all_here (it ∷ rest) = (λ word is. refl, all_here rest)
+
+module _ {here : List ℕ → Bool} {program : TypedProgram} {function : TypedFunction} (sound : IsRight program.types) where
+  -- what the specifiers say
+  front_walks : (at : Place) (words : Specification)
+      → Walks here program function Anywhere (typing (front at words))
+      (λ its m said. is_static said.storage ≡ true → has_static words ≡ true) (λ said. Unit {0})
+  front_walks at words =
+      typing_known (front at words) (λ Q. front_notes Q program.types at words)
+      (λ its m met p given grows. front_static at words m.typer p.1 p.0 given) (λ s scoped counts knows binds p given noted. tt)
+
+  -- what follows them
+  fronted_walks : (at : Place) (words : Specification) (its : List Declaring) (said : Front)
+      → (has_static words ≡ true → AreHere here its)
+      → Walks here program function (λ its m. is_static said.storage ≡ true → has_static words ≡ true) (file_items_as at its said) Nothing
+      (λ done. Unit {0})
+  fronted_walks at words its said inside =
+      given_walks (is_static said.storage ≡ true → has_static words ≡ true)
+      (items_as_walks {here = λ name. true} {program = program} {function = function} sound at its said (λ static. all_here its)).moved
+      (λ so. items_as_walks sound at its said (λ static. inside (so static)))
+
+  -- with or without declarators
+  file_declared_at_walks : (at : Place) (words : Specification) (its : List Declaring)
+      → (has_static words ≡ true → AreHere here its)
+      → Walks here program function Anywhere (file_declared_at at words its) Nothing (λ done. Unit {0})
+  file_declared_at_walks at words [] inside = nothing_named_walks at words (lone_tag words)
+  file_declared_at_walks at words (it ∷ rest) inside =
+      then_plain (typing (front at words)) (front_walks at words) (λ said. fronted_walks at words (it ∷ rest) said inside)
+
+  -- A declaration of file scope refers to what was claimed, and starts objects with what fits them.
+  pub file_declared_walks : (other : Place) (it : Declaration)
+      → (has_static it.specifiers ≡ true
+      → AllByRecursion (λ item. (word : Word) → word_of item.declarator ≡ Some word → here word.text ≡ true) it.items)
+      → Walks here program function Anywhere (file_declared other it) Nothing (λ done. Unit {0})
+  file_declared_walks other it inside = file_declared_at_walks (first_place other it.specifiers) it.specifiers it.items inside

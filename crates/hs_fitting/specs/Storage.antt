@@ -1,0 +1,199 @@
+-- The storage word that specifiers are found to say is one of their words (X3.159-1989 3.5.1).
+--     front_storage             what is said is `static` where `static` is among the specifiers
+--     front_static              if `static` is said, it is among them
+use Rattle.std.proofs.Common.{◌≡◌, Bool, true, false, ◌&&◌, ◌||◌, not, [], Option, Some, None, is_some, Result, Ok, Err, refl, sym, ap, subst, ◌∙◌, if◌then◌else◌}
+use Rattle.hs_declarations.specs.Declarations.{is_static}
+use Rattle.hs_declarations.specs.Fronts.{front}
+use Rattle.hs_declarations.specs.declared.fronts.Front.{Front}
+use Rattle.hs_expressions.specs.Expressions.{specified, specifier, members_of, constants_of}
+use Rattle.hs_linkage.specs.Definitions.{is_static_word, has_static}
+use Rattle.hs_names.specs.Scopes.{find}
+use Rattle.hs_syntax.specs.Trees as syntax
+use Rattle.hs_syntax.specs.Trees.{Specified, Specification}
+use Rattle.hs_syntax.specs.declared.operators.Storage.{Storage}
+use Rattle.hs_syntax.specs.declared.operators.Storage.TheVariants as storage
+use Rattle.hs_tokens.specs.declared.place.Place.{Place}
+use Rattle.hs_typer.specs.Specifiers.{no_specifiers, with_basic, with_type, with_storage, type_from, typedef_of, struct_type, enumeration_type, tagged_struct, begun_struct, tagged_enumeration, begun_enumeration, completed_struct, completed_enumeration}
+use Rattle.hs_typer.specs.Steps.{Step, then_with, ◌>>=◌, kept, mapped, look, give}
+use Rattle.hs_typer.specs.declared.specifiers.Specifiers.{Specifiers}
+use Rattle.hs_typer.specs.declared.type_error.TypeError.{TypeError}
+use Rattle.hs_typer.specs.declared.type_error.TypeError.TheVariants.{Untyped}
+use Rattle.hs_typer.specs.declared.typer.Typer.{Typer}
+use Rattle.hs_types.specs.declared.row.TypeId.{TypeId}
+
+-- ---- what a step of typing gives
+
+-- of what is given, if nothing is refused
+abbrev Given : {A : Type 0} → (A → Type 0) → Result (A × Typer) TypeError → Type 0
+Given holds (Ok p) = holds p.0
+Given holds (Err why) = Unit {0}
+
+-- from every place of the text
+record Always {A : Type 0} (holds : A → Type 0) (step : Step A) : Type 0 where
+  given : (s : Typer) → Given holds (step s)
+
+-- what a look at what is known gives
+abbrev Looked : {A : Type 0} → (A → Type 0) → Result A TypeError → Type 0
+Looked holds (Ok it) = holds it
+Looked holds (Err why) = Unit {0}
+
+-- one step after another
+given_with : {A B : Type 0} → (P : A → Type 0) (Q : B → Type 0) (next : A → Step B) (given : Result (A × Typer) TypeError) → Given P given
+    → ((it : A) → P it → Always Q (next it)) → Given Q (then_with next given)
+given_with P Q next (Ok p) is after = (after p.0 is).given p.1
+given_with P Q next (Err why) is after = tt
+
+-- nothing is asked of the first one
+given_next : {A B : Type 0} → (Q : B → Type 0) (next : A → Step B) (given : Result (A × Typer) TypeError)
+    → ((it : A) → Always Q (next it)) → Given Q (then_with next given)
+given_next Q next (Ok p) after = (after p.0).given p.1
+given_next Q next (Err why) after = tt
+
+-- nothing changes
+given_kept : {A : Type 0} → (P : A → Type 0) (s : Typer) (given : Result A TypeError) → Looked P given → Given P (kept s given)
+given_kept P s (Ok it) is = is
+given_kept P s (Err why) is = tt
+
+-- what is made of an answer
+looked_mapped : {A B : Type 0} → (P : B → Type 0) (f : A → B) (given : Result A TypeError) → ((it : A) → P (f it)) → Looked P (mapped f given)
+looked_mapped P f (Ok it) is = is it
+looked_mapped P f (Err why) is = tt
+
+-- the step that changes nothing
+gives : {A : Type 0} → (P : A → Type 0) (it : A) → P it → Always P (give it)
+gives P it is = record { given = λ s. is }
+
+-- a look at what is known
+looks : {A : Type 0} → (P : A → Type 0) (f : Typer → Result A TypeError) → ((s : Typer) → Looked P (f s)) → Always P (look f)
+looks P f are = record { given = λ s. given_kept P s (f s) (are s) }
+
+-- one step after another
+then_always : {A B : Type 0} → (P : A → Type 0) (Q : B → Type 0) (first : Step A) (next : A → Step B) → Always P first
+    → ((it : A) → P it → Always Q (next it)) → Always Q (first >>= next)
+then_always P Q first next before after = record { given = λ s. given_with P Q next (first s) (before.given s) after }
+
+-- nothing is asked of the first one
+next_always : {A B : Type 0} → {Q : B → Type 0} → {next : A → Step B} → (first : Step A) → ((it : A) → Always Q (next it))
+    → Always Q (first >>= next)
+next_always {Q = Q} {next = next} first after = record { given = λ s. given_next Q next (first s) after }
+
+-- ---- storage words
+
+-- what is said is `static` where it was said before, or is among these
+abbrev Says : Bool → Bool → Specifiers → Type 0
+Says before among its = is_static its.storage ≡ (before || among)
+
+-- with nothing else
+or_none : (b : Bool) → b ≡ (b || false)
+or_none true = refl
+or_none false = refl
+
+-- one word is said
+word_says : (word : Storage) (at : Place) → is_static (Some word) ≡ is_static_word (syntax.storage word at)
+word_says storage.Typedef at = refl
+word_says storage.Extern at = refl
+word_says storage.Static at = refl
+
+-- a storage word, if there is none before it
+stored_by : (stored : Bool) (before : Option Storage) (word : Storage) (at : Place) (done : Specifiers)
+    → Looked (Says (is_static before) (is_static_word (syntax.storage word at)))
+    (if stored && not (is_some before) then Ok (record done { storage = Some word }) else Err (Untyped at))
+stored_by true None word at done = word_says word at
+stored_by true (Some other) word at done = tt
+stored_by false before word at done = tt
+
+-- by what is said already
+stored_says : (stored : Bool) (word : Storage) (at : Place) (done : Specifiers)
+    → Looked (Says (is_static done.storage) (is_static_word (syntax.storage word at))) (with_storage stored word at done)
+stored_says stored word at done = stored_by stored done.storage word at done
+
+-- a type adds no storage word
+type_says : (id : TypeId) (done : Specifiers) → Says (is_static done.storage) false (with_type id done)
+type_says id done = or_none (is_static done.storage)
+
+-- one specifier
+specifier_says : (stored : Bool) (first : Place) (done : Specifiers) (it : Specified)
+    → Always (Says (is_static done.storage) (is_static_word it)) (specifier stored first done it)
+specifier_says stored first done (syntax.storage word at) =
+    looks (Says (is_static done.storage) (is_static_word (syntax.storage word at))) (λ s. with_storage stored word at done)
+    (λ s. stored_says stored word at done)
+specifier_says stored first done (syntax.dropped word at) = gives (Says (is_static done.storage) false) done (or_none (is_static done.storage))
+specifier_says stored first done (syntax.basic word at) =
+    gives (Says (is_static done.storage) false) (with_basic word done) (or_none (is_static done.storage))
+specifier_says stored first done (syntax.named word) =
+    looks (Says (is_static done.storage) false) (λ s. mapped (λ id. with_type id done) (typedef_of word (find word.text s.names)))
+    (λ s. looked_mapped (Says (is_static done.storage) false) (λ id. with_type id done) (typedef_of word (find word.text s.names))
+    (λ id. type_says id done))
+specifier_says stored first done (syntax.struct_tag at word) =
+    next_always (tagged_struct word)
+    (λ number. next_always (struct_type number)
+    (λ id. gives (Says (is_static done.storage) false) (with_type id done) (type_says id done)))
+specifier_says stored first done (syntax.struct_body at word brace members) =
+    next_always (begun_struct word)
+    (λ number. next_always (members_of at [] members)
+    (λ its. next_always (completed_struct first word brace number its)
+    (λ over. next_always (struct_type number)
+    (λ id. gives (Says (is_static done.storage) false) (with_type id done) (type_says id done)))))
+specifier_says stored first done (syntax.enum_tag at word) =
+    next_always (look (λ s. tagged_enumeration word (find word.text s.tags)))
+    (λ number. next_always (enumeration_type number)
+    (λ id. gives (Says (is_static done.storage) false) (with_type id done) (type_says id done)))
+specifier_says stored first done (syntax.enum_body at word brace constants comma) =
+    next_always (begun_enumeration word)
+    (λ number. next_always (constants_of [] (Some 0) constants)
+    (λ its. next_always (completed_enumeration first word brace number its)
+    (λ over. next_always (enumeration_type number)
+    (λ id. gives (Says (is_static done.storage) false) (with_type id done) (type_says id done)))))
+
+-- three tests
+or_assoc : (a b c : Bool) → ((a || b) || c) ≡ (a || (b || c))
+or_assoc true b c = refl
+or_assoc false b c = refl
+
+-- what one specifier says, and then the others
+says_then : (before one others : Bool) (mid its : Specifiers) → Says before one mid → Says (is_static mid.storage) others its
+    → Says before (one || others) its
+says_then before one others mid its is after = after ∙ ap (λ b. b || others) is ∙ or_assoc before one others
+
+-- a step whose answers have one fact has what follows from it
+so_given : {A : Type 0} → (P Q : A → Type 0) → ((it : A) → P it → Q it) → (given : Result (A × Typer) TypeError) → Given P given → Given Q given
+so_given P Q so (Ok p) is = so p.0 is
+so_given P Q so (Err why) is = tt
+
+-- from every place of the text
+so_always : {A : Type 0} → (P Q : A → Type 0) (step : Step A) → ((it : A) → P it → Q it) → Always P step → Always Q step
+so_always P Q step so is = record { given = λ s. so_given P Q so (step s) (is.given s) }
+
+-- all of them
+specified_says : (stored : Bool) (first : Place) (done : Specifiers) (words : Specification)
+    → Always (Says (is_static done.storage) (has_static words)) (specified stored first done words)
+specified_says stored first done syntax.no_specifiers =
+    gives (Says (is_static done.storage) false) done (or_none (is_static done.storage))
+specified_says stored first done (syntax.more_specifiers it rest) =
+    then_always (Says (is_static done.storage) (is_static_word it)) (Says (is_static done.storage) (is_static_word it || has_static rest))
+    (specifier stored first done it) (λ next. specified stored first next rest) (specifier_says stored first done it)
+    (λ next is. so_always (Says (is_static next.storage) (has_static rest)) (Says (is_static done.storage) (is_static_word it || has_static rest))
+    (specified stored first next rest) (λ its after. says_then (is_static done.storage) (is_static_word it) (has_static rest) next its is after)
+    (specified_says stored first next rest))
+
+-- ---- the front of a declaration
+
+-- `static` is said where it is among the specifiers
+abbrev Fronts : Specification → Front → Type 0
+Fronts words said = is_static said.storage ≡ has_static words
+
+-- from every place of the text
+front_says : (at : Place) (words : Specification) → Always (Fronts words) (front at words)
+front_says at words =
+    then_always (Says false (has_static words)) (Fronts words) (specified true at no_specifiers words) _ (specified_says true at no_specifiers words)
+    (λ said is. next_always (look (λ s. type_from at said)) (λ id. gives (Fronts words) (record { storage = said.storage; type_id = id }) is))
+
+-- What is said is `static` where `static` is among the specifiers.
+pub front_storage : (at : Place) (words : Specification) (s new : Typer) (said : Front) → front at words s ≡ Ok (said, new)
+    → is_static said.storage ≡ has_static words
+front_storage at words s new said is = subst (Given (Fronts words)) is ((front_says at words).given s)
+
+-- If `static` is said, it is among them.
+pub front_static : (at : Place) (words : Specification) (s new : Typer) (said : Front) → front at words s ≡ Ok (said, new)
+    → is_static said.storage ≡ true → has_static words ≡ true
+front_static at words s new said is static = sym (front_storage at words s new said is) ∙ static
