@@ -1,14 +1,11 @@
 -- Answers of the definitions, and types that their crates do not export.
---     answered, accepted          what was answered
+--     accepted                    what was answered
 --     none_some, false_true       what cannot be
 --     Taken f, Given f            what a function takes and gives
 use Rattle.std.proofs.Common.{◌≡◌, true, false, Option, Some, None, Result, Ok}
 use Rattle.hs_typer.specs.declared.type_error.TypeError.{TypeError}
 
 -- what was answered, and not refused
-pub answered : {A : Type 0} → (x y : A) → Some x ≡ Some y → x ≡ y
-answered x y same = cc
-
 pub accepted : {A : Type 0} → (x y : A) → ◌≡◌ {A = Result A TypeError} (Ok x) (Ok y) → x ≡ y
 accepted x y same = cc
 

@@ -3,15 +3,14 @@
 --     unless_grown_walks              a test of what is known, of which the types go on to those of the whole program
 --     automatic_walks                 an automatic variable: from one place of the text to the last one, where its type is known
 use Rattle.std.proofs.Common.{◌≡◌, ℕ, Bool, true, false, not, ◌||◌, List, [], ◌∷◌, ◌++◌, length, slice_get, Option, Some, None, is_some, Result, Ok, Err, refl, sym, ap, subst, ◌∙◌, if◌then◌else◌}
-use Rattle.std.specs.Prelude.{slice_set}
 use Rattle.hs_declarations.specs.Declarations.{is_object, given, new_local, local_typed, local_started, automatic}
 use Rattle.hs_expressions.specs.Binding.Keeping.{IsNoted, KnowsBound, Giving, IsBound}
 use Rattle.hs_expressions.specs.Laws.{IsConstant, IsScoped, Knows}
 use Rattle.hs_expressions.specs.Laws.Always.{Anything, Reaching}
 use Rattle.hs_expressions.specs.Laws.Reached.{Reaches, all_so, reaches_then, scoped_after}
 use Rattle.hs_fitting.specs.Alike.{IsAlike, AlikeGiven, starting_alike}
-use Rattle.hs_fitting.specs.Blocks.{types_with, local_moves, local_of}
-use Rattle.hs_fitting.specs.Bodies.{stands_locals, proceeds_still}
+use Rattle.hs_fitting.specs.Blocks.{types_with, local_moves, local_of, typed_last}
+use Rattle.hs_fitting.specs.Bodies.{stands_locals, proceeds_still, first_same, rest_same}
 use Rattle.hs_fitting.specs.Changing.{stands_changed}
 use Rattle.hs_fitting.specs.Claims.{Claims, IsVariableAt, IsVariableIn, Stands}
 use Rattle.hs_fitting.specs.ConstantNumbers.{HasWideKinds}
@@ -31,15 +30,14 @@ use Rattle.hs_fitting.specs.Scalars.{open_not_whole}
 use Rattle.hs_fitting.specs.Sizing.{MayHaveStart}
 use Rattle.hs_fitting.specs.Starting.{IsStart, starting_fits}
 use Rattle.hs_fitting.specs.Walk.{Anywhere, Nothing, Continues, continues_first, Walked, Walking, Walks, stays_walked, unless_walks, then_walks, so_walks}
-use Rattle.hs_fitting.specs.Whole.{MayStart, WholeGiven, starting_whole}
+use Rattle.hs_fitting.specs.Whole.{MayStart, WholeGiven, starting_whole, open_row}
 use Rattle.hs_initialisers.specs.Initialisers.{starting}
 use Rattle.hs_linkage.specs.Linkage.{renamed}
-use Rattle.hs_linkage.specs.Objects.{local_as}
 use Rattle.hs_linkage.specs.Works.{work_with, ◌>>=◌, ◌>>◌, pass, typing, with_typer, unless}
 use Rattle.hs_linkage.specs.declared.translator.Translator.{Translator}
 use Rattle.hs_names.specs.Scopes.{declared, find, find_here}
 use Rattle.hs_operands.specs.Laws.{IsTyped}
-use Rattle.hs_operands.specs.Types.{is_open, is_open_row, designates}
+use Rattle.hs_operands.specs.Types.{is_open, designates}
 use Rattle.hs_syntax.specs.Trees.{Initialising}
 use Rattle.hs_syntax.specs.declared.word.Word.{Word}
 use Rattle.hs_tree.specs.Fitting.{types_of, FitsVariable}
@@ -57,7 +55,6 @@ use Rattle.hs_typer.specs.declared.typer.Typer.{Typer}
 use Rattle.hs_types.specs.Growing.{grows_then}
 use Rattle.hs_types.specs.Growing.{grows_self}
 use Rattle.hs_types.specs.TypeTables.{TypeTable, row_of, is_complete, IsRight, Grows}
-use Rattle.hs_types.specs.declared.row.Row.{Row}
 use Rattle.hs_types.specs.declared.row.Row.TheVariants as row
 use Rattle.hs_types.specs.declared.row.TypeId.{TypeId}
 
@@ -65,11 +62,6 @@ use Rattle.hs_types.specs.declared.row.TypeId.{TypeId}
 abbrev pub IsRightItemIf : TypedProgram → TypedFunction → Option TypedItem → Type 0
 IsRightItemIf program function None = Unit {0}
 IsRightItemIf program function (Some it) = IsRightItem program function it
-
--- a test that does not fail
-pub passed : (b : Bool) → not b ≡ false → b ≡ true
-passed true is = refl
-passed false is = absurd cc
 
 -- ---- a test of what is known, in the whole program
 
@@ -96,24 +88,12 @@ module _ {here : List ℕ → Bool} {program : TypedProgram} {function : TypedFu
 
 -- ---- a type that may start, and is complete at the end
 
--- an array of unknown length
-open_there : (it : Option Row) → is_open_row it ≡ true → (of : TypeId) × (it ≡ Some (row.OpenArray of))
-open_there None is = absurd cc
-open_there (Some row.Void) is = absurd cc
-open_there (Some (row.Integer kind)) is = absurd cc
-open_there (Some (row.Pointer of)) is = absurd cc
-open_there (Some (row.Enumeration number)) is = absurd cc
-open_there (Some (row.Struct number)) is = absurd cc
-open_there (Some (row.Array of size layout)) is = absurd cc
-open_there (Some (row.OpenArray of)) is = (of, refl)
-open_there (Some (row.Function result list)) is = absurd cc
-
--- is never complete
+-- an array of unknown length is never complete
 whole_by : (start final : TypeTable) (id : TypeId) (b : Bool) → Grows start final → is_complete start id ≡ b → (b || is_open start id) ≡ true
     → IsWhole final id → IsWhole start id
 whole_by start final id true grows whole may later = whole
 whole_by start final id false grows fails may later =
-    let array : (of : TypeId) × (row_of start id ≡ Some (row.OpenArray of)) = open_there (row_of start id) may in
+    let array : (of : TypeId) × (row_of start id ≡ Some (row.OpenArray of)) = open_row (row_of start id) may in
     absurd (open_not_whole final id array.0 later (grows.rows id.number (row.OpenArray array.0) array.1))
 
 -- so the type was complete before
@@ -127,30 +107,6 @@ last_variable : (types : TypeTable) (locals : List VariableDecl) (word : Word) (
     → IsVariableAt types (slice_get (types_of (locals ++ local_of word made ∷ [])) (length locals)) id
 last_variable types [] word made id is = is
 last_variable types (it ∷ locals) word made id is = last_variable types locals word made id is
-
--- it gets the type that its initialiser gives it
-last_there : (locals : List VariableDecl) (it : VariableDecl) → slice_get (locals ++ it ∷ []) (length locals) ≡ Some it
-last_there [] it = refl
-last_there (other ∷ locals) it = last_there locals it
-
--- with another one in its place
-last_set : (locals : List VariableDecl) (it new : VariableDecl) → slice_set (locals ++ it ∷ []) (length locals) new ≡ locals ++ new ∷ []
-last_set [] it new = refl
-last_set (other ∷ locals) it new = ap (λ rest. other ∷ rest) (last_set locals it new)
-
--- with another type
-last_typed : (id : TypeId) (locals : List VariableDecl) (it : VariableDecl)
-    → local_as id (slice_get (locals ++ it ∷ []) (length locals)) (locals ++ it ∷ []) (length locals) ≡ locals ++ record it { type_id = id } ∷ []
-last_typed id locals it =
-    ap (λ found. local_as id found (locals ++ it ∷ []) (length locals)) (last_there locals it) ∙ last_set locals it (record it { type_id = id })
-
--- the first of two lists that are the same
-first_same : (a b : TypeId) (xs ys : List TypeId) → (a ∷ xs) ≡ (b ∷ ys) → a ≡ b
-first_same a b xs ys same = cc
-
--- the rest
-rest_same : (a b : TypeId) (xs ys : List TypeId) → (a ∷ xs) ≡ (b ∷ ys) → xs ≡ ys
-rest_same a b xs ys same = cc
 
 -- What fits its type fits the variable of that place, in a function that has these variables and more.
 fits_last : (program : TypedProgram) (locals variables : List VariableDecl) (made : TypeId) (start : Starting) (more : List TypeId)
@@ -205,7 +161,7 @@ module _ (word : Word) (id : TypeId) (m : Translator) (scoped : IsScoped m.typer
     abbrev begun : Translator
     begun = record m { typer = named id m.typer; locals = variables id }
 
-    -- behind the initialiser
+    -- after the initialiser
     ends_started : (it : Initialising) → MayStart m.typer.types id → (answer : Result ((TypeId × Starting) × Typer) TypeError)
         → starting word.place id it (named id m.typer) ≡ answer
         → holds (work_with (λ its. local_typed (length m.locals) its.0
@@ -213,7 +169,7 @@ module _ (word : Word) (id : TypeId) (m : Translator) (scoped : IsScoped m.typer
         (with_typer begun answer))
     ends_started it may (Ok p) is =
         subst (λ locals. holds (Ok (Some (given (length m.locals) word p.0.1), record m { typer = named p.0.0 p.1; locals = locals })))
-        (sym (last_typed p.0.0 m.locals (local_of word id))) (full it p is may)
+        (sym (typed_last p.0.0 m.locals (local_of word id))) (full it p is may)
     ends_started it may (Err why) is = fails why
 
     -- if the type may have one
@@ -337,11 +293,11 @@ module _ (here : List ℕ → Bool) (program : TypedProgram) (function : TypedFu
               whole),
         )
 
-    -- behind the initialiser, with the variable and both names
+    -- after the initialiser, with the variable and both names
     abbrev ended : Translator
     ended = record (with_variable p.0.0) { typer = named word id m scoped p.0.0 p.1 }
 
-    -- the names behind the initialiser
+    -- the names after the initialiser
     stands_started : Stands program here its (variables word id m scoped p.0.0) (record (with_variable p.0.0) { typer = p.1 })
     stands_started =
         stands_reached program here its (with_variable p.0.0) p.1 reached (noted.calls grows stands.calls) (noted.right stands.right)

@@ -2,6 +2,7 @@
 --     either_known_walks              both ways of a test, each of which knows how it went
 --     nothing_named_walks             specifiers without a declarator
 --     function_declared_walks         a function that is declared
+--     object_walks                    an object is of no type of functions
 --     static_local_walks, extern_object_walks      objects of static storage duration that a block declares
 --     block_declared_walks            a declaration of a block
 use Rattle.std.proofs.Common.{◌≡◌, ℕ, Bool, true, false, not, ◌||◌, List, [], ◌∷◌, Option, Some, None, refl, sym, ap, subst, ◌∙◌, if◌then◌else◌}
@@ -11,12 +12,11 @@ use Rattle.hs_declarations.specs.Fronts.{front, item_type, tag_alone, tag_alone_
 use Rattle.hs_declarations.specs.declared.fronts.Front.{Front}
 use Rattle.hs_expressions.specs.Expressions.{first_place}
 use Rattle.hs_expressions.specs.Laws.{IsConstant, IsScoped}
-use Rattle.hs_expressions.specs.Laws.Always.{Always, Reaching}
-use Rattle.hs_expressions.specs.Laws.Leaves.{begun_struct_always}
-use Rattle.hs_expressions.specs.Laws.Reached.{all_appended, reaches_self}
-use Rattle.hs_fitting.specs.Automatic.{IsRightItemIf, passed, unless_grown_walks, automatic_walks}
+use Rattle.hs_expressions.specs.Laws.Reached.{all_appended}
+use Rattle.hs_fitting.specs.Answers.{false_true}
+use Rattle.hs_fitting.specs.Automatic.{IsRightItemIf, unless_grown_walks, automatic_walks}
 use Rattle.hs_fitting.specs.Claims.{Claims, RefersTo, IsVariableIn, Stands}
-use Rattle.hs_fitting.specs.Declaring.{either_moved, new_object_moved}
+use Rattle.hs_fitting.specs.Declaring.{either_moved, new_object_moved, tag_always}
 use Rattle.hs_fitting.specs.Initialised.{initialised_walks}
 use Rattle.hs_fitting.specs.Known.{typing_walks}
 use Rattle.hs_fitting.specs.LinkedNames.{IsObject, refers_kept, kept_walks, placed_object_walks, define_object_walks, named_walks, renamed_walks, linked_walks}
@@ -27,6 +27,7 @@ use Rattle.hs_fitting.specs.NotingCalm.{begun_struct_notes}
 use Rattle.hs_fitting.specs.NotingDeclaring.{front_notes, item_type_notes}
 use Rattle.hs_fitting.specs.NotingInitialising.{inline_words_notes}
 use Rattle.hs_fitting.specs.Phrases.{IsRightItem}
+use Rattle.hs_fitting.specs.Tests.{true_false, not_false}
 use Rattle.hs_fitting.specs.Walk.{Anywhere, Nothing, Walking, Walks, passes_walks, stops_walks, unless_walks, then_walks, so_walks}
 use Rattle.hs_fitting.specs.Whole.{MayStart}
 use Rattle.hs_initialisers.specs.Initialisers.{initialised}
@@ -86,20 +87,8 @@ module _ {here : List ℕ → Bool} {program : TypedProgram} {function : TypedFu
 
 -- ---- specifiers without a declarator
 
--- a tag alone
-tag_reached : (word : Word) (s : Typer) (o : Option Tag) → find_here word.text s.tags ≡ o → IsScoped s
-    → Reaching IsConstant s (tag_alone_as word o s)
-tag_reached word s None is scoped =
-    subst (λ o. Reaching IsConstant s (begun_struct_as word o s)) is ((begun_struct_always (Some word)).from s scoped)
-tag_reached word s (Some (tag.Struct number)) is scoped = reaches_self IsConstant s
-tag_reached word s (Some (tag.Enumeration number)) is scoped = tt
-
--- what it extends
-tag_always : (word : Word) → Always IsConstant (tag_alone word)
-tag_always word = record { from = λ s scoped. tag_reached word s (find_here word.text s.tags) refl scoped }
-
 module _ (Q : ℕ → TypeId → Type 0) (final : TypeTable) where
-  -- what it notes of calls
+  -- what a tag alone notes of calls
   tag_noting : (word : Word) (s : Typer) (o : Option Tag) → find_here word.text s.tags ≡ o → NamesAllow Q s
       → Noting Q final (λ it. Unit {0}) s (tag_alone_as word o s)
   tag_noting word s None is names =
@@ -151,11 +140,11 @@ module _ {here : List ℕ → Bool} {program : TypedProgram} {function : TypedFu
       (λ its more m n proceeds moves is. refers_kept program it its more m n proceeds is) walks
 
   -- a type that an object can be of is none of functions in the program
-  object_walks : (word : Word) (id : TypeId)
-      → Walks here program function Anywhere (is_object word id) (λ its m done. category_of program.types id ≡ Some of_function → ⊥) (λ done. Unit {0})
+  pub object_walks : {pre : Claims → Translator → Type 0} → (word : Word) (id : TypeId)
+      → Walks here program function pre (is_object word id) (λ its m done. category_of program.types id ≡ Some of_function → ⊥) (λ done. Unit {0})
   object_walks word id =
       unless_grown_walks (Untyped word.place) (λ m. not (designates m.typer.types id))
-      (λ its m met failed grows. designates_makes m.typer.types program.types id grows (passed (designates m.typer.types id) failed))
+      (λ its m met failed grows. designates_makes m.typer.types program.types id grows (not_false (designates m.typer.types id) failed))
 
   -- an object that a block declares with `extern` has no initialiser there
   not_started_walks : {pre : Claims → Translator → Type 0} → (it : Option Initialising)
@@ -171,11 +160,8 @@ module _ {here : List ℕ → Bool} {program : TypedProgram} {function : TypedFu
       (λ may. then_walks {holds = λ done. Unit {0}} (not_started it)
       (not_started_walks {pre = λ its m. category_of program.types id ≡ Some of_function → ⊥} it)
       (λ none. then_walks {holds = λ its. Unit {0}} (linked false word id)
-      (so_walks (λ its m no_function other. no_function) (λ its m made is. is) (λ made is. is) (linked_walks false word id (λ is. absurd (not_static is))))
+      (so_walks (λ its m no_function other. no_function) (λ its m made is. is) (λ made is. is) (linked_walks false word id (λ is. absurd (false_true is))))
       (λ its. passes_walks None (λ its m is. tt) (λ a b c. tt))))
-    where
-      not_static : false ≡ true → ⊥
-      not_static is = cc
 
   -- an object without linkage is a new one
   fresh_walks : (word : Word) (id : TypeId)
@@ -212,7 +198,7 @@ module _ {here : List ℕ → Bool} {program : TypedProgram} {function : TypedFu
         (unless_walks {after = λ its m done.
         MayStart m.typer.types id × RefersTo program.types its m.objects (entity.Variable (variable.Global place) id)} (Untyped word.place)
         (λ m. not (is_complete m.typer.types id || is_open m.typer.types id))
-        (λ its m met failed. (passed (is_complete m.typer.types id || is_open m.typer.types id) failed, met)))
+        (λ its m met failed. (not_false (is_complete m.typer.types id || is_open m.typer.types id) failed, met)))
         (λ may. then_walks {holds = λ p. Unit {0}} (typing (initialised word.place id it))
         (referring_walks (entity.Variable (variable.Global place) id) (initialised_walks sound word.place id it))
         (λ p. then_walks {after = λ its m done. RefersTo program.types its m.objects (entity.Variable (variable.Global place) p.0)}
@@ -263,13 +249,10 @@ module _ {here : List ℕ → Bool} {program : TypedProgram} {function : TypedFu
         (IsRightItemIf program function)
     block_function_walks stored storage word id it =
         then_walks {after = λ its m done. MayMake program m id} {holds = λ done. Unit {0}} (unless (Untyped stored) (λ m. is_static storage))
-        (unless_walks (Untyped stored) (λ m. is_static storage) (λ its m met failed other. absurd (both (is_function m.typer.types id) met.1 other)))
+        (unless_walks (Untyped stored) (λ m. is_static storage) (λ its m met failed other. absurd (true_false (is_function m.typer.types id) met.1 other)))
         (λ may. then_walks {holds = λ done. Unit {0}} (function_declared false word id it)
-        (function_declared_walks false word id it (λ is. absurd (both false is refl)))
+        (function_declared_walks false word id it (λ is. absurd (true_false false is refl)))
         (λ done. passes_walks None (λ its m is. tt) (λ a b. tt)))
-      where
-        both : (b : Bool) → b ≡ true → b ≡ false → ⊥
-        both b is is' = cc
 
     -- by its type
     block_entity_walks : (stored : Place) (storage : Option Storage) (word : Word) (id : TypeId) (it : Option Initialising)

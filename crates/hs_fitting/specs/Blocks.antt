@@ -54,7 +54,7 @@ set_last : (its : List VariableDecl) (it new : VariableDecl) → slice_set (its 
 set_last [] it new = refl
 set_last (other ∷ its) it new = ap (λ rest. other ∷ rest) (set_last its it new)
 
-typed_last : (id : TypeId) (its : List VariableDecl) (it : VariableDecl)
+pub typed_last : (id : TypeId) (its : List VariableDecl) (it : VariableDecl)
     → local_as id (slice_get (its ++ it ∷ []) (length its)) (its ++ it ∷ []) (length its) ≡ its ++ record it { type_id = id } ∷ []
 typed_last id its it =
     ap (λ found. local_as id found (its ++ it ∷ []) (length its)) (at_last its it) ∙ set_last its it (record it { type_id = id })
@@ -116,7 +116,8 @@ module _ (m : Translator) (word : Word) (id : TypeId) (scoped : IsScoped m.typer
   started typer None reached = without_start (is_complete typer.types id) refl
     where
       without_start : (b : Bool) → is_complete typer.types id ≡ b
-          → Moving m (work_with {A = Unit {0}} {B = Option TypedItem} (λ whole. pass None) (if not b then Err (Untyped word.place) else Ok (tt, with_local word id typer m)))
+          → Moving m (work_with {A = Unit {0}} {B = Option TypedItem} (λ whole. pass None)
+          (if not b then Err (Untyped word.place) else Ok (tt, with_local word id typer m)))
       without_start true whole = local_moves m typer _ id scoped reached whole (types_with m.locals (local_of word id))
       without_start false fails = tt
   started typer (Some it) reached = with_start typer it (is_complete typer.types id || is_open typer.types id) refl reached

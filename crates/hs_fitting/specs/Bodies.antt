@@ -1,10 +1,10 @@
 -- The body of a function that is being defined, in the program that it goes on to: what is typed in it meets the facts, and afterwards all names
 -- refer to what was claimed (X3.159-1989 3.7.1).
 --     stands_locals, stands_variables, proceeds_still       names are what they were
---     IsBehind its m done one id result mid entity claims c        behind the parameters of the function
+--     IsBehind its m done one id result mid entity claims c        after the parameters of the function
 --     DefinedRight its m done p          what a definition gives, and what is known then
 --     body_right                         the rest of the definition
-use Rattle.std.proofs.Common.{◌≡◌, ℕ, suc, Bool, true, false, List, [], ◌∷◌, ◌++◌, length, drop, slice_get, Option, Some, None, Result, Ok, Err, IsTrue, is_some, refl, sym, ap, subst, ◌∙◌}
+use Rattle.std.proofs.Common.{◌≡◌, ℕ, suc, Bool, true, false, List, [], ◌∷◌, ◌++◌, length, drop, slice_get, Some, Result, Ok, Err, IsTrue, is_some, refl, sym, ap, subst, ◌∙◌}
 use Rattle.std.specs.Prelude.{◌==◌, take}
 use Rattle.std.proofs.lemmas.List.{append-nil}
 use Rattle.std.specs.List.{AllByRecursion}
@@ -25,6 +25,7 @@ use Rattle.hs_fitting.specs.Passes.{count_types, marked_types}
 use Rattle.hs_fitting.specs.Phrases.{IsRightPhrase, IsRightItem, body_walks}
 use Rattle.hs_fitting.specs.Shapes.{SameShape}
 use Rattle.hs_fitting.specs.Stating.{body_moved}
+use Rattle.hs_fitting.specs.Tests.{one_there, some_none}
 use Rattle.hs_fitting.specs.Walk.{Anywhere, Nothing, Walked, Walking, Walks, proceeds_then}
 use Rattle.hs_functions.specs.Functions.{finished}
 use Rattle.hs_linkage.specs.Externals.{newest_external}
@@ -124,10 +125,6 @@ module _ (types : TypeTable) (its : Claims) (m n : Translator) (objects : n.obje
       subst (λ all. IsTrue (is_some (find it.name all))) (sym links) (is (subst (λ number. (it.unit == number) ≡ true) unit same))
   met_still false it is = subst (λ all. IsTrue (is_some (newest_external it.name all))) (sym externals) is
 
-  -- no claim is made
-  no_claim : (o : Option TypeId) (id : TypeId) → o ≡ Some id → o ≡ None → ⊥
-  no_claim o id is is' = cc
-
   pub proceeds_still : Proceeds types its m its n
   proceeds_still =
       record {
@@ -135,7 +132,7 @@ module _ (types : TypeTable) (its : Claims) (m n : Translator) (objects : n.obje
         routines = λ number id is. is;
         objects = λ place is at. subst (λ all. category_at types (slice_get all place) ≡ Some is) (sym objects) at;
         met = λ it is. met_still it.internal it is;
-        fresh = λ number id it claimed none at met. no_claim (its.functions number) id claimed none;
+        fresh = λ number id it claimed none at met. some_none (its.functions number) id claimed none;
       }
 
 -- ---- the body
@@ -158,7 +155,7 @@ abbrev pub DefiningRight : TypedProgram → (List ℕ → Bool) → Claims → T
 DefiningRight program here its m done (Ok p) = Grows p.1.typer.types program.types → DefinedRight program here its m done p
 DefiningRight program here its m done (Err why) = Unit {0}
 
--- behind the parameters of a function of that type and those parameters
+-- after the parameters of a function of that type and those parameters
 pub record IsBehind (program : TypedProgram) (here : List ℕ → Bool) (its : Claims) (m : Translator) (done : List TypedFunction) (one : Definition)
     (id : TypeId) (ids : List TypeId) (gives : TypeId) (word : Word) (mid : Typer) (entity : Entity) (claims : Claims) (c : Translator) : Type 0 where
   pub inner : Inner m (with_name word.text entity mid) c
@@ -174,6 +171,13 @@ pub record IsBehind (program : TypedProgram) (here : List ℕ → Bool) (its : C
   pub shape : (first : TypeId) → claims.functions (length done) ≡ Some first → SameShape program.types first id
   pub met : IsMet c one
 
+-- the first ones, and the others, of two lists that are the same
+pub first_same : {A : Type 0} → (a b : A) (xs ys : List A) → (a ∷ xs) ≡ (b ∷ ys) → a ≡ b
+first_same a b xs ys same = cc
+
+pub rest_same : {A : Type 0} → (a b : A) (xs ys : List A) → (a ∷ xs) ≡ (b ∷ ys) → xs ≡ ys
+rest_same a b xs ys same = cc
+
 -- as many variables have the types of the first ones
 taken_types : (its : List VariableDecl) (ids more : List TypeId) → types_of its ≡ ids ++ more → types_of (take (length ids) its) ≡ ids
 taken_types its [] more same = refl
@@ -181,12 +185,6 @@ taken_types [] (id ∷ ids) more same = absurd cc
 taken_types (it ∷ its) (id ∷ ids) more same =
     ap (λ a. a ∷ types_of (take (length ids) its)) (first_same it.type_id id (types_of its) (ids ++ more) same)
     ∙ ap (λ rest. id ∷ rest) (taken_types its ids more (rest_same it.type_id id (types_of its) (ids ++ more) same))
-  where
-    first_same : (a b : TypeId) (x y : List TypeId) → (a ∷ x) ≡ (b ∷ y) → a ≡ b
-    first_same a b x y same = cc
-
-    rest_same : (a b : TypeId) (x y : List TypeId) → (a ∷ x) ≡ (b ∷ y) → x ≡ y
-    rest_same a b x y same = cc
 
 module _ (program : TypedProgram) (here : List ℕ → Bool) (sound : IsRight program.types)
     (declared : (function : TypedFunction) (other : Place) (it : Declaration)
@@ -245,7 +243,8 @@ module _ (program : TypedProgram) (here : List ℕ → Bool) (sound : IsRight pr
       stands_end : Stands program here walked.claims [] (end_of n)
       stands_end =
           stands_locals program here walked.claims [] (without_scope n) []
-          (stands_typer program here walked.claims n (leave n.typer) refl refl n.locals [] (grows_self n.typer.types) refers_left outside_left walked.stands.calls walked.stands.right
+          (stands_typer program here walked.claims n (leave n.typer) refl refl n.locals []
+          (grows_self n.typer.types) refers_left outside_left walked.stands.calls walked.stands.right
           (endures_scopes program walked.claims n (leave n.typer).names (leave n.typer).tags) walked.stands)
 
       proceeds_end : Proceeds program.types its m walked.claims (end_of n)
@@ -273,12 +272,9 @@ module _ (program : TypedProgram) (here : List ℕ → Bool) (sound : IsRight pr
           subst (λ types. IsLike program.types program.types first types gives) (sym parameter_types)
           ((behind.shape first before).back ids gives behind.signature)
         where
-          some_same : (o : Option Definition) (a b : Definition) → o ≡ Some a → o ≡ Some b → a ≡ b
-          some_same o a b is is' = cc
-
           one_at : (other : Definition) → slice_get c.definitions (length done) ≡ Some other → one ≡ other
           one_at other there =
-              some_same (slice_get m.definitions (length done)) one other at
+              one_there (slice_get m.definitions (length done)) one other at
               (subst (λ all. slice_get all (length done) ≡ Some other) behind.inner.definitions there)
 
       -- what the definition gives
@@ -302,12 +298,9 @@ module _ (program : TypedProgram) (here : List ℕ → Bool) (sound : IsRight pr
                 (endures_locals program here walked.claims [] (without_scope n) [] endures)) refl);
           }
         where
-          some_same : (o : Option Definition) (a b : Definition) → o ≡ Some a → o ≡ Some b → a ≡ b
-          some_same o a b is is' = cc
-
           one_end : (other : Definition) → slice_get n.definitions (length done) ≡ Some other → one ≡ other
           one_end other there =
-              some_same (slice_get m.definitions (length done)) one other at
+              one_there (slice_get m.definitions (length done)) one other at
               (subst (λ all. slice_get all (length done) ≡ Some other) inner.definitions there)
 
     -- the answer of the body

@@ -4,13 +4,13 @@
 --     kept_walked                         a fact that stays
 use Rattle.std.proofs.Common.{ℕ, Bool, true, false, List, slice_get, Result, Ok, Err, refl, if◌then◌else◌}
 use Rattle.std.specs.List.{AllByRecursion}
-use Rattle.hs_expressions.specs.Laws.{IsScoped}
 use Rattle.hs_expressions.specs.Laws.Reached.{all_so}
 use Rattle.hs_fitting.specs.Claims.{Claims, ObjectsStay, RefersTo, IsVariableIn, IsLink, IsExternal, IsRoutineDeclared, IsRegisteredAs, IsMetAs, Endures, IsObjectRight, Stands, Proceeds}
-use Rattle.hs_fitting.specs.Links.{none_some, objects_self, refers_later}
-use Rattle.hs_fitting.specs.Moves.{Moves, moves_self}
-use Rattle.hs_fitting.specs.Moving.{Moving, Moved}
+use Rattle.hs_fitting.specs.Links.{objects_self, refers_later}
+use Rattle.hs_fitting.specs.Moves.{Moves}
+use Rattle.hs_fitting.specs.Moving.{Moving}
 use Rattle.hs_fitting.specs.Setting.{typed_stay, typed_right}
+use Rattle.hs_fitting.specs.Tests.{some_none}
 use Rattle.hs_fitting.specs.Walk.{Nothing, Walked, Walking}
 use Rattle.hs_linkage.specs.Linkage.{object_typed}
 use Rattle.hs_linkage.specs.Objects.{object_as}
@@ -111,7 +111,7 @@ module _ (program : TypedProgram) (here : List ℕ → Bool) (its : Claims) (m :
         routines = λ number id is. is;
         objects = stay;
         met = λ it is. met_as it.internal m names objects it is;
-        fresh = λ number id it is free at met. none_some (its.functions number) id free is;
+        fresh = λ number id it is free at met. some_none (its.functions number) id is free;
       }
 
 module _ (here : List ℕ → Bool) (program : TypedProgram) (function : TypedFunction) where
@@ -190,20 +190,3 @@ module _ (here : List ℕ → Bool) (program : TypedProgram) (function : TypedFu
         gives = walked.gives;
       }
   kept_walked after holds keeps its m stays is (Err why) moves walking = tt
-
--- ---- the type of an object
-
--- other objects
-objects_moves : (m : Translator) (objects : List StaticObject) → IsScoped m.typer → Moves m (record m { objects = objects })
-objects_moves m objects scoped =
-    let still = moves_self m scoped in
-    record { typer = still.typer; scoped = still.scoped; definitions = still.definitions; locals = still.locals }
-
--- by a declaration
-pub object_typed_moved : (it : Entity) → Moved (object_typed it)
-object_typed_moved (entity.Constant bits) = record { from = λ m scoped. moves_self m scoped }
-object_typed_moved (entity.Variable (variable.Global place) id) =
-    record { from = λ m scoped. objects_moves m (object_as m.typer.types id (slice_get m.objects place) m.objects place) scoped }
-object_typed_moved (entity.Variable (variable.Local place) id) = record { from = λ m scoped. moves_self m scoped }
-object_typed_moved (entity.Function id its) = record { from = λ m scoped. moves_self m scoped }
-object_typed_moved (entity.Typedef id) = record { from = λ m scoped. moves_self m scoped }

@@ -14,6 +14,7 @@ use Rattle.hs_fitting.specs.Found.{same_texts, link_found}
 use Rattle.hs_fitting.specs.Links.{HasShape, objects_self, refers_typed, global_typed, bound_typed, declared_again}
 use Rattle.hs_fitting.specs.Making.{function_category, IsFunction, agrees_typed, declared_function, function_typed}
 use Rattle.hs_fitting.specs.Shapes.{SameShape, agree_shape, composite_shape, shape_turned}
+use Rattle.hs_fitting.specs.Tests.{true_false, not_false, some_same}
 use Rattle.hs_linkage.specs.Definitions.{same_name}
 use Rattle.hs_linkage.specs.Externals.{type_of_entity, agrees_in, newest_external}
 use Rattle.hs_linkage.specs.Linkage.{bound_to, with_type_id, composite_of, agrees, agrees_with_all, clash_of, linked_as, external_as, first_link, next_link, link_as, zero_object, new_function, new_object, is_function}
@@ -84,21 +85,6 @@ no_internal : (o : Option Linked) → o ≡ None → IsInternalLink o → ⊥
 no_internal None same is = is
 no_internal (Some it) same is = absurd cc
 
--- the test was met
-not_not : (b : Bool) → not b ≡ false → b ≡ true
-not_not true is = refl
-not_not false is = absurd cc
-
--- and it is met or it is not
-not_either : (b : Bool) → b ≡ true → b ≡ false → ⊥
-not_either b is is' = cc
-
--- and one of two was not
-pub not_both : (a b : Bool) → (a && not b) ≡ false → a ≡ true → b ≡ true
-not_both true true is met = refl
-not_both true false is met = absurd cc
-not_both false b is met = absurd cc
-
 -- a function with another type of its shape
 typed_again : (types : TypeTable) (id : TypeId) (it : Entity) → IsTypedIn types it → HasShape types it id → IsTypedIn types (with_type_id id it)
 typed_again types id (entity.Constant bits) is shape = tt
@@ -156,7 +142,7 @@ module _ (types : TypeTable) (here : List ℕ → Bool) (its : Claims) (m : Tran
       kept = λ is. absurd (no_internal (find word.text m.links) unlinked is);
       refers = inr (record { own = new_object_refers; typed = new_object_refers });
       made = inr (same, refl);
-      kind = λ is. absurd (not_either (is_function m.typer.types id) is same);
+      kind = λ is. absurd (true_false (is_function m.typer.types id) is same);
       typed = tt;
     },
     refl,
@@ -240,7 +226,7 @@ module _ (program : TypedProgram) (here : List ℕ → Bool) (its : Claims) (var
       new_chosen program.types here its m word id true inside unlinked (λ is. absurd cc) (is_function m.typer.types id) refl
   first_chosen false inside unlinked =
       gives_unless _ _ (clash_of word) m (not (agrees_with_all m word.text id m.externals))
-      (λ fits. external_by (not_not (agrees_with_all m word.text id m.externals) fits) unlinked (newest_external word.text m.externals) refl)
+      (λ fits. external_by (not_false (agrees_with_all m word.text id m.externals) fits) unlinked (newest_external word.text m.externals) refl)
 
   -- ---- once more
 
@@ -249,9 +235,6 @@ module _ (program : TypedProgram) (here : List ℕ → Bool) (its : Claims) (var
   known_shape None fits other is = absurd cc
   known_shape (Some old) fits other is =
       subst (λ its. SameShape program.types its id) (some_same old other is) (agree_shape m.typer.types program.types m.typer.origins old id grows fits)
-    where
-      some_same : (a b : TypeId) → Some a ≡ Some b → a ≡ b
-      some_same a b same = cc
 
   -- and the type that both make together
   together_shape : (known : Option TypeId) → agrees m id known ≡ true → (other : TypeId) → known ≡ Some other
@@ -261,9 +244,6 @@ module _ (program : TypedProgram) (here : List ℕ → Bool) (its : Claims) (var
       subst (λ its. SameShape program.types its (composite_of m.typer.types (Some old) id)) (some_same old other is)
       (shape_turned program.types (composite_of m.typer.types (Some old) id) old
       (composite_shape program.types m.typer.types old id (agree_shape m.typer.types program.types m.typer.origins old id grows fits)).0)
-    where
-      some_same : (a b : TypeId) → Some a ≡ Some b → a ≡ b
-      some_same a b same = cc
 
   -- by the types that are known
   together_here : (known : Option TypeId) → agrees m id known ≡ true → (other : TypeId) → known ≡ Some other
@@ -274,9 +254,6 @@ module _ (program : TypedProgram) (here : List ℕ → Bool) (its : Claims) (var
       (shape_turned m.typer.types (composite_of m.typer.types (Some old) id) old
       (composite_shape m.typer.types m.typer.types old id
       (agree_shape m.typer.types m.typer.types m.typer.origins old id (grows_self m.typer.types) fits)).0)
-    where
-      some_same : (a b : TypeId) → Some a ≡ Some b → a ≡ b
-      some_same a b same = cc
 
   -- it is what it was
   again_chosen : (it : Linked) → find word.text m.links ≡ Some it → agrees m id (type_of_entity it.entity) ≡ true
@@ -315,7 +292,7 @@ module _ (program : TypedProgram) (here : List ℕ → Bool) (its : Claims) (var
       gives_unless _ _ (Untyped word.place) m (static && not it.internal)
       (λ a. gives_unless _ _ (clash_of word) m (not (agrees m id (type_of_entity it.entity)))
       (λ fits. gives_unless _ _ (clash_of word) m (not it.internal && not (agrees_with_all m word.text id m.externals))
-      (λ c. (again_chosen it found (not_not (agrees m id (type_of_entity it.entity)) fits), refl))))
+      (λ c. (again_chosen it found (not_false (agrees m id (type_of_entity it.entity)) fits), refl))))
 
   -- what the name was linked to in the unit
   pub link_as_chosen : (static : Bool) → (static ≡ true → here word.text ≡ true) → (found : Option Linked) → find word.text m.links ≡ found

@@ -3,12 +3,13 @@
 --     chosen_claims                               there are such claims, where it fits all declarations that are bound to a routine
 use Rattle.std.proofs.Common.{◌≡◌, ◌⊎◌, inl, inr, ℕ, Bool, true, false, not, ◌&&◌, List, slice_get, Option, Some, None, IsTrue, is_some, refl, sym, ap, subst, ◌∙◌, if◌then◌else◌}
 use Rattle.std.specs.Prelude.{◌==◌}
-use Rattle.hs_fitting.specs.Chosen.{AreReferring, IsNew, IsChosen, not_both, newest_shape}
+use Rattle.hs_fitting.specs.Chosen.{AreReferring, IsNew, IsChosen, newest_shape}
 use Rattle.hs_fitting.specs.Claims.{Claims, IsClaimed, RefersTo, IsRoutineOf, IsRoutineDeclared, IsInternalLink, IsRegistered, IsRegisteredAs, IsMet, IsMetAs, IsFirstRoutine, Stands}
 use Rattle.hs_fitting.specs.Entities.{newest_has}
 use Rattle.hs_fitting.specs.Found.{same_texts, place_found, place_there, IsThere}
 use Rattle.hs_fitting.specs.Links.{ClaimsStay, HasShape, claimed_typed, claim_at, claim_here, claim_stays, claim_back}
-use Rattle.hs_fitting.specs.Shapes.{both_tests, shape_self}
+use Rattle.hs_fitting.specs.Shapes.{shape_self}
+use Rattle.hs_fitting.specs.Tests.{both_tests, not_both, one_there, some_there, is_there}
 use Rattle.hs_linkage.specs.Definitions.{same_name, first_place, is_definition_of}
 use Rattle.hs_linkage.specs.Externals.{newest_external}
 use Rattle.hs_linkage.specs.Linkage.{bound_as, bound_to, agrees_with_all, is_routine_entity}
@@ -62,27 +63,10 @@ bound_routine (Some other) b number is = absurd cc
 bound_routine None (Some other) number is = cc
 bound_routine None None number is = absurd cc
 
--- at one place
-one_there : {A : Type 0} → (o : Option A) (a b : A) → o ≡ Some a → o ≡ Some b → a ≡ b
-one_there {A = A} o a b is is' = some_same a b (sym is ∙ is')
-  where
-    some_same : (a b : A) → Some a ≡ Some b → a ≡ b
-    some_same a b same = cc
-
 -- nothing is there
 none_there : {A : Type 0} → (o : Option A) → o ≡ None → IsTrue (is_some o) → ⊥
 none_there None same is = absurd cc
 none_there (Some it) same is = absurd cc
-
--- something is there
-some_there : {A : Type 0} → (o : Option A) → IsTrue (is_some o) → (it : A) × (o ≡ Some it)
-some_there None is = absurd cc
-some_there (Some it) is = (it, refl)
-
--- and so it is
-is_there : {A : Type 0} → (o : Option A) (it : A) → o ≡ Some it → IsTrue (is_some o)
-is_there None it same = absurd cc
-is_there (Some other) it same = refl
 
 -- a test of an external function
 not_true : (b : Bool) → not b ≡ true → b ≡ false
@@ -261,8 +245,12 @@ module _ (program : TypedProgram) (here : List ℕ → Bool) (its : Claims) (var
       → IsClaiming program.types its m word id it objects
   routine_by grows it objects number found same agree None free =
       let one = place_there (λ it. same_name it.name word.text) m.typer.table number found in
-      routine_claims it objects number same free
-      (one.0, one.1, subst (λ name. first_place (λ it. same_name it.name name) m.typer.table ≡ Some number) (sym (routine_named number found one.0 one.1)) found)
+      routine_claims it objects number same free (
+        one.0,
+        one.1,
+        subst (λ name. first_place (λ it. same_name it.name name) m.typer.table ≡ Some number)
+            (sym (routine_named number found one.0 one.1)) found,
+      )
       (routine_named number found)
   routine_by grows it objects number found same agree (Some other) claimed =
       let one = place_there (λ it. same_name it.name word.text) m.typer.table number found in

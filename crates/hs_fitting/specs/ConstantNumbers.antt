@@ -6,7 +6,7 @@
 --     number_right                        the law
 use Rattle.std.proofs.Common.{◌≡◌, ℕ, ◌<◌, ◌+◌, ◌%◌, ◌==◌, Bool, true, false, not, Option, Some, None, refl, sym, subst, ap, ◌∙◌, if◌then◌else◌, arith}
 use Rattle.std.specs.Prelude.{is_some, nat_lt, option_map}
-use Rattle.hs_fitting.specs.Answers.{answered}
+use Rattle.hs_fitting.specs.Tests.{some_same}
 use Rattle.hs_operands.specs.Constants.{number_value, converted_value, of_chosen, cast_value, constant_value}
 use Rattle.hs_operands.specs.Laws.{IsTyped}
 use Rattle.hs_operands.specs.Laws.Made.{either_way}
@@ -145,7 +145,7 @@ number_not_void types id is = number_row_not_void (row_of types id) is
 -- of what a value was made
 number_known : (o : Option Integer) (bits : ℕ) (v : _) → number_value o bits ≡ Some v → v.bits ≡ bits
 number_known None bits v given = absurd cc
-number_known (Some its) bits v given = sym (ap (λ w. w.bits) (answered _ v given))
+number_known (Some its) bits v given = sym (ap (λ w. w.bits) (some_same _ v given))
 
 cast_known : (b : Bool) (o : _) (v : _) → cast_value b o ≡ Some v → (b ≡ true) × (o ≡ Some v)
 cast_known true o v given = (refl, given)
@@ -153,7 +153,7 @@ cast_known false o v given = absurd cc
 
 mapped_known : {A : Type 0} → (f : A → A) (o : Option A) (v : A) → option_map f o ≡ Some v → (w : A) × (o ≡ Some w) × (f w ≡ v)
 mapped_known f None v given = absurd cc
-mapped_known f (Some w) v given = (w, refl, answered (f w) v given)
+mapped_known f (Some w) v given = (w, refl, some_same (f w) v given)
 
 -- one of two
 chosen_in : (holds : ℕ → Type 0) (o p q : _) (v : _) → of_chosen o p q ≡ Some v → ((a : _) → p ≡ Some a → holds a.bits)
@@ -162,7 +162,7 @@ chosen_in holds None p q v given is is' = absurd cc
 chosen_in holds (Some test) None q v given is is' = absurd cc
 chosen_in holds (Some test) (Some a) None v given is is' = absurd cc
 chosen_in holds (Some test) (Some a) (Some b) v given is is' =
-    subst (λ w. holds w.bits) (answered _ v given)
+    subst (λ w. holds w.bits) (some_same _ v given)
     (either_way holds (not (test.bits == 0)) a.bits b.bits (λ met. is a refl) (λ fails. is' b refl))
 
 module _ (program : TypedProgram) where

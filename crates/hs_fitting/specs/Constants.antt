@@ -6,9 +6,10 @@
 use Rattle.std.proofs.Common.{◌≡◌, ℕ, ℤ, Bool, true, false, not, ◌&&◌, Option, Some, None, refl, sym, subst, ap, ◌∙◌, if◌then◌else◌}
 use Rattle.std.specs.Prelude.{is_some, slice_get, IsTrue, pos, ◌+ℤ◌}
 use Rattle.hs_expressions.specs.Binding.Keeping.{IsBound, IsBoundObject}
-use Rattle.hs_fitting.specs.Answers.{answered, none_some, Given}
+use Rattle.hs_fitting.specs.Answers.{none_some, Given}
 use Rattle.hs_fitting.specs.Categories.{pointer_not_void, array_no_scalar, alike_scalar, element_pointer, sized_pointer, struct_pointer}
 use Rattle.hs_fitting.specs.ConstantNumbers.{HasWideKinds, InKind, number_right}
+use Rattle.hs_fitting.specs.Tests.{some_same}
 use Rattle.hs_initialisers.specs.Addresses.{start_of, is_offset, address_at, bytes_over, moved, stepped, address_value, address_of_object, is_null, constant_by, constant_in}
 use Rattle.hs_operands.specs.Constants.{constant_value}
 use Rattle.hs_operands.specs.Laws.{IsTyped, IsTypedObject}
@@ -36,7 +37,7 @@ Address = Given start_of
 
 -- so many bytes on, in the same object
 at_known : (b : Bool) (its : Base) (bytes : ℤ) (a : Address) → address_at its bytes ≡ Some a → is_offset bytes ≡ b → its ≡ a.base
-at_known true its bytes a given same = ap (λ it. it.base) (answered (record { base = its; offset = bytes }) a (sym (rw same refl) ∙ given))
+at_known true its bytes a given same = ap (λ it. it.base) (some_same (record { base = its; offset = bytes }) a (sym (rw same refl) ∙ given))
 at_known false its bytes a given same = absurd (none_some a (sym (rw same refl) ∙ given))
 
 moved_known : (bytes : ℤ) (o : Option Address) (a : Address) → moved bytes o ≡ Some a → (it : Address) × (o ≡ Some it) × (it.base ≡ a.base)
@@ -195,10 +196,10 @@ module _ (program : TypedProgram) (function : TypedFunction) where
       pub object_base : (it : LeftValue) → IsTypedObject program function it → IsBoundObject program function it → Unslotted it → (a : Address)
           → address_of_object types it ≡ Some a → IsBase program a.base
       object_base (tree.variable head (name.Global place)) is bound unslotted a given =
-          subst (λ it. IsBase program it.base) (answered (start_of (base.Global place)) a given) unslotted
+          subst (λ it. IsBase program it.base) (some_same (start_of (base.Global place)) a given) unslotted
       object_base (tree.variable head (name.Local place)) is bound unslotted a given = absurd cc
       object_base (tree.literal head number) is bound unslotted a given =
-          subst (λ it. IsBase program it.base) (answered (start_of (base.Literal number)) a given) bound.0
+          subst (λ it. IsBase program it.base) (some_same (start_of (base.Literal number)) a given) bound.0
       object_base (tree.target head pointer) is bound unslotted a given =
           (address_right pointer is.1 bound.1 (pointer_not_void program.types (type_of pointer) is.0.0) a given).1
       object_base (tree.element head size true b c) is bound unslotted a given =
@@ -227,14 +228,14 @@ module _ (program : TypedProgram) (function : TypedFunction) where
       where
         by : (b : Bool) → v.fails ≡ b → (if v.fails then None else Some (constant.Number v.bits)) ≡ Some c → IsConstant program id c
         by true fails given' = absurd (none_some c (sym (rw fails refl) ∙ given'))
-        by false fails given' = subst (IsConstant program id) (answered (constant.Number v.bits) c (sym (rw fails refl) ∙ given')) is
+        by false fails given' = subst (IsConstant program id) (some_same (constant.Number v.bits) c (sym (rw fails refl) ∙ given')) is
 
     constant_by_right : (e : RightValue) → IsTyped program function e → IsBound program function e → HasWideKinds e
         → is_void program.types (type_of e) ≡ false → IsRight program.types → Grows types program.types → (v : _) (a : Option Address) (c : Constant)
         → constant_value types e ≡ v → address_value types e ≡ a → constant_by v a ≡ Some c → IsConstant program (type_of e) c
     constant_by_right e is bound wide some sound grows None None c number address given = absurd cc
     constant_by_right e is bound wide some sound grows None (Some a) c number address given =
-        subst (IsConstant program (type_of e)) (answered (constant.Address a.base a.offset) c given) (address_right e is bound some a address)
+        subst (IsConstant program (type_of e)) (some_same (constant.Address a.base a.offset) c given) (address_right e is bound some a address)
     constant_by_right e is bound wide some sound grows (Some v) a c number address given =
         number_constant (type_of e) v a c given (number_right program function sound types grows e is wide v number)
 
@@ -242,7 +243,7 @@ module _ (program : TypedProgram) (function : TypedFunction) where
         → is_void program.types (type_of e) ≡ false → IsRight program.types → Grows types program.types → (c : Constant) → is_null e ≡ b
         → (if b then Some constant.Nil else constant_by (constant_value types e) (address_value types e)) ≡ Some c → IsConstant program (type_of e) c
     constant_if true e is bound wide some sound grows c null given =
-        subst (IsConstant program (type_of e)) (answered constant.Nil c given) (null_pointer e is some null)
+        subst (IsConstant program (type_of e)) (some_same constant.Nil c given) (null_pointer e is some null)
     constant_if false e is bound wide some sound grows c null given =
         constant_by_right e is bound wide some sound grows (constant_value types e) (address_value types e) c refl refl given
 

@@ -80,7 +80,7 @@ tag_as_always word None = then_always (new_tag_always word) (λ number. gives_al
 tag_as_always word (Some (tag.Struct number)) = gives_always tt
 tag_as_always word (Some (tag.Enumeration number)) = refuses_always (Untyped word.place)
 
-tag_always : (word : Word) → Always IsConstant (tag_alone word)
+pub tag_always : (word : Word) → Always IsConstant (tag_alone word)
 tag_always word = record { from = λ s scoped. (tag_as_always word (find_here word.text s.tags)).from s scoped }
 
 -- ---- steps of programs
@@ -147,7 +147,7 @@ link_moved static word id =
     (λ found. then_moved (link_as static word id found) (link_as_moved static word id found)
     (λ it. then_moved (compatible_routines word id it) (unless_moved _ _) (λ fits. noted_moved word it)))
 
-object_typed_moved : (it : Entity) → Moved (object_typed it)
+pub object_typed_moved : (it : Entity) → Moved (object_typed it)
 object_typed_moved (entity.Constant bits) = record { from = λ m scoped. moves_self m scoped }
 object_typed_moved (entity.Variable (variable.Global place) id) =
     record { from = λ m scoped. moves_beside m _ m.links m.externals m.routines scoped }

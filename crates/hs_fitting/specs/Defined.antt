@@ -228,7 +228,8 @@ module _ (program : TypedProgram) (here : List ℕ → Bool) (sound : IsRight pr
           (λ it is. refers_then it (parameter_refers program here its m id new opened stands it is))
           (all_so (λ it. RefersTo program.types its m.objects it.entity) (λ it. RefersTo program.types linking.claims p.1.objects it.entity)
           (λ it is. refers_then it.entity is) opened.mid.names.declarations (around_refer program here its m id new opened stands)))
-          (named_all (IsVariableIn program.types variables) (global_in program.types variables p.0 (linking_global program here its variables here_opened word id p linking))
+          (named_all (IsVariableIn program.types variables) (global_in program.types variables p.0
+          (linking_global program here its variables here_opened word id p linking))
           linking.stands.locals (parameter_variable program here its m id new opened stands variables (typed_types word opened.ids))
           (all_so (λ it. IsVariableIn program.types [] it.entity) (λ it. IsVariableIn program.types variables it.entity)
           (λ it is. outside_variable program here its m id new opened stands variables it.entity is) opened.mid.names.declarations
@@ -236,7 +237,7 @@ module _ (program : TypedProgram) (here : List ℕ → Bool) (sound : IsRight pr
           linking.stands.calls linking.stands.right
           (endures_scopes program linking.claims p.1 here_named.typer.names p.1.typer.tags) linking.stands
 
-      -- behind its parameters
+      -- after its parameters
       module _ (c : Translator) (given_here : Moves here_named c) (has : HasParameters here_named opened.ids c) where
         -- they are the only variables
         locals_then : types_of c.locals ≡ opened.ids

@@ -50,7 +50,8 @@ use Rattle.hs_types.specs.declared.row.TypeId.{TypeId}
 -- ---- from an earlier place
 
 defining_behind : (program : TypedProgram) (here : List ℕ → Bool) (its : Claims) (m n : Translator) (done : List TypedFunction)
-    → n.definitions ≡ m.definitions → n.typer.origins.unit ≡ m.typer.origins.unit → Proceeds program.types its m its n → (given : Result (TypedFunction × Translator) TypeError)
+    → n.definitions ≡ m.definitions → n.typer.origins.unit ≡ m.typer.origins.unit → Proceeds program.types its m its n →
+    (given : Result (TypedFunction × Translator) TypeError)
     → DefiningRight program here its n done given → DefiningRight program here its m done given
 defining_behind program here its m n done same unit proceeds (Ok p) right = λ grows.
     let is : DefinedRight program here its n done p = right grows in
@@ -167,7 +168,8 @@ module _ (program : TypedProgram) (here : List ℕ → Bool) (sound : IsRight pr
         let after : Translator = record m { typer = p.1 } in
         let inner = scoped_after IsConstant m.typer p.1 reached scoped in
         grown_fits program here its m after done (defined_said (length done) place stored it body p.0 after)
-        (said_fits after (subst (λ locals. Rattle.hs_fitting.specs.Passes.AreWhole p.1.types locals) (sym none) tt) inner (length done) place stored it body p.0)
+        (said_fits after (subst (λ locals. Rattle.hs_fitting.specs.Passes.AreWhole p.1.types locals) (sym none) tt) inner
+        (length done) place stored it body p.0)
         (λ grows. let stood : Stands program here its [] after = stands_front p.1 reached (noted.calls grows stands.calls) (noted.right stands.right) in
         let proceeds : Proceeds program.types its m its after = proceeds_typer program here its m p.1 reached.unit reached.table in
         defining_behind program here its m after done refl reached.unit proceeds (defined_said (length done) place stored it body p.0 after)

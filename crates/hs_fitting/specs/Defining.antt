@@ -20,6 +20,7 @@ use Rattle.hs_fitting.specs.Moves.{IsWhole, HasLocals, same_locals}
 use Rattle.hs_fitting.specs.Moving.{Moving, Moved, passes_moved, stops_moved, then_moved}
 use Rattle.hs_fitting.specs.Passes.{AreWhole, Passes, count_types, each_whole, marked_types, no_fewer, passes_moves, passes_then, whole_with}
 use Rattle.hs_fitting.specs.Stating.{body_moved}
+use Rattle.hs_fitting.specs.Tests.{or_true}
 use Rattle.hs_functions.specs.Functions.{is_only, named_parameter, first_type, next_type, parameter_in, parameters_in, counts, finished, defined_with, defined_of, defined_as, defined_by, defined_said, brace_of, defined, parameters_of, is_of_other}
 use Rattle.hs_functions.specs.Opening.{opened_type, named_outside}
 use Rattle.hs_linkage.specs.Linkage.{clash_of, is_free, link}
@@ -91,10 +92,6 @@ gives_by : (old new : TypeTable) (id : TypeId) → Grows old new → (a b : Bool
     → Gives new id
 gives_by old new id grows true b is too either = rw (is_void-stays old new grows id is) refl
 gives_by old new id grows false true is too either = rw (is_readable-stays old new grows id too) (or_true (is_void new id))
-  where
-    or_true : (b : Bool) → (b || true) ≡ true
-    or_true true = refl
-    or_true false = refl
 gives_by old new id grows false false is too either = absurd cc
 
 pub gives_stays : (old new : TypeTable) (id : TypeId) → Grows old new → Gives old id → Gives new id
@@ -143,7 +140,8 @@ module _ (m : Translator) (are : AreWhole m.typer.types m.locals) (word : Word) 
 
   after_parameters : (mid : Typer) (n : Translator) → Inner m mid n → Gives n.typer.types its → (given : Result (Unit {0} × Translator) TypeError)
       → Moving n given
-      → FitsGiven m (work_with {A = Unit {0}} {B = TypedFunction} (λ declared. counts >>= (λ done. body_of its body >>= (λ made. finished word.text word.place its done.0 done.1 made))) given)
+      → FitsGiven m (work_with {A = Unit {0}} {B = TypedFunction}
+      (λ declared. counts >>= (λ done. body_of its body >>= (λ made. finished word.text word.place its done.0 done.1 made))) given)
   after_parameters mid n inner gives (Ok p) moves =
       after_body mid p.1 (inner_moves m mid n p.1 inner moves) (gives_stays n.typer.types p.1.typer.types its moves.typer.types gives)
       (body_of its body p.1) ((body_moved its body).from p.1 moves.scoped)

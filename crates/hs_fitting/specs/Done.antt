@@ -3,9 +3,10 @@
 --     AreDone program its m done         so it is of these functions
 --     done_later                         at a later place of the text
 --     done_with                          with one more
-use Rattle.std.proofs.Common.{◌≡◌, ℕ, zero, suc, Bool, List, [], ◌∷◌, ◌++◌, length, slice_get, Option, Some, None, IsTrue, is_some, refl, ap, subst, ◌∙◌}
+use Rattle.std.proofs.Common.{◌≡◌, ℕ, zero, suc, Bool, List, [], ◌∷◌, ◌++◌, length, slice_get, Option, Some, None, refl, ap, subst, ◌∙◌}
 use Rattle.hs_expressions.specs.Binding.{IsDefined}
 use Rattle.hs_fitting.specs.Claims.{Claims, IsMet, Stands, Proceeds}
+use Rattle.hs_fitting.specs.Tests.{some_same, one_there, some_there}
 use Rattle.hs_linkage.specs.declared.definitions.Definition.{Definition}
 use Rattle.hs_linkage.specs.declared.translator.Translator.{Translator}
 use Rattle.hs_tree.specs.Trees.{TypedFunction, TypedProgram}
@@ -23,15 +24,6 @@ pub record AreDone (program : TypedProgram) (its : Claims) (m : Translator) (don
 pub none_done : (program : TypedProgram) (its : Claims) (m : Translator) → AreDone program its m []
 none_done program its m = record { shaped = λ number id it at claimed. absurd cc; met = λ number it one at. absurd cc }
 
--- something is there
-some_there : {A : Type 0} → (o : Option A) → IsTrue (is_some o) → (it : A) × (o ≡ Some it)
-some_there None is = absurd cc
-some_there (Some it) is = (it, refl)
-
--- one claim
-one_claim : (o : Option TypeId) (a b : TypeId) → o ≡ Some a → o ≡ Some b → a ≡ b
-one_claim o a b is is' = cc
-
 module _ (program : TypedProgram) (here : List ℕ → Bool) (its later : Claims) (variables : List VariableDecl) (m n : Translator)
     (same : n.definitions ≡ m.definitions) (proceeds : Proceeds program.types its m later n) where
   -- a function that was met and is claimed later was claimed
@@ -47,7 +39,7 @@ module _ (program : TypedProgram) (here : List ℕ → Bool) (its later : Claims
 
       by_claim : (o : Option TypeId) → its.functions number ≡ o → its.functions number ≡ Some id
       by_claim None free = absurd (proceeds.fresh number id one.0 claimed free there (met one.0 there))
-      by_claim (Some first) is = is ∙ ap Some (one_claim (later.functions number) first id (proceeds.functions number first is) claimed)
+      by_claim (Some first) is = is ∙ ap Some (one_there (later.functions number) first id (proceeds.functions number first is) claimed)
 
   -- at a later place of the text
   pub done_later : (done : List TypedFunction) → Stands program here later variables n → AreDone program its m done → AreDone program later n done
@@ -64,9 +56,6 @@ module _ (program : TypedProgram) (here : List ℕ → Bool) (its later : Claims
 either_at : {A : Type 0} → (P : ℕ → A → Type 0) (done : List A) (last : A) → ((number : ℕ) (it : A) → slice_get done number ≡ Some it → P number it)
     → P (length done) last → (number : ℕ) (it : A) → slice_get (done ++ last ∷ []) number ≡ Some it → P number it
 either_at P [] last older new zero it at = subst (P zero) (some_same last it at) new
-  where
-    some_same : {A : Type 0} → (a b : A) → Some a ≡ Some b → a ≡ b
-    some_same a b same = cc
 either_at P [] last older new (suc number) it at = absurd cc
 either_at P (first ∷ done) last older new zero it at = older zero it at
 either_at P (first ∷ done) last older new (suc number) it at =

@@ -5,11 +5,12 @@
 --     unfit_among, unfit_self            and its type agrees with itself
 --     IsAmong it its, among_has, all_among   an entry of a list, and what is so of all of them
 use Rattle.std.proofs.Common.{◌≡◌, ◌⊎◌, inl, inr, ℕ, Bool, true, false, not, List, [], ◌∷◌, Option, Some, None, refl, subst, if◌then◌else◌}
-use Rattle.std.specs.Prelude.{◌==◌, ◌&&◌, ◌||◌}
+use Rattle.std.specs.Prelude.{◌==◌, ◌||◌}
 use Rattle.std.specs.Cmp.Lexicographic.{nat_list_eq_equiv}
 use Rattle.std.specs.List.{AllByRecursion}
 use Rattle.hs_expressions.specs.Laws.Reached.{all_so}
-use Rattle.hs_fitting.specs.Shapes.{SameShape, agree_shape, both_tests}
+use Rattle.hs_fitting.specs.Shapes.{SameShape, agree_shape}
+use Rattle.hs_fitting.specs.Tests.{both_tests, not_both}
 use Rattle.hs_linkage.specs.Definitions.{same_name}
 use Rattle.hs_linkage.specs.Externals.{type_of_entity, agrees_in, all_agree, newest_external, agree_if, is_unfit, or_later, if_unfit, unfit}
 use Rattle.hs_linkage.specs.declared.externals.External.{External}
@@ -113,13 +114,7 @@ not_met : (test : Bool) (it : External) → (if test then Some it else None) ≡
 not_met true it is = absurd cc
 not_met false it is = refl
 
--- of this unit, and it fits
-fits_there : (a b : Bool) → (a && not b) ≡ false → a ≡ true → b ≡ true
-fits_there true true is met = refl
-fits_there true false is met = absurd cc
-fits_there false b is met = absurd cc
-
--- with its type
+-- it agrees, with its type
 agrees_if : (types : TypeTable) (o : Origins) (name : List ℕ) (id : TypeId) (all : List External) (given : Option TypeId) → given ≡ Some id
     → agree_if types o name given all ≡ true → all_agree types o name id all ≡ true
 agrees_if types o name id all given known is = subst (λ its. agree_if types o name its all ≡ true) known is
@@ -133,7 +128,7 @@ AgreesWithAll types o all it =
 one_fits : (types : TypeTable) (o : Origins) (all : List External) (it : External) → if_unfit types o all it ≡ None → AgreesWithAll types o all it
 one_fits types o all it is here id known =
     agrees_if types o it.name id all (type_of_entity it.entity) known
-    (fits_there (it.unit == o.unit) (agree_if types o it.name (type_of_entity it.entity) all) (not_met (is_unfit types o all it) it is) here)
+    (not_both (it.unit == o.unit) (agree_if types o it.name (type_of_entity it.entity) all) (not_met (is_unfit types o all it) it is) here)
 
 -- If none is unfit, each does.
 pub unfit_fits : (types : TypeTable) (o : Origins) (all its : List External) → unfit types o all its ≡ None

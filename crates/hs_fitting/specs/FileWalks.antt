@@ -1,45 +1,36 @@
 -- Declarations of file scope refer to what was claimed, and start objects with what fits them (X3.159-1989 3.5 and 3.7.2).
---     tag_notes                       what `struct tag;` notes of calls
 --     then_plain, any_typing          steps of which no fact is wanted
---     unless_grown, tested_walks, given_walks          tests, and facts that do not change
---     is_object_walks                 an object is of no type of functions
---     item_walks, function_declared_walks, nothing_named_walks      declarators, functions and tags, at any level
+--     given_walks                     facts that do not change
+--     item_walks                      the type of a declarator
 --     file_declared_walks             a declaration of file scope
-use Rattle.std.proofs.Common.{◌≡◌, ℕ, Bool, true, false, not, ◌&&◌, ◌||◌, List, [], ◌∷◌, ◌++◌, slice_get, Option, Some, None, is_none, Ok, Err, refl, sym, ap, ◌∙◌, if◌then◌else◌}
+use Rattle.std.proofs.Common.{◌≡◌, ℕ, Bool, true, false, not, ◌&&◌, ◌||◌, List, [], ◌∷◌, ◌++◌, slice_get, Option, Some, None, is_none, refl, sym, ap, ◌∙◌, if◌then◌else◌}
 use Rattle.std.specs.List.{AllByRecursion}
-use Rattle.hs_declarations.specs.Declarations.{is_object, can_start, is_first, object_started, object_with_start, may_be_tentative, file_object, with_inline_words, function_declared, file_entity, is_static, is_typedef_word, file_item_as, file_item, file_items, typedef_as, typedef_item, typedef_types, typedef_named, typedefs_named, typedef_items, nothing_named, file_items_as, file_declared_at, file_declared}
-use Rattle.hs_declarations.specs.Fronts.{front, item_type, tag_alone, tag_alone_as, lone_tag, declares_any, place_of_start}
+use Rattle.hs_declarations.specs.Declarations.{is_object, can_start, is_first, object_started, object_with_start, may_be_tentative, file_object, function_declared, file_entity, is_static, is_typedef_word, file_item_as, file_item, file_items, typedef_as, typedef_item, typedef_types, typedef_named, typedefs_named, typedef_items, file_items_as, file_declared_at, file_declared}
+use Rattle.hs_declarations.specs.Fronts.{front, item_type, lone_tag, place_of_start}
 use Rattle.hs_declarations.specs.declared.fronts.Front.{Front}
 use Rattle.hs_expressions.specs.Expressions.{first_place}
-use Rattle.hs_expressions.specs.Laws.{IsConstant, IsScoped}
-use Rattle.hs_expressions.specs.Laws.Always.{Reaching}
-use Rattle.hs_expressions.specs.Laws.Reached.{reaches_self}
-use Rattle.hs_fitting.specs.Claims.{Claims, RefersTo, Endures, Stands, Proceeds, category_at}
-use Rattle.hs_fitting.specs.Declaring.{either_moved}
+use Rattle.hs_expressions.specs.Laws.{IsConstant}
+use Rattle.hs_fitting.specs.BlockWalks.{either_known_walks, nothing_named_walks, function_declared_walks, object_walks}
+use Rattle.hs_fitting.specs.Claims.{Claims, RefersTo, Endures, Proceeds, category_at}
 use Rattle.hs_fitting.specs.Initialised.{initialised_walks}
 use Rattle.hs_fitting.specs.Known.{typing_known, typing_walks}
 use Rattle.hs_fitting.specs.Lasting.{endures_moves}
 use Rattle.hs_fitting.specs.LinkedNames.{kept_walks, define_object_walks, named_walks, linked_walks, completed_link_walks}
-use Rattle.hs_fitting.specs.Linking.{MayMake}
-use Rattle.hs_fitting.specs.Making.{designates_makes}
 use Rattle.hs_fitting.specs.Moves.{Moves}
-use Rattle.hs_fitting.specs.Moving.{Moved, unless_moved}
-use Rattle.hs_fitting.specs.Noting.{NamesAllow, Noting, Notes, same_noted}
-use Rattle.hs_fitting.specs.NotingCalm.{begun_struct_notes}
+use Rattle.hs_fitting.specs.Moving.{Moved}
+use Rattle.hs_fitting.specs.Noting.{Notes}
 use Rattle.hs_fitting.specs.NotingDeclaring.{front_notes, item_type_notes}
-use Rattle.hs_fitting.specs.NotingInitialising.{inline_words_notes}
 use Rattle.hs_fitting.specs.Storage.{front_static}
-use Rattle.hs_fitting.specs.Walk.{Anywhere, Nothing, Walking, Walks, stays_walked, passes_walks, stops_walks, unless_walks, then_walks, so_walks}
+use Rattle.hs_fitting.specs.Tests.{true_false, not_false}
+use Rattle.hs_fitting.specs.Walk.{Anywhere, Nothing, Walks, passes_walks, stops_walks, unless_walks, then_walks, so_walks}
 use Rattle.hs_fitting.specs.Whole.{MayStart}
 use Rattle.hs_initialisers.specs.Initialisers.{initialised}
-use Rattle.hs_initialisers.specs.InlineWords.{inline_words}
 use Rattle.hs_linkage.specs.Definitions.{has_static}
 use Rattle.hs_linkage.specs.Linkage.{with_type_id, is_function, linked, completed_link, clash_of}
 use Rattle.hs_linkage.specs.Objects.{is_defined}
-use Rattle.hs_linkage.specs.Works.{Work, ◌>>=◌, typing, unless}
+use Rattle.hs_linkage.specs.Works.{Work, ◌>>=◌, typing}
 use Rattle.hs_linkage.specs.declared.translator.Translator.{Translator}
-use Rattle.hs_names.specs.Scopes.{find_here}
-use Rattle.hs_operands.specs.Types.{designates, is_open}
+use Rattle.hs_operands.specs.Types.{is_open}
 use Rattle.hs_syntax.specs.Trees.{Declared, Declaring, Declaration, Initialising, Specification}
 use Rattle.hs_syntax.specs.declared.word.Word.{Word}
 use Rattle.hs_tokens.specs.declared.place.Place.{Place}
@@ -49,44 +40,12 @@ use Rattle.hs_tree.specs.Trees.{TypedFunction, TypedProgram}
 use Rattle.hs_tree.specs.declared.constant.Part.{Part}
 use Rattle.hs_tree.specs.declared.head.Variable.TheVariants as variable
 use Rattle.hs_typer.specs.Declarators.{word_of}
-use Rattle.hs_typer.specs.Specifiers.{begun_struct_as}
 use Rattle.hs_typer.specs.Steps.{Step}
-use Rattle.hs_typer.specs.declared.type_error.TypeError.{TypeError}
 use Rattle.hs_typer.specs.declared.type_error.TypeError.TheVariants.{Untyped}
 use Rattle.hs_typer.specs.declared.typer.Entity.{Entity}
 use Rattle.hs_typer.specs.declared.typer.Entity.TheVariants as entity
-use Rattle.hs_typer.specs.declared.typer.Tag.{Tag}
-use Rattle.hs_typer.specs.declared.typer.Tag.TheVariants as tag
-use Rattle.hs_typer.specs.declared.typer.Typer.{Typer}
-use Rattle.hs_types.specs.TypeTables.{TypeTable, IsRight, Grows, is_complete}
+use Rattle.hs_types.specs.TypeTables.{TypeTable, IsRight, is_complete}
 use Rattle.hs_types.specs.declared.row.TypeId.{TypeId}
-
--- ---- `struct tag;`
-
--- it is made as one whose body begins
-tag_reaches : (word : Word) (o : Option Tag) (s : Typer) → Reaching IsConstant s (begun_struct_as word o s)
-    → Reaching IsConstant s (tag_alone_as word o s)
-tag_reaches word None s is = is
-tag_reaches word (Some (tag.Struct number)) s is = reaches_self IsConstant s
-tag_reaches word (Some (tag.Enumeration number)) s is = tt
-
--- which notes no call
-tag_noting : (Q : ℕ → TypeId → Type 0) (final : TypeTable) (word : Word) (o : Option Tag) (s : Typer) → NamesAllow Q s
-    → Noting Q final (λ it. Unit {0}) s (begun_struct_as word o s) → Noting Q final (λ it. Unit {0}) s (tag_alone_as word o s)
-tag_noting Q final word None s names is =
-    record { names = is.names; fact = tt; table = is.table; types = is.types; right = is.right; calls = is.calls }
-tag_noting Q final word (Some (tag.Struct number)) s names is = same_noted Q final (λ it. Unit {0}) s tt names tt
-tag_noting Q final word (Some (tag.Enumeration number)) s names is = tt
-
--- by what the tag means in its scope
-pub tag_notes : (Q : ℕ → TypeId → Type 0) (final : TypeTable) (word : Word) → Notes Q final IsConstant (λ it. Unit {0}) (tag_alone word)
-tag_notes Q final word =
-    record {
-      always = record {
-        from = λ s scoped. tag_reaches word (find_here word.text s.tags) s ((begun_struct_notes Q final (Some word)).always.from s scoped);
-      };
-      gives = λ s names. tag_noting Q final word (find_here word.text s.tags) s names ((begun_struct_notes Q final (Some word)).gives s names);
-    }
 
 -- ---- facts
 
@@ -112,15 +71,6 @@ started_kept program place id parts its later m n proceeds moves is =
 abbrev AreHere : (List ℕ → Bool) → List Declaring → Type 0
 AreHere here its = AllByRecursion (λ item. (word : Word) → word_of item.declarator ≡ Some word → here word.text ≡ true) its
 
--- a test that did not fail
-not_false : (b : Bool) → not b ≡ false → b ≡ true
-not_false true is = refl
-not_false false is = absurd cc
-
--- a test has one answer
-true_false : (b : Bool) → b ≡ true → b ≡ false → ⊥
-true_false b is is' = cc
-
 -- ---- steps
 
 module _ {here : List ℕ → Bool} {program : TypedProgram} {function : TypedFunction} where
@@ -139,79 +89,16 @@ module _ {here : List ℕ → Bool} {program : TypedProgram} {function : TypedFu
       → Walks here program function pre (typing step) Nothing (λ it. Unit {0})
   any_typing step notes = typing_walks step notes (λ s scoped counts knows binds p given noted. tt)
 
-  -- a test, by the types of the program
-  pub unless_grown : {pre : Claims → Translator → Type 0} → {after : Claims → Translator → Unit {0} → Type 0} → (why : TypeError)
-      (test : Translator → Bool)
-      → ((its : Claims) (m : Translator) → pre its m → test m ≡ false → Grows m.typer.types program.types → after its m tt)
-      → Walks here program function pre (unless why test) after (λ it. Unit {0})
-  unless_grown {pre = pre} {after = after} why test known =
-      record {
-        moved = unless_moved why test;
-        from = λ its m scoped counts stands met. by_test (test m) its m stands met refl;
-      }
-    where
-      by_test : (b : Bool) (its : Claims) (m : Translator) → Stands program here its m.locals m → pre its m → test m ≡ b
-          → Walking here program function its m after (λ it. Unit {0}) (if b then Err why else Ok (tt, m))
-      by_test true its m stands met is = tt
-      by_test false its m stands met is = λ grows.
-          stays_walked here program function after (λ it. Unit {0}) tt its m stands (known its m met is grows) tt grows
-
-  -- both ways of a test, each of which knows it
-  pub tested_walks : {A : Type 0} → {pre : Claims → Translator → Type 0} → {after : Claims → Translator → A → Type 0} → {holds : A → Type 0}
-      → (test : Translator → Bool) (one other : Work A)
-      → Walks here program function (λ its m. pre its m × (test m ≡ true)) one after holds
-      → Walks here program function (λ its m. pre its m × (test m ≡ false)) other after holds
-      → Walks here program function pre (λ m. if test m then one m else other m) after holds
-  tested_walks {pre = pre} {after = after} {holds = holds} test one other is is' =
-      record {
-        moved = either_moved test one other is.moved is'.moved;
-        from = λ its m scoped counts stands met. both (test m) its m scoped counts stands met refl;
-      }
-    where
-      both : (b : Bool) (its : Claims) (m : Translator) → IsScoped m.typer → m.typer.counts ≡ true → Stands program here its m.locals m → pre its m
-          → test m ≡ b → Walking here program function its m after holds (if b then one m else other m)
-      both true its m scoped counts stands met known = is.from its m scoped counts stands (met, known)
-      both false its m scoped counts stands met known = is'.from its m scoped counts stands (met, known)
-
   -- with a fact that does not depend on the place
   pub given_walks : {A : Type 0} → {after : Claims → Translator → A → Type 0} → {holds : A → Type 0} → {work : Work A} → (P : Type 0)
       → Moved work → (P → Walks here program function Anywhere work after holds) → Walks here program function (λ its m. P) work after holds
   given_walks P moved walks =
       record { moved = moved; from = λ its m scoped counts stands met. (walks met).from its m scoped counts stands tt }
 
-  -- ---- objects and functions
-
-  -- an object is of no type of functions
-  pub is_object_walks : {pre : Claims → Translator → Type 0} → (word : Word) (id : TypeId)
-      → Walks here program function pre (is_object word id) (λ its m done. IsNoFunction program.types id) (λ done. Unit {0})
-  is_object_walks word id =
-      unless_grown (Untyped word.place) (λ m. not (designates m.typer.types id))
-      (λ its m met is grows. designates_makes m.typer.types program.types id grows (not_false (designates m.typer.types id) is))
-
   -- the type of a declarator
   pub item_walks : (at : Place) (base : TypeId) (it : Declared)
       → Walks here program function Anywhere (typing (item_type at base it)) Nothing (λ id. Unit {0})
   item_walks at base it = any_typing (item_type at base it) (λ Q. item_type_notes Q program.types at base it)
-
-  -- the words of an inline trap
-  words_walks : {pre : Claims → Translator → Type 0} → (it : Option Initialising)
-      → Walks here program function pre (with_inline_words it) Nothing (λ done. Unit {0})
-  words_walks None = passes_walks tt (λ its m met. tt) tt
-  words_walks (Some it) = any_typing (inline_words it) (λ Q. inline_words_notes Q program.types it)
-
-  -- a function that is declared, at any level
-  pub function_declared_walks : (static : Bool) (word : Word) (id : TypeId) (it : Option Initialising) → (static ≡ true → here word.text ≡ true)
-      → Walks here program function (λ its m. MayMake program m id) (function_declared static word id it) Nothing (λ done. Unit {0})
-  function_declared_walks static word id it inside =
-      then_plain (linked static word id) (linked_walks static word id inside) (λ its. words_walks it)
-
-  -- specifiers without a declarator
-  pub nothing_named_walks : (at : Place) (its : Specification) (word : Option Word)
-      → Walks here program function Anywhere (nothing_named at its word) Nothing (λ done. Unit {0})
-  nothing_named_walks at its None =
-      then_plain (typing (front at its)) (any_typing (front at its) (λ Q. front_notes Q program.types at its))
-      (λ said. unless_walks (Untyped at) (λ m. not (declares_any its)) (λ its m met failed. tt))
-  nothing_named_walks at its (Some word) = any_typing (tag_alone word) (λ Q. tag_notes Q program.types word)
 
 module _ {here : List ℕ → Bool} {program : TypedProgram} {function : TypedFunction} (sound : IsRight program.types) where
   -- ---- the definition of an object
@@ -281,7 +168,7 @@ module _ {here : List ℕ → Bool} {program : TypedProgram} {function : TypedFu
       → (static ≡ true → here word.text ≡ true)
       → Walks here program function pre (file_object static word id it) Nothing (λ done. Unit {0})
   file_object_walks static word id it inside =
-      then_plain (is_object word id) (is_object_walks word id)
+      then_plain (is_object word id) (object_walks word id)
       (λ may. then_plain {after = λ its m done. IsNoFunction program.types id} (may_be_tentative static word id it)
       (unless_walks (Untyped word.place) (λ m. static && is_none it && not (is_complete m.typer.types id)) (λ its m met failed. met))
       (λ whole. then_plain (linked static word id) (object_linked_walks static word id inside)
@@ -293,7 +180,7 @@ module _ {here : List ℕ → Bool} {program : TypedProgram} {function : TypedFu
   file_entity_walks : (static : Bool) (word : Word) (id : TypeId) (it : Option Initialising) → (static ≡ true → here word.text ≡ true)
       → Walks here program function Anywhere (file_entity static word id it) Nothing (λ done. Unit {0})
   file_entity_walks static word id it inside =
-      tested_walks (λ m. is_function m.typer.types id) (function_declared static word id it) (file_object static word id it)
+      either_known_walks (λ m. is_function m.typer.types id) (function_declared static word id it) (file_object static word id it)
       (so_walks (λ its m is other. absurd (true_false (is_function m.typer.types id) is.1 other)) (λ its m done is. is) (λ done is. is)
       (function_declared_walks static word id it inside))
       (file_object_walks static word id it inside)

@@ -1,14 +1,12 @@
 -- What one expression in an initialiser gives (X3.159-1989 3.5.7): a constant for the scalar that it initialises, or the characters of a
 -- string for an array of them.
---     scalar_always, simple_always, excess_always     these steps extend what is known
 --     Simple program types holds it its               constants for the part of the object, from its start on
 --     simple_started                                  what an expression gives
 --     excess_started                                  one with nothing left to initialise gives nothing
-use Rattle.std.proofs.Common.{◌≡◌, ◌≤◌, ◌+◌, ◌*◌, Bool, true, false, ◌&&◌, ◌||◌, List, [], ◌∷◌, length, Option, Some, None, is_some, Result, Ok, Err, refl, ap, sym, subst, ◌∙◌, if◌then◌else◌, arith}
+use Rattle.std.proofs.Common.{◌≡◌, ◌≤◌, ◌+◌, ◌*◌, Bool, true, false, ◌&&◌, ◌||◌, List, [], ◌∷◌, length, Option, Some, None, is_some, Result, Ok, Err, refl, ap, sym, subst, ◌∙◌, arith}
 use Rattle.hs_expressions.specs.Binding.{IsBoundNode}
 use Rattle.hs_expressions.specs.Binding.Keeping.{plain_bound}
-use Rattle.hs_expressions.specs.Laws.{IsConstant, IsScoped}
-use Rattle.hs_expressions.specs.Laws.Always.{Always, Reaching, gives_always, refuses_always, of_types_always, then_always, value_always}
+use Rattle.hs_expressions.specs.Laws.Always.{gives_always, refuses_always, of_types_always, then_always, value_always}
 use Rattle.hs_expressions.specs.Laws.Extending.{typed_always}
 use Rattle.hs_fitting.specs.Answers.{accepted, false_true}
 use Rattle.hs_fitting.specs.Categories.{scalar_not_void}
@@ -36,38 +34,13 @@ use Rattle.hs_tree.specs.Objects as object
 use Rattle.hs_tree.specs.Trees.{RightValue, TypedFunction, TypedProgram, type_of}
 use Rattle.hs_tree.specs.declared.constant.Constant.{Constant}
 use Rattle.hs_tree.specs.declared.constant.Part.{Part}
-use Rattle.hs_typer.specs.Steps.{Step, lifted, lifted_end, of_types}
+use Rattle.hs_typer.specs.Steps.{lifted, lifted_end}
 use Rattle.hs_typer.specs.declared.type_error.TypeError.{TypeError}
 use Rattle.hs_typer.specs.declared.type_error.TypeError.TheVariants.{Untyped}
-use Rattle.hs_typer.specs.declared.typer.Typer.{Typer}
 use Rattle.hs_types.specs.Growing.{grows_then}
 use Rattle.hs_types.specs.TypeTables.{TypeTable, row_of, size_of, IsRight, Grows}
 use Rattle.hs_types.specs.declared.row.Row.TheVariants as row
 use Rattle.hs_types.specs.declared.row.TypeId.{TypeId}
-
--- ---- these steps extend what is known
-
--- both ways of a test on what is known
-pub tested_always : {A : Type 0} → (test : Typer → Bool) (here there : Step A) → Always IsConstant here → Always IsConstant there
-    → Always IsConstant (λ s. if test s then here s else there s)
-tested_always test here there is is' = record { from = λ s scoped. both (test s) s scoped }
-  where
-    both : (b : Bool) (s : Typer) → IsScoped s → Reaching IsConstant s (if b then here s else there s)
-    both true s scoped = is.from s scoped
-    both false s scoped = is'.from s scoped
-
-pub scalar_always : (it : Subobject) (e : Expression) → Always IsConstant (scalar it e)
-scalar_always it e =
-    then_always (value_always (typed_always e))
-    (λ its. then_always (of_types_always (part_of it (position_of e) its)) (λ part. gives_always (part ∷ [])))
-
-pub excess_always : (e : Expression) → Always IsConstant (excess e)
-excess_always e = then_always (value_always (typed_always e)) (λ its. refuses_always (Untyped (position_of e)))
-
-pub simple_always : (it : Subobject) (e : Expression) → Always IsConstant (simple it e)
-simple_always it e =
-    tested_always (λ s. is_string e && is_some (text_kind s.types it.type_id)) (of_types (text_of it e)) (scalar it e)
-    (of_types_always (text_of it e)) (scalar_always it e)
 
 -- ---- types
 

@@ -5,6 +5,7 @@
 use Rattle.std.proofs.Common.{◌≡◌, ℕ, zero, suc, Bool, true, false, List, [], ◌∷◌, slice_get, Option, Some, None, IsTrue, is_some, refl, sym, subst, if◌then◌else◌}
 use Rattle.std.specs.Cmp.Lexicographic.{nat_list_eq_equiv, same_text}
 use Rattle.std.specs.List.{AllByRecursion}
+use Rattle.hs_fitting.specs.Tests.{some_same}
 use Rattle.hs_linkage.specs.Definitions.{same_name, first_place, later}
 use Rattle.hs_linkage.specs.Externals.{newest_external, external_of, says_same, with_external}
 use Rattle.hs_linkage.specs.declared.externals.External.{External}
@@ -30,9 +31,6 @@ module _ {A : Type 0} (test : A → Bool) where
       → ((k : ℕ) → o ≡ Some k → slice_get rest k ≡ Some it → test it ≡ true) → (if b then Some 0 else later o) ≡ Some n
       → slice_get (first ∷ rest) n ≡ Some it → test it ≡ true
   found_if first rest zero it true o is behind found at = subst (λ its. test its ≡ true) (some_same first it at) is
-    where
-      some_same : (a b : A) → Some a ≡ Some b → a ≡ b
-      some_same a b same = cc
   found_if first rest (suc n) it true o is behind found at = absurd cc
   found_if first rest n it false None is behind found at = absurd cc
   found_if first rest zero it false (Some k) is behind found at = absurd cc
@@ -73,9 +71,6 @@ module _ {E : Type 0} where
       → same_name it.name name ≡ b → holds it → (entity_of o ≡ Some made → (found : Declared E) × holds found × (found.name ≡ name) × (found.entity ≡ made))
       → entity_of (if b then Some it else o) ≡ Some made → (found : Declared E) × holds found × (found.name ≡ name) × (found.entity ≡ made)
   link_if holds name it made true o same is behind found = (it, is, same_texts it.name name same, some_same it.entity made found)
-    where
-      some_same : (a b : E) → Some a ≡ Some b → a ≡ b
-      some_same a b same = cc
   link_if holds name it made false o same is behind found = behind found
 
   -- among all that are declared

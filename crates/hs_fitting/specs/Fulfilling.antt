@@ -1,7 +1,7 @@
 -- What is claimed at the end is the program's: functions have numbers, and the declarations of routines are known whole.
 --     claims_fulfilled             functions and routines that are claimed are there
 --     claims_signed                the parameters of a routine that is claimed are a list that ends
-use Rattle.std.proofs.Common.{◌≡◌, ◌<◌, ℕ, zero, suc, true, false, List, [], ◌∷◌, length, slice_get, Option, Some, None, IsTrue, is_some, refl, sym, ap, subst, ◌∙◌, arith}
+use Rattle.std.proofs.Common.{◌≡◌, ◌<◌, ℕ, zero, suc, true, false, List, [], ◌∷◌, length, slice_get, Some, refl, sym, ap, subst, ◌∙◌, arith}
 use Rattle.std.specs.Prelude.{◌==◌}
 use Rattle.std.proofs.lemmas.Bool.Decides.{nat_tests}
 use Rattle.std.proofs.lemmas.Option.{slice_get_within}
@@ -12,7 +12,8 @@ use Rattle.hs_fitting.specs.Found.{same_texts}
 use Rattle.hs_fitting.specs.Known.{all_by_both, category_stays}
 use Rattle.hs_fitting.specs.ProgramWalks.{Between}
 use Rattle.hs_fitting.specs.Shapes.{SameShape}
-use Rattle.hs_fitting.specs.UnitEnds.{unit_before, function_row}
+use Rattle.hs_fitting.specs.Tests.{one_there, some_there}
+use Rattle.hs_fitting.specs.UnitEnds.{unit_before, function_row, lower}
 use Rattle.hs_linkage.specs.Definitions.{same_name, first_place, all_definitions}
 use Rattle.hs_linkage.specs.Externals.{newest_external, type_of_entity}
 use Rattle.hs_linkage.specs.declared.definitions.Definition.{Definition}
@@ -28,18 +29,10 @@ use Rattle.hs_types.specs.declared.row.ListId.{ListId}
 use Rattle.hs_types.specs.declared.row.Row.TheVariants as row
 use Rattle.hs_types.specs.declared.row.TypeId.{TypeId}
 
--- something is there
-some_there : {A : Type 0} → (o : Option A) → IsTrue (is_some o) → (it : A) × (o ≡ Some it)
-some_there None is = absurd cc
-some_there (Some it) is = (it, refl)
-
 there_within : {A : Type 0} → (its : List A) (number : ℕ) → number < length its → (it : A) × (slice_get its number ≡ Some it)
 there_within [] number less = absurd (grind (arith, less))
 there_within (it ∷ its) zero less = (it, refl)
 there_within (it ∷ its) (suc number) less = there_within its number (lower number (length its) less)
-  where
-    lower : (a b : ℕ) → suc a < suc b → a < b
-    lower a b is = omega (arith, is)
 
 -- as many types, each like the other one
 alike_count : (types : TypeTable) (its others : List TypeId) → AllAlike types its others → length its ≡ length others
@@ -47,9 +40,6 @@ alike_count types [] [] are = refl
 alike_count types [] (other ∷ others) are = absurd are
 alike_count types (it ∷ its) [] are = absurd are
 alike_count types (it ∷ its) (other ∷ others) are = ap suc (alike_count types its others are.1)
-
-one_place : (o : Option ℕ) (a b : ℕ) → o ≡ Some a → o ≡ Some b → a ≡ b
-one_place o a b is is' = cc
 
 module _ (program : TypedProgram) (units : List (List ExternalDeclaration)) (its : Claims) (m : Translator) (all : List TypedFunction)
     (between : Between program units units its m all) (grows : Grows m.typer.types program.types) where
@@ -105,7 +95,7 @@ module _ (program : TypedProgram) (units : List (List ExternalDeclaration)) (its
   entity_signed number first name (entity.Function id bound.Nothing) claimed found is refers typed signed = absurd is
   entity_signed number first name (entity.Typedef id) claimed found is refers typed signed = absurd is
   entity_signed number first name (entity.Function id (bound.Routine place)) claimed found is refers typed signed =
-      let same : place ≡ number = one_place (first_place (λ other. same_name other.name name) m.typer.table) place number is found in
+      let same : place ≡ number = one_there (first_place (λ other. same_name other.name name) m.typer.table) place number is found in
       let shape : SameShape program.types first id
       = subst (λ o. IsClaimed program.types o id) claimed (subst (λ place. IsClaimed program.types (its.routines place) id) same refers) in
       let one = function_row (row_of program.types id) (category_stays m.typer.types program.types id of_function grows typed) in

@@ -2,7 +2,7 @@
 -- variables (X3.159-1989 3.7.1).
 --     named_shape, named_met      the name is bound to this definition, if that is claimed
 --     typed_variables             variables of some types
-use Rattle.std.proofs.Common.{◌≡◌, ℕ, zero, suc, Bool, true, false, not, ◌&&◌, List, [], ◌∷◌, slice_get, Option, Some, None, IsTrue, is_some, refl, sym, ap, subst, ◌∙◌, if◌then◌else◌, arith}
+use Rattle.std.proofs.Common.{◌≡◌, ℕ, zero, suc, Bool, true, false, not, List, [], ◌∷◌, slice_get, Option, Some, None, IsTrue, is_some, refl, sym, ap, subst, ◌∙◌, if◌then◌else◌, arith}
 use Rattle.std.specs.Prelude.{◌==◌}
 use Rattle.std.proofs.lemmas.Bool.Decides.{nat_tests}
 use Rattle.hs_fitting.specs.Blocks.{local_of}
@@ -10,6 +10,7 @@ use Rattle.hs_fitting.specs.Claims.{Claims, IsClaimed, RefersTo, IsBoundIn, IsIn
 use Rattle.hs_fitting.specs.Linking.{Linking}
 use Rattle.hs_fitting.specs.Found.{same_self}
 use Rattle.hs_fitting.specs.Shapes.{SameShape}
+use Rattle.hs_fitting.specs.Tests.{true_false, both_true, some_same, is_there}
 use Rattle.hs_functions.specs.Functions.{is_of_other}
 use Rattle.hs_linkage.specs.Definitions.{same_name, first_place, later, is_definition_of}
 use Rattle.hs_linkage.specs.Externals.{newest_external}
@@ -41,16 +42,10 @@ typed_types word (id ∷ ids) = ap (λ rest. id ∷ rest) (typed_types word ids)
 
 -- ---- the definition of a name
 
-true_false : (b : Bool) → b ≡ true → b ≡ false → ⊥
-true_false b is is' = cc
-
 -- one that meets the test is there
 later_some : (o : Option ℕ) → IsTrue (is_some o) → IsTrue (is_some (later o))
 later_some None is = absurd cc
 later_some (Some place) is = refl
-
-same_entry : {A : Type 0} → (a b : A) → Some a ≡ Some b → a ≡ b
-same_entry a b same = cc
 
 place_either : {A : Type 0} → (test : A → Bool) (its : List A) (b : Bool) → (b ≡ false → IsTrue (is_some (first_place test its)))
     → IsTrue (is_some (if b then Some 0 else later (first_place test its)))
@@ -61,16 +56,13 @@ place_some : {A : Type 0} → (test : A → Bool) (its : List A) (number : ℕ) 
     → IsTrue (is_some (first_place test its))
 place_some test [] number it at is = absurd cc
 place_some test (other ∷ its) zero it at is =
-    place_either test its (test other) (λ fails. absurd (true_false (test it) is (sym (ap test (same_entry other it at)) ∙ fails)))
+    place_either test its (test other) (λ fails. absurd (true_false (test it) is (sym (ap test (some_same other it at)) ∙ fails)))
 place_some test (other ∷ its) (suc number) it at is = place_either test its (test other) (λ fails. place_some test its number it at is)
 
 -- a name of a definition is bound to no routine
 bound_there : (a b : Option ℕ) → IsTrue (is_some a) → (number : ℕ) × (bound_as a b ≡ bound.Function number)
 bound_there None b is = absurd cc
 bound_there (Some number) b is = (number, refl)
-
-both_true : (a b : Bool) → a ≡ true → b ≡ true → (a && b) ≡ true
-both_true a b is is' = rw (is, is') refl
 
 -- a number that is not another one
 same_number : (a b : ℕ) → not (a == b) ≡ false → a ≡ b
@@ -84,13 +76,6 @@ same_number a b is = by_test (a == b) refl is
 internal_one : (o : Option Linked) (it : Linked) → o ≡ Some it → IsInternalLink o → it.internal ≡ true
 internal_one None it is linked = absurd cc
 internal_one (Some other) it is linked = subst (λ its. its.internal ≡ true) (some_same other it is) linked
-  where
-    some_same : (a b : Linked) → Some a ≡ Some b → a ≡ b
-    some_same a b same = cc
-
-some_there : (o : Option Linked) (it : Linked) → o ≡ Some it → IsTrue (is_some o)
-some_there None it is = absurd cc
-some_there (Some other) it is = refl
 
 module _ (program : TypedProgram) (here : List ℕ → Bool) (its : Claims) (variables : List VariableDecl) (m : Translator) (word : Word) (id : TypeId)
     (p : Entity × Translator) (linking : Linking program here its variables m word id p) (number : ℕ) (one : Definition)
@@ -111,7 +96,8 @@ module _ (program : TypedProgram) (here : List ℕ → Bool) (its : Claims) (var
   bound_by first claimed false linked true same =
       let registered : IsRegisteredAs true p.1 one = subst (λ b. IsRegisteredAs b p.1 one) same (linking.stands.functions_met number first one claimed at) in
       absurd (true_false linking.linked.internal
-      (internal_one (find word.text p.1.links) linking.linked linking.found (subst (λ name. IsInternalLink (find name p.1.links)) named (registered unit))) linked)
+      (internal_one (find word.text p.1.links) linking.linked linking.found
+      (subst (λ name. IsInternalLink (find name p.1.links)) named (registered unit))) linked)
   bound_by first claimed false linked false same = rw same refl
 
   -- so it is bound to a definition
@@ -149,7 +135,7 @@ module _ (program : TypedProgram) (here : List ℕ → Bool) (its : Claims) (var
   external_met external false linked = subst (λ name. IsTrue (is_some (newest_external name p.1.externals))) (sym named) (linking.external linked)
 
   met_by : (b : Bool) → one.internal ≡ b → IsMetAs b p.1 one
-  met_by true is = λ same. subst (λ name. IsTrue (is_some (find name p.1.links))) (sym named) (some_there (find word.text p.1.links) linking.linked linking.found)
+  met_by true is = λ same. subst (λ name. IsTrue (is_some (find name p.1.links))) (sym named) (is_there (find word.text p.1.links) linking.linked linking.found)
   met_by false is = external_met is linking.linked.internal refl
 
   pub named_met : IsMet p.1 one

@@ -1,13 +1,13 @@
 -- What the initialiser of an object of static storage duration gives, as the program goes on (X3.159-1989 3.5.7).
 --     alike_later                     the type after an initialiser is of the category of the type before it, in the whole program
 --     initialised_walks               constants for the scalars of the object, and the type that it gets
-use Rattle.std.proofs.Common.{◌≡◌, ℕ, zero, Bool, true, ◌||◌, List, length, drop, Option, Some, None, is_some, Ok, refl, sym, ap, subst, ◌∙◌}
+use Rattle.std.proofs.Common.{◌≡◌, ℕ, zero, Bool, true, ◌||◌, List, length, drop, Option, Some, None, is_some, Ok, refl, sym, subst, ◌∙◌}
 use Rattle.hs_expressions.specs.Binding.Keeping.{KnowsBound, Giving}
 use Rattle.hs_expressions.specs.Laws.{IsConstant, IsScoped, Knows}
 use Rattle.hs_expressions.specs.Laws.Reached.{Reaches}
 use Rattle.hs_fitting.specs.Alike.{IsAlike, AlikeGiven, initialised_alike}
 use Rattle.hs_fitting.specs.Claims.{Claims, Endures, Stands}
-use Rattle.hs_fitting.specs.Known.{knows_names, proceeds_typer, typing_fully}
+use Rattle.hs_fitting.specs.Known.{knows_names, proceeds_typer, typing_fully, category_stays}
 use Rattle.hs_fitting.specs.Lasting.{continues_of}
 use Rattle.hs_fitting.specs.Moves.{any_reaches, moves_typer}
 use Rattle.hs_fitting.specs.NotingInitialising.{initialised_notes}
@@ -35,17 +35,6 @@ use Rattle.hs_types.specs.declared.row.TypeId.{TypeId}
 
 -- ---- the category of the object
 
--- a type that has a category is there
-category_there : (o : Option Row) (its : Category) → category_of_row o ≡ Some its → (it : Row) × (o ≡ Some it)
-category_there None its is = absurd cc
-category_there (Some it) its is = (it, refl)
-
--- so it keeps its category
-category_later : (old new : TypeTable) (id : TypeId) (its : Category) → Grows old new → category_of old id ≡ Some its → category_of new id ≡ Some its
-category_later old new id its grows is =
-    let found : (it : Row) × (row_of old id ≡ Some it) = category_there (row_of old id) its is in
-    ap category_of_row (grows.rows id.number found.0 found.1 ∙ sym found.1) ∙ is
-
 -- a type that may have an initialiser has a category
 may_category : (types : TypeTable) (o : Option Row) → (is_some (layout_in types o) || is_open_row o) ≡ true
     → (its : Category) × (category_of_row o ≡ Some its)
@@ -64,9 +53,9 @@ pub alike_later : (start mid final : TypeTable) (id made : TypeId) → Grows sta
     → category_of final made ≡ category_of final id
 alike_later start mid final id made grows further may alike =
     let its : (its : Category) × (category_of start id ≡ Some its) = may_category start (row_of start id) may in
-    let old : category_of mid id ≡ Some its.0 = category_later start mid id its.0 grows its.1 in
+    let old : category_of mid id ≡ Some its.0 = category_stays start mid id its.0 grows its.1 in
     let new : category_of mid made ≡ Some its.0 = alike.0 ∙ old in
-    category_later mid final made its.0 further new ∙ sym (category_later mid final id its.0 further old)
+    category_stays mid final made its.0 further new ∙ sym (category_stays mid final id its.0 further old)
 
 -- ---- the initialiser
 

@@ -1,5 +1,8 @@
 -- Initialisers extend what is known, as their expressions do.
---     initialised_always, starting_always, inline_words_always
+--     excess_always, simple_always                                    one expression
+--     placed_always, all_placed_always, braced_always, alone_always   those of an object
+--     sized_by_grows, sized_always                                    the type of the object
+--     initialised_always, starting_always, inline_words_always        objects, and the words of inline traps
 use Rattle.std.proofs.Common.{ℕ, Bool, true, false, ◌&&◌, List, [], ◌∷◌, ◌++◌, length, Option, Some, None, Ok, is_some, if◌then◌else◌}
 use Rattle.hs_expressions.specs.Laws.{IsConstant, IsScoped}
 use Rattle.hs_expressions.specs.Laws.Always.{Always, Reaching, gives_always, refuses_always, looks_always, of_types_always, on_types_always, then_always, value_always}
@@ -26,7 +29,7 @@ use Rattle.hs_types.specs.declared.row.Row.TheVariants as row
 use Rattle.hs_types.specs.declared.row.TypeId.{TypeId}
 
 -- both ways of a test on what is known
-tested_always : {A : Type 0} → (test : Typer → Bool) (here there : Step A) → Always IsConstant here → Always IsConstant there
+pub tested_always : {A : Type 0} → (test : Typer → Bool) (here there : Step A) → Always IsConstant here → Always IsConstant there
     → Always IsConstant (λ s. if test s then here s else there s)
 tested_always test here there is is' = record { from = λ s scoped. both (test s) s scoped }
   where
@@ -40,19 +43,19 @@ scalar_always it e =
     then_always (value_always (typed_always e))
     (λ its. then_always (of_types_always (part_of it (position_of e) its)) (λ part. gives_always (part ∷ [])))
 
-excess_always : (e : Expression) → Always IsConstant (excess e)
+pub excess_always : (e : Expression) → Always IsConstant (excess e)
 excess_always e = then_always (value_always (typed_always e)) (λ its. refuses_always (Untyped (position_of e)))
 
-simple_always : (it : _) (e : Expression) → Always IsConstant (simple it e)
+pub simple_always : (it : _) (e : Expression) → Always IsConstant (simple it e)
 simple_always it e =
     tested_always (λ s. is_string e && is_some (text_kind s.types it.type_id)) (of_types (text_of it e)) (scalar it e)
     (of_types_always (text_of it e)) (scalar_always it e)
 
-placed_value_always : (done : List Part) (e : Expression) (to : Option Reached) → Always IsConstant (placed_value done e to)
+pub placed_value_always : (done : List Part) (e : Expression) (to : Option Reached) → Always IsConstant (placed_value done e to)
 placed_value_always done e None = then_always (excess_always e) (λ its. gives_always (done ++ its, []))
 placed_value_always done e (Some to) = then_always (simple_always to.0 e) (λ its. gives_always (done ++ its, to.1))
 
-text_or_always : (e : Option Expression) (it : _) (done : List Part) (others : Step Filled) → Always IsConstant others
+pub text_or_always : (e : Option Expression) (it : _) (done : List Part) (others : Step Filled) → Always IsConstant others
     → Always IsConstant (text_or e it done others)
 text_or_always None it done others is = is
 text_or_always (Some e) it done others is =
@@ -61,7 +64,7 @@ text_or_always (Some e) it done others is =
 
 mutual
   -- one initialiser of a list
-  placed_always : (done : Filled) (it : Initialising) → Always IsConstant (placed done it)
+  pub placed_always : (done : Filled) (it : Initialising) → Always IsConstant (placed done it)
   placed_always done (syntax.value e) =
       then_always (looks_always (λ s. Ok (reached s.types (is_string e) done.1))) (λ to. placed_value_always done.0 e to)
   placed_always done (syntax.list at its comma) =
@@ -71,7 +74,7 @@ mutual
       (λ inner. gives_always (inner.0, to.1)))
 
   -- those of a list
-  all_placed_always : (done : Filled) (its : Initialisers) → Always IsConstant (all_placed done its)
+  pub all_placed_always : (done : Filled) (its : Initialisers) → Always IsConstant (all_placed done its)
   all_placed_always done syntax.no_initialisers = gives_always done
   all_placed_always done (syntax.more_initialisers first rest) = then_always (placed_always done first) (λ next. all_placed_always next rest)
 
@@ -80,7 +83,7 @@ braced_always it done its =
     text_or_always (lone_string its) it done (all_placed (done, fresh it ∷ []) its) (all_placed_always (done, fresh it ∷ []) its)
 
 -- the type of the object
-sized_by_grows : (at : Place) (id : TypeId) (count : ℕ) (it : Option Row) (types : TypeTable) → Growing types (sized_by at id count it types)
+pub sized_by_grows : (at : Place) (id : TypeId) (count : ℕ) (it : Option Row) (types : TypeTable) → Growing types (sized_by at id count it types)
 sized_by_grows at id count None types = grows_self types
 sized_by_grows at id count (Some row.Void) types = grows_self types
 sized_by_grows at id count (Some (row.Integer kind)) types = grows_self types
@@ -91,7 +94,7 @@ sized_by_grows at id count (Some (row.Array of size layout)) types = grows_self 
 sized_by_grows at id count (Some (row.OpenArray of)) types = end_grows at types (arrayed of count types) (arrayed_grows of count types)
 sized_by_grows at id count (Some (row.Function result list)) types = grows_self types
 
-sized_always : (at : Place) (id : TypeId) (count : ℕ) → Always IsConstant (on_types (sized at id count))
+pub sized_always : (at : Place) (id : TypeId) (count : ℕ) → Always IsConstant (on_types (sized at id count))
 sized_always at id count = on_types_always (sized at id count) (λ types. sized_by_grows at id count (row_of types id) types)
 
 pub alone_always : (id : TypeId) (e : Expression) → Always IsConstant (alone id e)

@@ -8,7 +8,7 @@
 use Rattle.std.proofs.Common.{◌≡◌, ◌<◌, ◌⊎◌, ℕ, zero, suc, Bool, true, false, List, [], ◌∷◌, ◌++◌, length, slice_get, Option, Some, None, IsTrue, is_some, Result, Ok, Err, refl, sym, ap, subst, ◌∙◌}
 use Rattle.std.specs.Prelude.{◌==◌, take}
 use Rattle.std.specs.List.{AllByRecursion}
-use Rattle.hs_expressions.specs.Binding.{AllAlike, IsLike, IsDefined, BindsAs, BindsName}
+use Rattle.hs_expressions.specs.Binding.{IsLike, IsDefined, BindsAs, BindsName}
 use Rattle.hs_expressions.specs.Binding.Keeping.{IsNoted, KnowsBound, IsBound}
 use Rattle.hs_expressions.specs.Binding.Keeping as bound_step
 use Rattle.hs_expressions.specs.Binding.Typing as bound_law
@@ -26,7 +26,8 @@ use Rattle.hs_fitting.specs.Noting.{AllowsBound, AllowsName, NamesAllow, Noting,
 use Rattle.hs_fitting.specs.NotingSteps.{of_types_notes}
 use Rattle.hs_fitting.specs.NotingTyping.{valued_notes}
 use Rattle.hs_fitting.specs.Rightness.{AreRight}
-use Rattle.hs_fitting.specs.Shapes.{SameShape}
+use Rattle.hs_fitting.specs.Shapes.{SameShape, all_alike_then}
+use Rattle.hs_fitting.specs.Tests.{some_none}
 use Rattle.hs_fitting.specs.Walk.{Continues, continues_first, Nothing, Walking, Walks}
 use Rattle.hs_linkage.specs.Works.{typing, with_typer}
 use Rattle.hs_linkage.specs.declared.definitions.Definition.{Definition}
@@ -87,7 +88,7 @@ variable_there : (types : TypeTable) (given : Option VariableDecl) (id : TypeId)
 variable_there types None id is = absurd is
 variable_there types (Some it) id is = refl
 
--- with more variables behind it
+-- with more variables after it
 variable_later : (types : TypeTable) (old more : List TypeId) (place : ℕ) (id : TypeId) → IsVariableAt types (slice_get old place) id
     → IsVariableAt types (slice_get (old ++ more) place) id
 variable_later types [] more place id is = absurd is
@@ -101,20 +102,12 @@ variable_among types old new place id before is =
     subst (λ all. IsVariableAt types (slice_get all place) id) (sym before.1) (variable_later types old before.0 place id is)
 
 module _ (types : TypeTable) where
-  -- lists of types of the same categories, across a third one
-  alike_then : (its others thirds : List TypeId) → AllAlike types its others → AllAlike types others thirds → AllAlike types its thirds
-  alike_then [] [] thirds are are' = are'
-  alike_then [] (other ∷ others) thirds are are' = absurd are
-  alike_then (id ∷ ids) [] thirds are are' = absurd are
-  alike_then (id ∷ ids) (other ∷ others) [] are are' = absurd are'
-  alike_then (id ∷ ids) (other ∷ others) (third ∷ thirds) are are' = (are.0 ∙ are'.0, alike_then ids others thirds are.1 are'.1)
-
   -- what one type of a shape is like, another one is like
   like_shaped : (one other : TypeId) (parameters : List TypeId) (result : TypeId) → SameShape types one other → IsLike types types one parameters result
       → IsLike types types other parameters result
   like_shaped one other parameters result shape like =
       let onward : IsLike types types other like.0 like.1.0 = shape.there like.0 like.1.0 like.1.1 in
-      (onward.0, (onward.1.0, onward.1.1, alike_then onward.0 like.0 parameters onward.1.2 like.1.2, onward.1.3 ∙ like.1.3))
+      (onward.0, (onward.1.0, onward.1.1, all_alike_then types onward.0 like.0 parameters onward.1.2 like.1.2, onward.1.3 ∙ like.1.3))
 
   -- a function of one type of a shape is of another one
   defined_shaped : (one other : TypeId) (given : Option TypedFunction) → SameShape types one other → IsDefined types types one given
@@ -217,7 +210,8 @@ module _ (program : TypedProgram) (here : List ℕ → Bool) (its : Claims) (m :
   typed_still grows (entity.Typedef id) is = tt
 
   -- so links, external declarations and declarations of routines are what they were
-  link_still : Grows m.typer.types new.types → (it : Declared Linked) → IsLink program.types here its m it → IsLink program.types here its (record m { typer = new }) it
+  link_still : Grows m.typer.types new.types → (it : Declared Linked) → IsLink program.types here its m it → IsLink program.types here its
+      (record m { typer = new }) it
   link_still grows it is =
       record {
         refers = is.refers;
@@ -227,10 +221,12 @@ module _ (program : TypedProgram) (here : List ℕ → Bool) (its : Claims) (m :
         typed = typed_still grows it.entity.entity is.typed;
       }
 
-  external_still : Grows m.typer.types new.types → (it : External) → IsExternal program.types its m it → IsExternal program.types its (record m { typer = new }) it
+  external_still : Grows m.typer.types new.types → (it : External) → IsExternal program.types its m it → IsExternal program.types its
+      (record m { typer = new }) it
   external_still grows it is = record { refers = is.refers; bound = bound_still false it.name it.entity is.bound; global = is.global; typed = typed_still grows it.entity is.typed }
 
-  routine_still : Grows m.typer.types new.types → (it : External) → IsRoutineDeclared program.types its m it → IsRoutineDeclared program.types its (record m { typer = new }) it
+  routine_still : Grows m.typer.types new.types → (it : External) → IsRoutineDeclared program.types its m it → IsRoutineDeclared program.types its
+      (record m { typer = new }) it
   routine_still grows it is =
       record {
         refers = is.refers;
@@ -255,7 +251,8 @@ module _ (program : TypedProgram) (here : List ℕ → Bool) (its : Claims) (m :
       record { category = is.category; undefined = is.undefined; filled = λ endures. is.filled (before endures) }
 
   -- What is claimed stays, if the names that are known then refer to it.
-  pub stands_typer : (variables later : List VariableDecl) → Grows m.typer.types new.types → AllByRecursion (λ it. RefersTo program.types its m.objects it.entity) new.names.declarations
+  pub stands_typer : (variables later : List VariableDecl) → Grows m.typer.types new.types → AllByRecursion
+      (λ it. RefersTo program.types its m.objects it.entity) new.names.declarations
       → AllByRecursion (λ it. IsVariableIn program.types later it.entity) new.names.declarations
       → AllByRecursion (IsCallClaimed program.types its new.table) new.calls → AreRight new.types
       → (Endures program its (record m { typer = new }) → Endures program its m) → Stands program here its variables m
@@ -264,9 +261,12 @@ module _ (program : TypedProgram) (here : List ℕ → Bool) (its : Claims) (m :
       record {
         names = names;
         locals = locals;
-        links = all_so (IsLink program.types here its m) (IsLink program.types here its (record m { typer = new })) (link_still grows) m.links.declarations stands.links;
-        externals = all_so (IsExternal program.types its m) (IsExternal program.types its (record m { typer = new })) (external_still grows) m.externals stands.externals;
-        routines = all_so (IsRoutineDeclared program.types its m) (IsRoutineDeclared program.types its (record m { typer = new })) (routine_still grows) m.routines
+        links = all_so (IsLink program.types here its m) (IsLink program.types here its (record m { typer = new }))
+            (link_still grows) m.links.declarations stands.links;
+        externals = all_so (IsExternal program.types its m) (IsExternal program.types its (record m { typer = new }))
+            (external_still grows) m.externals stands.externals;
+        routines = all_so (IsRoutineDeclared program.types its m) (IsRoutineDeclared program.types its (record m { typer = new }))
+            (routine_still grows) m.routines
             stands.routines;
         calls = calls;
         right = right;
@@ -279,10 +279,6 @@ module _ (program : TypedProgram) (here : List ℕ → Bool) (its : Claims) (m :
         internal = λ number it at same. stands.internal number it at (subst (IsHere it) unit same);
       }
 
-  -- no claim is made
-  no_claim : (given : Option TypeId) (id : TypeId) → given ≡ Some id → given ≡ None → ⊥
-  no_claim given id is is' = cc
-
   -- nothing is claimed anew
   pub proceeds_typer : Proceeds program.types its m its (record m { typer = new })
   proceeds_typer =
@@ -291,7 +287,7 @@ module _ (program : TypedProgram) (here : List ℕ → Bool) (its : Claims) (m :
         routines = λ number id is. is;
         objects = λ place is same. same;
         met = λ it is. met_still it.internal it is;
-        fresh = λ number id it claimed none at met. no_claim (its.functions number) id claimed none;
+        fresh = λ number id it claimed none at met. some_none (its.functions number) id claimed none;
       }
 
 module _ (types : TypeTable) where
@@ -436,13 +432,15 @@ module _ {here : List ℕ → Bool} {program : TypedProgram} {function : TypedFu
       }
 
   -- only what it gives matters
-  pub typing_walks : {A : Type 0} → {pre : Claims → Translator → Type 0} → {holds : A → Type 0} → (step : Step A) → ((Q : ℕ → TypeId → Type 0) → Notes Q program.types IsConstant (λ it. Unit {0}) step)
+  pub typing_walks : {A : Type 0} → {pre : Claims → Translator → Type 0} → {holds : A → Type 0} → (step : Step A) →
+      ((Q : ℕ → TypeId → Type 0) → Notes Q program.types IsConstant (λ it. Unit {0}) step)
       → ((s : Typer) → IsScoped s → s.counts ≡ true → Knows program function s → KnowsBound program function program.types s → (p : A × Typer)
       → step s ≡ Ok p → IsNoted program function program.types s p.1 → holds p.0) → Walks here program function pre (typing step) Nothing holds
   typing_walks step notes gives = typing_known step notes (λ its m met p given grows. tt) gives
 
   -- what is known of claims and objects is known after it
-  pub typing_stays : {A : Type 0} → {holds : A → Type 0} → (fact : Claims → List StaticObject → Type 0) (step : Step A) → ((Q : ℕ → TypeId → Type 0) → Notes Q program.types IsConstant (λ it. Unit {0}) step)
+  pub typing_stays : {A : Type 0} → {holds : A → Type 0} → (fact : Claims → List StaticObject → Type 0) (step : Step A) →
+      ((Q : ℕ → TypeId → Type 0) → Notes Q program.types IsConstant (λ it. Unit {0}) step)
       → ((s : Typer) → IsScoped s → s.counts ≡ true → Knows program function s → KnowsBound program function program.types s → (p : A × Typer)
       → step s ≡ Ok p → IsNoted program function program.types s p.1 → holds p.0)
       → Walks here program function (λ its m. fact its m.objects) (typing step) (λ its m it. fact its m.objects) holds

@@ -14,6 +14,7 @@ use Rattle.hs_expressions.specs.Laws.Reached.{Reaches, prefix_then}
 use Rattle.hs_fitting.specs.Claims.{Claims, Endures, IsMarkedIn, Proceeds}
 use Rattle.hs_fitting.specs.Moves.{Moves}
 use Rattle.hs_fitting.specs.Passes.{Passes, marked_types}
+use Rattle.hs_fitting.specs.Tests.{or_true}
 use Rattle.hs_fitting.specs.Walk.{Continues}
 use Rattle.hs_linkage.specs.Objects.{is_of_local, marked}
 use Rattle.hs_linkage.specs.declared.translator.Translator.{Translator}
@@ -30,7 +31,7 @@ use Rattle.hs_typer.specs.declared.typer.Typer.{Typer}
 use Rattle.hs_types.specs.Growing.{grows_then}
 
 -- of a list that is longer
-all_of_prefix : {A : Type 0} → (holds : A → Type 0) (old new : List A) → IsPrefix old new → AllByRecursion holds new → AllByRecursion holds old
+pub all_of_prefix : {A : Type 0} → (holds : A → Type 0) (old new : List A) → IsPrefix old new → AllByRecursion holds new → AllByRecursion holds old
 all_of_prefix holds old new more are = all_before holds old more.0 (subst (AllByRecursion holds) more.1 are)
 
 -- the places before it
@@ -98,10 +99,6 @@ is_place n = same (n == n) refl
     same : (b : Bool) → (n == n) ≡ b → b ≡ true
     same true is = refl
     same false is = absurd (grind (arith, nat_tests, is))
-
-or_true : (b : Bool) → (b || true) ≡ true
-or_true true = refl
-or_true false = refl
 
 -- a variable that is among those from that place on is marked
 marked_there : (its : List Taken) (first place : ℕ) (locals : List VariableDecl) → list_any (is_of_local (first + place)) its ≡ true
@@ -171,7 +168,7 @@ module _ (program : TypedProgram) (function : TypedFunction) where
       → AllByRecursion holds more
   added_holds holds old new are more same = all_behind holds old more (subst (AllByRecursion holds) same are)
 
-  -- From the place behind its parameters to its end.
+  -- From the place after its parameters to its end.
   pub continues_of : (its : Claims) (m n : Translator) → Moves m n → Endures program its n
       → function.variables ≡ marked (drop (length m.typer.taken) n.typer.taken) zero n.locals → Continues program function its m n
   continues_of its m n moves endures same =

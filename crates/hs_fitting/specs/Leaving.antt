@@ -72,7 +72,8 @@ module _ (types : TypeTable) where
 module _ (here : List ℕ → Bool) (program : TypedProgram) (function : TypedFunction) where
   -- where a scope begins
   stands_entered : (its : Claims) (m : Translator) → Stands program here its m.locals m → Stands program here its m.locals (entered m)
-  stands_entered its m stands = stands_typer program here its m (enter m.typer) refl refl m.locals m.locals (grows_self m.typer.types) stands.names stands.locals stands.calls stands.right
+  stands_entered its m stands = stands_typer program here its m (enter m.typer) refl refl m.locals m.locals
+      (grows_self m.typer.types) stands.names stands.locals stands.calls stands.right
       (endures_scopes program its m (enter m.typer).names (enter m.typer).tags) stands
 
   -- where it has ended, the names are those before it

@@ -76,6 +76,7 @@ pub mod Starting
 pub mod Stating
 pub mod Staying
 pub mod Storage
+pub mod Tests
 pub mod Texts
 pub mod UnitEnds
 pub mod UnitWalks

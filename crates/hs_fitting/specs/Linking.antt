@@ -12,9 +12,10 @@ use Rattle.hs_fitting.specs.Claiming.{IsFirst, IsClaiming, chosen_claims}
 use Rattle.hs_fitting.specs.Claims.{Claims, RefersTo, IsVariableIn, IsBoundIn, IsLink, IsExternal, IsRoutineDeclared, IsRegistered, IsMet, Endures, IsCallClaimed, IsObjectRight, Stands, Proceeds}
 use Rattle.hs_fitting.specs.Found.{link_found, link_here, IsThere, external_all}
 use Rattle.hs_fitting.specs.Lasting.{is_place}
-use Rattle.hs_fitting.specs.Links.{refers_later, call_later, none_some}
+use Rattle.hs_fitting.specs.Links.{refers_later, call_later}
 use Rattle.hs_fitting.specs.Making.{zero_right, IsFunction}
 use Rattle.hs_fitting.specs.Registering.{linked_in, externals_there, routines_stay, routines_there, routines_all, met_by, registered_by, registered_first, routine_is}
+use Rattle.hs_fitting.specs.Tests.{some_none}
 use Rattle.hs_linkage.specs.Externals.{newest_external, with_external}
 use Rattle.hs_linkage.specs.Linkage.{with_type_id, agrees_with_all, clash_of, compatible_routines, is_routine_entity, link_as, link, noted, is_function}
 use Rattle.hs_linkage.specs.Works.{◌>>◌}
@@ -188,7 +189,7 @@ module _ (program : TypedProgram) (here : List ℕ → Bool) (its : Claims) (var
     where
       by_first : (number : ℕ) (first : TypeId) (one : Definition) → its.functions number ≡ None → IsMet m one
           → (its.functions number ≡ Some first) ⊎ IsFirst m word it one → ⊥
-      by_first number first one free met (inl is) = none_some (its.functions number) first free is
+      by_first number first one free met (inl is) = some_none (its.functions number) first is free
       by_first number first one free met (inr is) = is.2 met
 
   -- what is given

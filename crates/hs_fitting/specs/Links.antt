@@ -8,6 +8,7 @@ use Rattle.std.specs.Prelude.{◌==◌}
 use Rattle.hs_expressions.specs.Laws.Reached.{is_same}
 use Rattle.hs_fitting.specs.Claims.{Claims, ObjectsStay, IsClaimed, IsClaimedAs, RefersTo, IsVariableIn, IsBoundAs, IsCallClaimed}
 use Rattle.hs_fitting.specs.Shapes.{SameShape, shape_then}
+use Rattle.hs_fitting.specs.Tests.{some_none}
 use Rattle.hs_linkage.specs.Externals.{type_of_entity}
 use Rattle.hs_linkage.specs.Linkage.{with_type_id}
 use Rattle.hs_linkage.specs.declared.definitions.Definition.{Definition}
@@ -141,17 +142,13 @@ claim_if false id o is = absurd cc
 pub claim_here : (place : ℕ) (id : TypeId) (all : ℕ → Option TypeId) → claim_at place id all place ≡ Some id
 claim_here place id all = claim_if (place == place) id (all place) (is_same place place (place == place) refl refl)
 
--- older ones stay
-pub none_some : (o : Option TypeId) (id : TypeId) → o ≡ None → o ≡ Some id → ⊥
-none_some o id is is' = cc
-
--- if the number was not claimed
+-- older ones stay, if the number was not claimed
 pub claim_stays : (place : ℕ) (id : TypeId) (all : ℕ → Option TypeId) → all place ≡ None → (number : ℕ) (its : TypeId) → all number ≡ Some its
     → claim_at place id all number ≡ Some its
 claim_stays place id all free number its is = by_number (number == place) refl
   where
     by_number : (b : Bool) → (number == place) ≡ b → (if b then Some id else all number) ≡ Some its
-    by_number true same = absurd (none_some (all place) its free (sym (ap all (same_number number place same)) ∙ is))
+    by_number true same = absurd (some_none (all place) its (sym (ap all (same_number number place same)) ∙ is) free)
     by_number false same = is
 
 -- and there are no others

@@ -3,10 +3,10 @@
 --     braced_started                             a list in braces for an object
 --     alone_started                              an expression for it
 use Rattle.std.proofs.Common.{◌≡◌, ◌≤◌, ◌+◌, ◌*◌, ℕ, Bool, true, List, [], ◌∷◌, ◌++◌, length, Option, Some, None, is_some, Ok, refl, ap, subst, arith}
-use Rattle.hs_expressions.specs.Laws.{IsConstant}
-use Rattle.hs_expressions.specs.Laws.Always.{Always, gives_always, looks_always, of_types_always, then_always}
+use Rattle.hs_expressions.specs.Laws.Always.{gives_always, looks_always, of_types_always, then_always}
 use Rattle.hs_fitting.specs.Answers.{accepted}
-use Rattle.hs_fitting.specs.Filling.{Simple, tested_always, excess_always, simple_always, simple_started, excess_started}
+use Rattle.hs_fitting.specs.Filling.{Simple, simple_started, excess_started}
+use Rattle.hs_fitting.specs.Initialising.{excess_always, simple_always, placed_value_always, text_or_always, placed_always, all_placed_always}
 use Rattle.hs_fitting.specs.Moves.{IsWhole}
 use Rattle.hs_fitting.specs.PartLists.{AreParts, no_parts, parts_then, parts_until}
 use Rattle.hs_fitting.specs.Readying.{Started, gives_started, looks_started, of_types_started, then_started, so_started, tested_started}
@@ -21,37 +21,10 @@ use Rattle.hs_syntax.specs.Trees.{Expression, Initialising, Initialisers}
 use Rattle.hs_tokens.specs.declared.place.Place.{Place}
 use Rattle.hs_tree.specs.Trees.{TypedFunction, TypedProgram}
 use Rattle.hs_tree.specs.declared.constant.Part.{Part}
-use Rattle.hs_typer.specs.Steps.{Step, ◌>>=◌, give, of_types}
+use Rattle.hs_typer.specs.Steps.{Step}
 use Rattle.hs_types.specs.TypeTables.{TypeTable, row_of, size_of, IsRight, Grows}
 use Rattle.hs_types.specs.declared.row.Row.TheVariants as row
 use Rattle.hs_types.specs.declared.row.TypeId.{TypeId}
-
--- ---- these steps extend what is known
-
-placed_value_always : (done : List Part) (e : Expression) (to : Option Reached) → Always IsConstant (placed_value done e to)
-placed_value_always done e None = then_always (excess_always e) (λ its. gives_always (done ++ its, []))
-placed_value_always done e (Some to) = then_always (simple_always to.0 e) (λ its. gives_always (done ++ its, to.1))
-
-text_or_always : (e : Option Expression) (it : Subobject) (done : List Part) (others : Step Filled) → Always IsConstant others
-    → Always IsConstant (text_or e it done others)
-text_or_always None it done others is = is
-text_or_always (Some e) it done others is =
-    tested_always (λ s. is_some (text_kind s.types it.type_id)) (of_types (text_of it e) >>= (λ its. give (text_filled it.type_id done its))) others
-    (then_always (of_types_always (text_of it e)) (λ its. gives_always (text_filled it.type_id done its))) is
-
-mutual
-  placed_always : (done : Filled) (it : Initialising) → Always IsConstant (placed done it)
-  placed_always done (syntax.value e) =
-      then_always (looks_always (λ s. Ok (reached s.types (is_string e) done.1))) (λ to. placed_value_always done.0 e to)
-  placed_always done (syntax.list at its comma) =
-      then_always (looks_always (λ s. whole_reached at (whole s.types done.1)))
-      (λ to. then_always
-      (text_or_always (lone_string its) to.0 done.0 (all_placed (done.0, fresh to.0 ∷ []) its) (all_placed_always (done.0, fresh to.0 ∷ []) its))
-      (λ inner. gives_always (inner.0, to.1)))
-
-  all_placed_always : (done : Filled) (its : Initialisers) → Always IsConstant (all_placed done its)
-  all_placed_always done syntax.no_initialisers = gives_always done
-  all_placed_always done (syntax.more_initialisers first rest) = then_always (placed_always done first) (λ next. all_placed_always next rest)
 
 -- ---- what they give
 

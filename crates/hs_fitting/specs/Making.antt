@@ -7,8 +7,10 @@
 --     IsFunction it, declared_function, function_typed      what agrees with the type of a function is a function
 use Rattle.std.proofs.Common.{◌≡◌, ℕ, zero, suc, true, List, [], ◌∷◌, slice_get, Option, Some, None, refl, sym, ap, ◌∙◌}
 use Rattle.std.specs.List.{AllByRecursion}
+use Rattle.hs_fitting.specs.Answers.{none_some}
 use Rattle.hs_fitting.specs.Claims.{Claims, RefersTo, IsVariableIn, IsObjectRight, category_at}
 use Rattle.hs_fitting.specs.Links.{HasShape}
+use Rattle.hs_fitting.specs.Tests.{some_same}
 use Rattle.hs_linkage.specs.Externals.{type_of_entity, agrees_in}
 use Rattle.hs_linkage.specs.Linkage.{with_type_id, zero_object, is_function}
 use Rattle.hs_linkage.specs.declared.translator.StaticObject.{StaticObject}
@@ -16,7 +18,7 @@ use Rattle.hs_linkage.specs.declared.translator.Translator.{Translator}
 use Rattle.hs_operands.specs.Types.{designates_row, designates}
 use Rattle.hs_operands.specs.declared.operand.Bound.{Bound}
 use Rattle.hs_syntax.specs.declared.word.Word.{Word}
-use Rattle.hs_tree.specs.Kinds.{Category, of_function, category_of_row, category_of}
+use Rattle.hs_tree.specs.Kinds.{of_function, category_of_row, category_of}
 use Rattle.hs_tree.specs.Trees.{TypedProgram}
 use Rattle.hs_tree.specs.declared.head.Variable.TheVariants as variable
 use Rattle.hs_typer.specs.Declarators.{is_function_row}
@@ -82,10 +84,7 @@ zero_right program its m word id object = record { category = object; undefined 
 pub no_function_there : (program : TypedProgram) (its : Claims) (m : Translator) (objects : List StaticObject) (place : ℕ)
     → AllByRecursion (IsObjectRight program its m) objects → category_at program.types (slice_get objects place) ≡ Some (Some of_function) → ⊥
 no_function_there program its m [] place are same = cc
-no_function_there program its m (it ∷ rest) zero are same = are.0.category (some_same (category_of program.types it.variable.type_id) same)
-  where
-    some_same : (a : Option Category) → Some a ≡ Some (Some of_function) → a ≡ Some of_function
-    some_same a same = cc
+no_function_there program its m (it ∷ rest) zero are same = are.0.category (some_same (category_of program.types it.variable.type_id) (Some of_function) same)
 no_function_there program its m (it ∷ rest) (suc place) are same = no_function_there program its m rest place are.1 same
 
 -- ---- declarations of functions
@@ -105,18 +104,12 @@ pub declared_function : (program : TypedProgram) (its : Claims) (m : Translator)
     → AllByRecursion (IsObjectRight program its m) m.objects → RefersTo program.types its m.objects it → IsVariableIn program.types [] it
     → (other : TypeId) × (type_of_entity it ≡ Some other) → HasShape program.types it id → category_of program.types id ≡ Some of_function
     → IsFunction it
-declared_function program its m id (entity.Constant bits) are refers global typed shape is = absurd (no_type typed.0 typed.1)
-  where
-    no_type : (other : TypeId) → None ≡ Some other → ⊥
-    no_type other same = cc
+declared_function program its m id (entity.Constant bits) are refers global typed shape is = absurd (none_some typed.0 typed.1)
 declared_function program its m id (entity.Variable (variable.Global place) old) are refers global typed shape is =
     absurd (no_function_there program its m m.objects place are (refers ∙ ap Some ((shape old refl).category ∙ is)))
 declared_function program its m id (entity.Variable (variable.Local place) old) are refers global typed shape is = absurd global
 declared_function program its m id (entity.Function old to) are refers global typed shape is = (old, (to, refl))
-declared_function program its m id (entity.Typedef old) are refers global typed shape is = absurd (no_type typed.0 typed.1)
-  where
-    no_type : (other : TypeId) → None ≡ Some other → ⊥
-    no_type other same = cc
+declared_function program its m id (entity.Typedef old) are refers global typed shape is = absurd (none_some typed.0 typed.1)
 
 -- with another type it is one, too
 pub function_typed : (id : TypeId) (it : Entity) → IsFunction it → IsFunction (with_type_id id it)

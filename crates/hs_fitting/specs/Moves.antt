@@ -3,12 +3,13 @@
 --     moves_self, moves_then         by no step, and by one after another
 --     any_reaches                    with names of any sort
 --     moves_typer                    by a step of typing
-use Rattle.std.proofs.Common.{◌≡◌, List, [], ◌++◌, IsTrue, is_some, Option, Some, None, refl, sym, ap, ◌∙◌}
+use Rattle.std.proofs.Common.{◌≡◌, List, [], ◌++◌, IsTrue, refl, sym, ap, ◌∙◌}
 use Rattle.std.specs.List.{AllByRecursion}
 use Rattle.std.proofs.lemmas.List.{append_assoc, append-nil}
 use Rattle.hs_expressions.specs.Laws.{IsScoped}
 use Rattle.hs_expressions.specs.Laws.Always.{Anything}
 use Rattle.hs_expressions.specs.Laws.Reached.{Reaches, all_appended, all_so, reaches_self, reaches_then, reaches_wider, scoped_after}
+use Rattle.hs_fitting.specs.Tests.{some_there}
 use Rattle.hs_linkage.specs.declared.translator.Translator.{Translator}
 use Rattle.hs_tree.specs.Fitting.{types_of}
 use Rattle.hs_tree.specs.declared.head.VariableDecl.{VariableDecl}
@@ -16,7 +17,6 @@ use Rattle.hs_typer.specs.declared.typer.Entity.{Entity}
 use Rattle.hs_typer.specs.declared.typer.Typer.{Typer}
 use Rattle.hs_types.specs.Growing.{layout_stays}
 use Rattle.hs_types.specs.TypeTables.{TypeTable, Grows, layout_of, is_complete}
-use Rattle.hs_types.specs.declared.layout.Layout.{Layout}
 use Rattle.hs_types.specs.declared.row.TypeId.{TypeId}
 
 -- a type that can be of an object
@@ -24,13 +24,9 @@ abbrev pub IsWhole : TypeTable → TypeId → Type 0
 IsWhole types id = IsTrue (is_complete types id)
 
 -- which stays so
-stays_some : (given : Option Layout) → IsTrue (is_some given) → (layout : Layout) × (given ≡ Some layout)
-stays_some None is = absurd cc
-stays_some (Some layout) is = (layout, refl)
-
 pub whole_stays : (old new : TypeTable) (id : TypeId) → Grows old new → IsWhole old id → IsWhole new id
 whole_stays old new id grows is =
-    let had = stays_some (layout_of old id) is in rw (layout_stays old new id had.0 grows had.1) refl
+    let had = some_there (layout_of old id) is in rw (layout_stays old new id had.0 grows had.1) refl
 
 -- the variables of the function are those that it had, and more of complete types
 pub record HasLocals (types : TypeTable) (old new : List VariableDecl) : Type 0 where

@@ -4,10 +4,11 @@ use Rattle.std.proofs.Common.{◌≡◌, ◌≤◌, ◌<◌, ◌+◌, ◌*◌, �
 use Rattle.std.proofs.lemmas.Bool.Decides.{nat_tests}
 use Rattle.std.proofs.lemmas.Nat.{mul-le}
 use Rattle.std.specs.Prelude.{nat_lt, nat_le, slice_get}
-use Rattle.hs_fitting.specs.Answers.{answered, none_some, false_true}
+use Rattle.hs_fitting.specs.Answers.{none_some, false_true}
 use Rattle.hs_fitting.specs.Fields.{FieldThere, field_there, body_apart, body_inside}
 use Rattle.hs_fitting.specs.Moves.{IsWhole}
 use Rattle.hs_fitting.specs.Scalars.{Aggregate, Subobject, Scalars, Within, IsAt, IsSolidRow, IsSolid, room, Beyond, Next}
+use Rattle.hs_fitting.specs.Tests.{some_same}
 use Rattle.hs_initialisers.specs.Aggregates.{element_at, member_at, itself, next_by, next_in, advanced}
 use Rattle.hs_tree.specs.Kinds.{is_scalar}
 use Rattle.hs_tree.specs.Objects as object
@@ -24,7 +25,7 @@ use Rattle.hs_types.specs.declared.row.TypeId.{TypeId}
 
 -- what a test lets through
 pub if_some : {A : Type 0} → (b : Bool) (x y : A) → (if b then Some x else None) ≡ Some y → (b ≡ true) × (x ≡ y)
-if_some true x y given = (refl, answered x y given)
+if_some true x y given = (refl, some_same x y given)
 if_some false x y given = absurd (none_some y given)
 
 below : (n m : ℕ) → nat_lt n m ≡ true → n < m
@@ -154,11 +155,11 @@ module _ (types : TypeTable) (right : IsRight types) where
       → (its : Field) × (o ≡ Some its)
       × ◌≡◌ {A = Subobject} (record { offset = it.offset + its.offset; type_id = its.type_id; field = Some id }) sub
   member_known it id None sub given = absurd (none_some sub given)
-  member_known it id (Some its) sub given = (its, refl, answered _ sub given)
+  member_known it id (Some its) sub given = (its, refl, some_same _ sub given)
 
   -- the body of a struct is one
   same_body : (number : ℕ) (one other : Body) → body_of types number ≡ Some one → body_of types number ≡ Some other → one ≡ other
-  same_body number one other is is' = answered one other (sym is ∙ is')
+  same_body number one other is is' = some_same one other (sym is ∙ is')
 
   member_within : (it : Aggregate) (number : ℕ) (its : Field) → row_of types it.type_id ≡ Some (row.Struct number)
       → field_of types (record { of = number; place = it.begun }) ≡ Some its → (holds : Scalars) → IsAt types holds it.offset it.type_id it.field

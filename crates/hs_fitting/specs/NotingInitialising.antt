@@ -1,9 +1,8 @@
 -- What typing notes of calls in initialisers.
 --     initialised_notes, starting_notes, inline_words_notes
 use Rattle.std.proofs.Common.{ℕ, Bool, true, false, ◌&&◌, List, [], ◌∷◌, ◌++◌, length, Option, Some, None, Ok, is_some, if◌then◌else◌}
-use Rattle.hs_expressions.specs.Laws.{IsConstant, IsScoped}
-use Rattle.hs_expressions.specs.Laws.Always.{Reaching}
-use Rattle.hs_expressions.specs.Laws.Grown.{Growing, arrayed_grows, end_grows}
+use Rattle.hs_expressions.specs.Laws.{IsConstant}
+use Rattle.hs_fitting.specs.Initialising.{sized_by_grows, tested_always}
 use Rattle.hs_fitting.specs.Noting.{NamesAllow, Noting, Notes}
 use Rattle.hs_fitting.specs.NotingSteps.{gives_notes, refuses_notes, looks_notes, of_types_notes, on_types_notes, after_notes}
 use Rattle.hs_fitting.specs.NotingTyping.{valued_notes}
@@ -22,25 +21,12 @@ use Rattle.hs_typer.specs.Declarators.{constant_of}
 use Rattle.hs_typer.specs.Steps.{Step, ◌>>=◌, give, lifted, of_types, on_types}
 use Rattle.hs_typer.specs.declared.type_error.TypeError.TheVariants.{Untyped}
 use Rattle.hs_typer.specs.declared.typer.Typer.{Typer}
-use Rattle.hs_types.specs.Growing.{grows_self}
 use Rattle.hs_types.specs.TypeTables.{TypeTable, row_of, arrayed}
 use Rattle.hs_types.specs.declared.row.Row.{Row}
 use Rattle.hs_types.specs.declared.row.Row.TheVariants as row
 use Rattle.hs_types.specs.declared.row.TypeId.{TypeId}
 
--- the type of the object
-sized_grows : (at : Place) (id : TypeId) (count : ℕ) (it : Option Row) (types : TypeTable) → Growing types (sized_by at id count it types)
-sized_grows at id count None types = grows_self types
-sized_grows at id count (Some row.Void) types = grows_self types
-sized_grows at id count (Some (row.Integer kind)) types = grows_self types
-sized_grows at id count (Some (row.Pointer of)) types = grows_self types
-sized_grows at id count (Some (row.Enumeration number)) types = grows_self types
-sized_grows at id count (Some (row.Struct number)) types = grows_self types
-sized_grows at id count (Some (row.Array of size layout)) types = grows_self types
-sized_grows at id count (Some (row.OpenArray of)) types = end_grows at types (arrayed of count types) (arrayed_grows of count types)
-sized_grows at id count (Some (row.Function result list)) types = grows_self types
-
--- and the table stays right
+-- with the type of the object the table stays right
 sized_rights : (at : Place) (id : TypeId) (count : ℕ) (it : Option Row) (types : TypeTable) → Righting types (sized_by at id count it types)
 sized_rights at id count None types = right_self types
 sized_rights at id count (Some row.Void) types = right_self types
@@ -59,14 +45,10 @@ module _ (Q : ℕ → TypeId → Type 0) (final : TypeTable) where
       → Notes Q final IsConstant (λ it. Unit {0}) (λ s. if test s then here s else there s)
   tested_notes test here there is is' =
       record {
-        always = record { from = λ s scoped. both_reach (test s) s scoped };
+        always = tested_always test here there is.always is'.always;
         gives = λ s names. both_note (test s) s names;
       }
     where
-      both_reach : (b : Bool) (s : Typer) → IsScoped s → Reaching IsConstant s (if b then here s else there s)
-      both_reach true s scoped = is.always.from s scoped
-      both_reach false s scoped = is'.always.from s scoped
-
       both_note : (b : Bool) (s : Typer) → NamesAllow Q s → Noting Q final (λ it. Unit {0}) s (if b then here s else there s)
       both_note true s names = is.gives s names
       both_note false s names = is'.gives s names
@@ -125,7 +107,7 @@ module _ (Q : ℕ → TypeId → Type 0) (final : TypeTable) where
   -- the type of the object
   sized_notes : (at : Place) (id : TypeId) (count : ℕ) → Notes Q final IsConstant (λ it. Unit {0}) (on_types (sized at id count))
   sized_notes at id count =
-      on_types_notes (sized at id count) (λ types. sized_grows at id count (row_of types id) types)
+      on_types_notes (sized at id count) (λ types. sized_by_grows at id count (row_of types id) types)
       (λ types. sized_rights at id count (row_of types id) types)
 
   -- an expression alone, and a list

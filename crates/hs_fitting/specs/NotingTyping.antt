@@ -187,7 +187,7 @@ module _ (Q : ℕ → TypeId → Type 0) (final : TypeTable) where
     derivations_notes at (syntax.pointing pointers direct) =
         after_notes (derivations_of_notes at direct) (λ its. gives_notes (its ++ pointers_of pointers))
 
-    -- behind the pointers
+    -- after the pointers
     pub derivations_of_notes : (at : Place) (it : Directly) → Notes Q final IsConstant (λ it. Unit {0}) (derivations_of at it)
     derivations_of_notes at syntax.nothing = gives_notes []
     derivations_of_notes at (syntax.identifier word) = gives_notes []

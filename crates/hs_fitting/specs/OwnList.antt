@@ -15,6 +15,7 @@ use Rattle.hs_expressions.specs.Laws.Leaves.{list_of_always}
 use Rattle.hs_expressions.specs.Laws.Reached.{Reaches, reaches_self, reaches_then, reaches_types, scoped_after}
 use Rattle.hs_expressions.specs.Operations.{value_of}
 use Rattle.hs_fitting.specs.Listed.{list_stays, listed_is}
+use Rattle.hs_fitting.specs.Tests.{some_same}
 use Rattle.hs_functions.specs.Functions.{is_name, parameters_of, parameters_of_direct}
 use Rattle.hs_operands.specs.Laws.Added.{row_found}
 use Rattle.hs_syntax.specs.Trees as syntax
@@ -71,7 +72,7 @@ name_derives at (syntax.sized_array base size) s is = absurd cc
 name_derives at (syntax.function base its) s is = absurd cc
 name_derives at (syntax.function_of_void base place) s is = absurd cc
 
--- ---- derivations behind others
+-- ---- derivations after others
 
 -- more of them, while names are constants
 abbrev Adding : List Derivation → Typer → Result (List Derivation × Typer) TypeError → Type 0
@@ -225,10 +226,7 @@ module _ (at : Place) (parameters : Parameters) (s : Typer) (holds : List TypeId
   function_own base its true named inner is =
       subst (λ given. Held (IsOwn holds) (then_with (function_next its) given)) (sym (name_derives at base s named))
       (own_typed (prototype (parameter_types at 0 [] its) s)
-      (subst (λ all. Held holds (prototype (parameter_types at 0 [] all) s)) (sym (same_parameters its parameters is)) listed_here))
-    where
-      same_parameters : (a b : Parameters) → Some a ≡ Some b → a ≡ b
-      same_parameters a b same = cc
+      (subst (λ all. Held holds (prototype (parameter_types at 0 [] all) s)) (sym (some_same its parameters is)) listed_here))
   function_own base its false named inner is = own_then (function_next its) (derivations_of at base s) (inner is) (function_adds its)
 
   -- the same of `(void)`
@@ -239,10 +237,7 @@ module _ (at : Place) (parameters : Parameters) (s : Typer) (holds : List TypeId
   unfolding void_next
   void_own base place true named inner is =
       subst (λ given. Held (IsOwn holds) (then_with void_next given)) (sym (name_derives at base s named))
-      (own_listed [] s (void_here (same_parameters parameters is)))
-    where
-      same_parameters : (b : Parameters) → Some syntax.no_parameters ≡ Some b → syntax.no_parameters ≡ b
-      same_parameters b same = cc
+      (own_listed [] s (void_here (some_same syntax.no_parameters parameters is)))
   void_own base place false named inner is = own_then void_next (derivations_of at base s) (inner is) (λ before. list_adds before [])
 
   mutual
@@ -252,7 +247,7 @@ module _ (at : Place) (parameters : Parameters) (s : Typer) (holds : List TypeId
         own_then (λ its. give (its ++ pointers_of pointers)) (derivations_of at direct s) (direct_own direct is)
         (λ its. adds_given its (pointers_of pointers))
 
-    -- behind its pointers
+    -- after its pointers
     direct_own : (it : Directly) → parameters_of_direct it ≡ Some parameters → Held (IsOwn holds) (derivations_of at it s)
     direct_own syntax.nothing is = absurd cc
     direct_own (syntax.identifier word) is = absurd cc

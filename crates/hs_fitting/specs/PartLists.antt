@@ -16,6 +16,7 @@ use Rattle.hs_fitting.specs.Fields.{FieldThere, field_there}
 use Rattle.hs_fitting.specs.Moves.{IsWhole}
 use Rattle.hs_fitting.specs.Scalars.{Scalars, whole_solid}
 use Rattle.hs_fitting.specs.Staying.{size_stays, field_stays, scalar_stays, element_whole}
+use Rattle.hs_fitting.specs.Tests.{both_true, second_test}
 use Rattle.hs_initialisers.specs.Initialisers.{characters}
 use Rattle.hs_operands.specs.Laws.Stays.{is_scalar-stays}
 use Rattle.hs_tree.specs.Kinds.{IsScalar, IsStruct, IsNumber}
@@ -51,14 +52,6 @@ pub record AreParts (program : TypedProgram) (holds : Scalars) (low high : ℕ) 
 is_less : (n m : ℕ) → n < m → nat_lt n m ≡ true
 is_less n m is = grind (arith, nat_tests, is)
 
-both_true : (a b : Bool) → a ≡ true → b ≡ true → (a && b) ≡ true
-both_true a b is is' = rw is is'
-
--- the second of two tests
-second_true : (a b : Bool) → (a && b) ≡ true → b ≡ true
-second_true true b is = is
-second_true false b is = absurd cc
-
 -- those that come first are before a byte, and the others are not
 ascend_then : (mid low high : ℕ) (xs ys : List Part) → AllByRecursion (IsBetween low mid) xs → AllByRecursion (IsBetween mid high) ys
     → offsets_ascend xs ≡ true → offsets_ascend ys ≡ true → offsets_ascend (xs ++ ys) ≡ true
@@ -68,7 +61,7 @@ ascend_then mid low high (x ∷ []) (y ∷ ys) before after is is' =
     both_true (nat_lt x.offset y.offset) (offsets_ascend (y ∷ ys)) (is_less x.offset y.offset (omega (arith, before.0.1, after.0.0))) is'
 ascend_then mid low high (x ∷ next ∷ xs) ys before after is is' =
     rest (nat_lt x.offset next.offset) is
-    (ascend_then mid low high (next ∷ xs) ys before.1 after (second_true (nat_lt x.offset next.offset) (offsets_ascend (next ∷ xs)) is) is')
+    (ascend_then mid low high (next ∷ xs) ys before.1 after (second_test (nat_lt x.offset next.offset) (offsets_ascend (next ∷ xs)) is) is')
   where
     rest : (b : Bool) → (b && offsets_ascend (next ∷ xs)) ≡ true → offsets_ascend (next ∷ xs ++ ys) ≡ true
         → (b && offsets_ascend (next ∷ xs ++ ys)) ≡ true

@@ -10,13 +10,13 @@ use Rattle.hs_expressions.specs.Laws.{IsConstant, IsScoped, Knows}
 use Rattle.hs_expressions.specs.Laws.Always.{Always, gives_always, then_always}
 use Rattle.hs_fitting.specs.Answers.{false_true}
 use Rattle.hs_fitting.specs.Filling.{Simple}
-use Rattle.hs_fitting.specs.Initialising.{alone_always, braced_always}
+use Rattle.hs_fitting.specs.Initialising.{alone_always, braced_always, sized_always}
 use Rattle.hs_fitting.specs.Listing.{Braced, alone_started, braced_started}
 use Rattle.hs_fitting.specs.Moves.{IsWhole}
 use Rattle.hs_fitting.specs.PartLists.{AreParts, InElements, parts_until, complete_parts, counted_parts}
 use Rattle.hs_fitting.specs.Readying.{Started, then_started}
 use Rattle.hs_fitting.specs.Scalars.{Within, IsAt, IsSolidRow, IsSolid, whole_at}
-use Rattle.hs_fitting.specs.Sizing.{MayHaveStart, may_start_solid, IsSized, sized_always, sized_started}
+use Rattle.hs_fitting.specs.Sizing.{MayHaveStart, may_start_solid, IsSized, sized_started}
 use Rattle.hs_initialisers.specs.Aggregates.{count_begun}
 use Rattle.hs_initialisers.specs.Initialisers.{Filled, braced, all_of, sized, alone, initialised}
 use Rattle.hs_syntax.specs.Trees as syntax

@@ -13,6 +13,7 @@ use Rattle.hs_expressions.specs.Expressions.{first_place}
 use Rattle.hs_expressions.specs.Laws.Reached.{all_so}
 use Rattle.hs_fitting.specs.Known.{IsValue, types_walks, valued_walks}
 use Rattle.hs_fitting.specs.Leaving.{scoped_walks}
+use Rattle.hs_fitting.specs.Tests.{second_of_three, second_test}
 use Rattle.hs_fitting.specs.Walk.{Anywhere, Nothing, Walks, passes_walks, stops_walks, knowing_walks, unless_walks, then_walks, so_walks}
 use Rattle.hs_linkage.specs.Works.{Work, ◌>>=◌, knowing, unless}
 use Rattle.hs_linkage.specs.declared.translator.Translator.{Translator}
@@ -71,20 +72,10 @@ lifted_given : {A : Type 0} → (given : Result A OperandEnd) (it : A) → lifte
 lifted_given (Ok made) it is = cc
 lifted_given (Err why) it is = absurd cc
 
--- a type of which either test says that its values can be read
+-- a type of which the first test says that its values can be read
 readable_number : (a b c : Bool) → a ≡ true → ((a || b) || c) ≡ true
 readable_number true b c is = refl
 readable_number false b c is = absurd cc
-
-readable_pointer : (a b c : Bool) → b ≡ true → ((a || b) || c) ≡ true
-readable_pointer true b c is = refl
-readable_pointer false true c is = refl
-readable_pointer false false c is = absurd cc
-
--- the second of two tests
-second_of : (a b : Bool) → (a && b) ≡ true → b ≡ true
-second_of true b is = is
-second_of false b is = absurd cc
 
 -- to a number
 number_readable : (types : TypeTable) (at : Place) (id : TypeId) (e : RightValue) (given : Option Integer) (test : Bool) → number_kind types id ≡ given
@@ -101,11 +92,11 @@ assigned_readable types at id e =
     (if is_pointer types id
     then assigned_pointer types at id e
     else assigned_number at id (number_kind types id) (is_number types (type_of e)) e)
-    (λ same made given. second_of (same_type (type_of e) id) (is_readable types id) same)
+    (λ same made given. second_test (same_type (type_of e) id) (is_readable types id) same)
     (λ other. either_way (Makes (λ made. is_readable types id ≡ true)) (is_pointer types id) (assigned_pointer types at id e)
     (assigned_number at id (number_kind types id) (is_number types (type_of e)) e)
     (λ pointer made given.
-    readable_pointer (is_number types id) (is_pointer types id) (is_struct_row (row_of types id) && is_complete types id) pointer)
+    second_of_three (is_number types id) (is_pointer types id) (is_struct_row (row_of types id) && is_complete types id) pointer)
     (λ neither. number_readable types at id e (number_kind types id) (is_number types (type_of e)) refl))
 
 -- what is promoted twice is promoted once

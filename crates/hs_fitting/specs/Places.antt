@@ -5,6 +5,7 @@ use Rattle.std.proofs.Common.{◌≡◌, Bool, true, false, ◌&&◌, ◌||◌, 
 use Rattle.std.proofs.lemmas.Bool.{and_parts}
 use Rattle.std.specs.List.{list_any}
 use Rattle.indexmap.specs.IndexSet.{insert_key}
+use Rattle.hs_fitting.specs.Tests.{not_false, or_true, both_true}
 use Rattle.hs_fitting.specs.Works.{Always, AlwaysIf, passes_always, stops_always, then_always, next_always, tested_always, scoped_always}
 use Rattle.hs_linkage.specs.Works.{knowing, unless}
 use Rattle.hs_operands.specs.Constants.{constant_value}
@@ -66,15 +67,7 @@ labels_are here kind done cases (it ∷ rest) (may, is, before) =
 each : (one other last : Bool) → one ≡ true → other ≡ true → last ≡ true → (one && other && last) ≡ true
 each one other last is too also = rw (is, too) also
 
-both : (one other : Bool) → one ≡ true → other ≡ true → (one && other) ≡ true
-both one other is too = rw is too
-
--- no labels at first
-none_yet : (here : Bool) → (here || true) ≡ true
-none_yet true = refl
-none_yet false = refl
-
--- statements that may be where they are, with one more behind
+-- statements that may be where they are, with one more after
 more_stand : (here breaks loops : Bool) (done : List OneStatement) (labels : List Label) (it : TypedStatement)
     → statements_may_stand here breaks loops (statements_from done) ≡ true → (here || is_empty labels) ≡ true → may_stand breaks loops it ≡ true
     → statements_may_stand here breaks loops (statements_from (done ++ one_statement labels it ∷ [])) ≡ true
@@ -85,11 +78,6 @@ more_stand here breaks loops (one_statement others other ∷ done) labels it bef
     each (here || is_empty others) (may_stand breaks loops other)
     (statements_may_stand here breaks loops (statements_from (done ++ one_statement labels it ∷ [])))
     first.0 first.1 (more_stand here breaks loops done labels it front.1 may stands)
-
--- what is not left out is there
-not_not : (b : Bool) → not b ≡ false → b ≡ true
-not_not true is = refl
-not_not false is = absurd cc
 
 -- no switch is around it
 no_labels : MayLabel false None
@@ -107,7 +95,7 @@ mutual
   stated_stands at (syntax.if_else place test taken otherwise) =
       next_always (condition place test)
       (λ c. then_always (stated_stands at taken)
-      (λ a is. then_always (stated_stands at otherwise) (λ b is'. passes_always _ (tree.if_else place c a b) (both _ _ is is'))))
+      (λ a is. then_always (stated_stands at otherwise) (λ b is'. passes_always _ (tree.if_else place c a b) (both_true _ _ is is'))))
   stated_stands at (syntax.while_ place test body) =
       next_always (condition place test)
       (λ c. then_always (stated_stands (looping at) body) (λ a is. passes_always _ (tree.while_ place c a) is))
@@ -125,9 +113,9 @@ mutual
       (λ cases. then_always (scoped_always (block_stands true (switching at) cases it (λ is. refl)))
       (λ its is. passes_always _ (tree.switch_ place c its) is)))
   stated_stands at (syntax.break_ place) =
-      tested_always (Untyped place) (not at.breaks) (λ may. passes_always _ (tree.break_ place) (not_not at.breaks may))
+      tested_always (Untyped place) (not at.breaks) (λ may. passes_always _ (tree.break_ place) (not_false at.breaks may))
   stated_stands at (syntax.continue_ place) =
-      tested_always (Untyped place) (not at.loops) (λ may. passes_always _ (tree.continue_ place) (not_not at.loops may))
+      tested_always (Untyped place) (not at.loops) (λ may. passes_always _ (tree.continue_ place) (not_false at.loops may))
   stated_stands at (syntax.return_ place e) =
       next_always (returned place at.result e) (λ its. passes_always _ (tree.return_ place its) refl)
 
@@ -144,7 +132,7 @@ mutual
       (λ its. statements_may_stand here at.breaks at.loops (statements_from its) ≡ true)
   statements_stand here kind at cases done syntax.no_statements (may, same, before) = passes_always _ done before
   statements_stand here kind at cases done (syntax.more_statements labels it rest) (may, same, before) =
-      then_always (labels_are here kind [] cases labels (may, same, none_yet here))
+      then_always (labels_are here kind [] cases labels (may, same, or_true here))
       (λ p its. then_always (stated_stands at it)
       (λ one is. statements_stand here kind at p.1 (done ++ one_statement p.0 one ∷ []) rest
       (may, its.1, more_stand here at.breaks at.loops done p.0 one before its.0 is)))

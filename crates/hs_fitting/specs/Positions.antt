@@ -3,7 +3,7 @@
 --     definition_at             the number of a function definition is that of the definitions before it
 --     function_counts, declaration_counts, unit_counts      the numbers go on, from one external declaration and from one unit to the next
 --     declaration_static, function_static                   a name that is declared with `static` has internal linkage in the unit
-use Rattle.std.proofs.Common.{◌≡◌, ◌≤◌, ℕ, zero, suc, ◌+◌, Bool, true, ◌&&◌, ◌||◌, List, [], ◌∷◌, ◌++◌, length, slice_get, Option, Some, refl, sym, ap, subst, ◌∙◌, arith}
+use Rattle.std.proofs.Common.{◌≡◌, ◌≤◌, ℕ, zero, suc, ◌+◌, Bool, true, ◌||◌, List, [], ◌∷◌, ◌++◌, length, slice_get, Option, Some, refl, sym, ap, subst, ◌∙◌, arith}
 use Rattle.std.proofs.lemmas.Bool.{or_left, or_right}
 use Rattle.std.proofs.lemmas.Bool.Decides.{nat_tests}
 use Rattle.std.proofs.lemmas.List.{append_assoc, append-nil, length-append}
@@ -12,6 +12,7 @@ use Rattle.std.specs.Cmp.Lexicographic.{nat_list_eq_equiv}
 use Rattle.std.specs.List.{AllByRecursion, list_any}
 use Rattle.std.specs.Prelude.{◌==◌}
 use Rattle.hs_expressions.specs.Laws.Reached.{all_appended, all_so}
+use Rattle.hs_fitting.specs.Tests.{both_true, some_same}
 use Rattle.hs_linkage.specs.Definitions.{has_static, is_named, makes_static, is_internal, text_of, definition_of, definitions_in, all_definitions}
 use Rattle.hs_linkage.specs.declared.definitions.Definition.{Definition}
 use Rattle.hs_syntax.specs.Trees as syntax
@@ -22,15 +23,12 @@ use Rattle.hs_typer.specs.Declarators.{word_of}
 -- ---- lists
 
 -- what is so of all entries is so of the one at a place
-at_place : {A : Type 0} → (holds : A → Type 0) (xs : List A) (place : ℕ) (x : A) → AllByRecursion holds xs → slice_get xs place ≡ Some x → holds x
+pub at_place : {A : Type 0} → (holds : A → Type 0) (xs : List A) (place : ℕ) (x : A) → AllByRecursion holds xs → slice_get xs place ≡ Some x → holds x
 at_place holds [] place x are at = absurd cc
 at_place holds (y ∷ xs) zero x are at = subst holds (some_same y x at) are.0
-  where
-    some_same : {A : Type 0} → (a b : A) → Some a ≡ Some b → a ≡ b
-    some_same a b same = cc
 at_place holds (y ∷ xs) (suc place) x are at = at_place holds xs place x are.1 at
 
--- an entry behind others
+-- an entry after others
 behind_at : {A : Type 0} → (xs : List A) (x : A) (more : List A) → slice_get (xs ++ x ∷ more) (length xs) ≡ Some x
 behind_at [] x more = refl
 behind_at (y ∷ xs) x more = behind_at xs x more
@@ -209,10 +207,6 @@ unit_counts before unit =
 named_so : (o : Option Word) (word : Word) → o ≡ Some word → is_named word.text o ≡ true
 named_so o word is = subst (λ o. is_named word.text o ≡ true) (sym is) (nat_list_eq_equiv.refl word.text)
 
--- both are so
-both : (one other : Bool) → one ≡ true → other ≡ true → (one && other) ≡ true
-both one other is too = rw is too
-
 -- one entry of a list meets the test
 any_around : {A : Type 0} → (test : A → Bool) (all first : List A) (x : A) (rest : List A) → all ≡ first ++ x ∷ rest → test x ≡ true
     → list_any test all ≡ true
@@ -227,7 +221,7 @@ pub function_static : (unit first rest : List ExternalDeclaration) (words : Spec
     → is_internal unit word.text ≡ true
 function_static unit first rest words it body same static word is =
     any_around (makes_static word.text) unit first (syntax.function_definition words it body) rest same
-    (both (has_static words) (is_named word.text (word_of it)) static (named_so (word_of it) word is))
+    (both_true (has_static words) (is_named word.text (word_of it)) static (named_so (word_of it) word is))
 
 -- a declarator among others
 names_static : (done its : List Declaring) (all : List Declaring) → all ≡ done ++ its
@@ -248,5 +242,5 @@ declaration_static unit first rest it same static =
     (λ item. (word : Word) → word_of item.declarator ≡ Some word → list_any (λ item. is_named word.text (word_of item.declarator)) it.items ≡ true)
     (λ item. (word : Word) → word_of item.declarator ≡ Some word → is_internal unit word.text ≡ true)
     (λ item named word is. any_around (makes_static word.text) unit first (syntax.declaration it) rest same
-    (both (has_static it.specifiers) (list_any (λ item. is_named word.text (word_of item.declarator)) it.items) static (named word is)))
+    (both_true (has_static it.specifiers) (list_any (λ item. is_named word.text (word_of item.declarator)) it.items) static (named word is)))
     it.items (names_static [] it.items it.items refl)

@@ -9,19 +9,21 @@ use Rattle.std.proofs.lemmas.Bool.Decides.{nat_tests}
 use Rattle.std.proofs.lemmas.Option.{slice_get_within}
 use Rattle.std.specs.List.{AllByRecursion}
 use Rattle.hs_expressions.specs.Binding.{IsNotedCall}
-use Rattle.hs_expressions.specs.Binding.Keeping.{all_before}
-use Rattle.hs_expressions.specs.Laws.{IsPrefix, IsScoped}
+use Rattle.hs_expressions.specs.Laws.{IsScoped}
 use Rattle.hs_expressions.specs.Laws.Reached.{all_so, prefix_then}
+use Rattle.hs_fitting.specs.Answers.{none_some}
 use Rattle.hs_fitting.specs.BlockWalks.{block_declared_walks}
 use Rattle.hs_fitting.specs.Claims.{Claims, no_claims, IsMarkedIn, ObjectsStay, IsBoundAs, IsExternal, IsSigned, IsRoutineDeclared, IsRegisteredAs, IsMet, IsMetAs, Endures, IsObjectRight, Stands}
 use Rattle.hs_fitting.specs.Done.{AreDone, none_done}
 use Rattle.hs_fitting.specs.FileLocals.{file_declared_locals}
 use Rattle.hs_fitting.specs.FileWalks.{file_declared_walks}
 use Rattle.hs_fitting.specs.Known.{all_by_both}
+use Rattle.hs_fitting.specs.Lasting.{all_of_prefix}
 use Rattle.hs_fitting.specs.Names.{names_of, defined_names, AreNamed, unit_named}
 use Rattle.hs_fitting.specs.Passes.{AreWhole, Passes}
 use Rattle.hs_fitting.specs.Positions.{unit_internal, unit_counts}
 use Rattle.hs_fitting.specs.Rightness.{right_later}
+use Rattle.hs_fitting.specs.Tests.{true_false}
 use Rattle.hs_fitting.specs.UnitEnds.{signed_ended, unit_before}
 use Rattle.hs_fitting.specs.Units.{AllFit, unit_fits, units_fit}
 use Rattle.hs_fitting.specs.UnitWalks.{IsRightFunction, GoneRight, GoingRight, externals_right}
@@ -213,9 +215,6 @@ module _ (program : TypedProgram) (sound : IsRight program.types) (anyone : Type
 
         met_if : (b : Bool) → (it.unit == m.typer.origins.unit) ≡ b → b ≡ false → IsMet m it
         met_if b is fails = subst (λ c. IsMetAs c m it) (sym internal) (λ same. absurd (true_false b (sym is ∙ same) fails))
-          where
-            true_false : (b : Bool) → b ≡ true → b ≡ false → ⊥
-            true_false b is is' = cc
 
         by_unit : its.functions number ≡ None → (b : Bool) → (it.unit == m.typer.origins.unit) ≡ b → it.unit < suc (length before)
         by_unit free true is = subst (λ n. it.unit < suc n) between.unit (same_number it.unit m.typer.origins.unit is)
@@ -343,9 +342,6 @@ came_then program units before later its m n p done some all first passes second
       gives = λ endures are. second.gives endures (first.gives (endures_onward endures) are);
     }
   where
-    all_of_prefix : {A : Type 0} → (holds : A → Type 0) (old new : List A) → IsPrefix old new → AllByRecursion holds new → AllByRecursion holds old
-    all_of_prefix holds old new more are = all_before holds old more.0 (subst (AllByRecursion holds) more.1 are)
-
     endures_onward : Endures program second.claims p → Endures program first.claims n
     endures_onward endures =
         record {
@@ -399,9 +395,6 @@ module _ (program : TypedProgram) (sound : IsRight program.types) (anyone : Type
 
 -- ---- from the beginning
 
-none_claimed : (id : TypeId) → ◌≡◌ {A = Option TypeId} None (Some id) → ⊥
-none_claimed id same = cc
-
 -- before the first unit
 pub begins : (program : TypedProgram) (table : List Routine) (units : List (List ExternalDeclaration))
     → Between program units [] no_claims (before_units table (all_definitions 0 units)) []
@@ -423,14 +416,14 @@ begins program table units =
         calls = tt;
         right = right_later table;
         objects = tt;
-        functions_met = λ number id it claimed at. absurd (none_claimed id claimed);
-        routines_met = λ number id it claimed at. absurd (none_claimed id claimed);
-        functions_there = λ number id claimed. absurd (none_claimed id claimed);
-        routines_there = λ number id claimed. absurd (none_claimed id claimed);
+        functions_met = λ number id it claimed at. absurd (none_some id claimed);
+        routines_met = λ number id it claimed at. absurd (none_some id claimed);
+        functions_there = λ number id claimed. absurd (none_some id claimed);
+        routines_there = λ number id claimed. absurd (none_some id claimed);
         internal = internal;
       };
       functions = none_done program no_claims (before_units table (all_definitions 0 units));
-      past = λ number id it claimed at internal. absurd (none_claimed id claimed);
+      past = λ number id it claimed at internal. absurd (none_some id claimed);
       signed = tt;
     }
 

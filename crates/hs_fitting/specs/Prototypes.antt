@@ -78,7 +78,7 @@ names_later done more (entity.Typedef id) is = absurd is
 
 -- ---- steps
 
--- After the types of parameters, if they are an answer, behind those that were done: names are parameters and constants.
+-- After the types of parameters, if they are an answer, after those that were done: names are parameters and constants.
 abbrev pub Lists : Typer → List TypeId → Parameters → Result (List TypeId × Typer) TypeError → Type 0
 Lists s done its (Ok p) = Reaches (IsParameterName p.0) s p.1 × (ids : List TypeId) × (p.0 ≡ done ++ ids) × AreAsMany ids its
 Lists s done its (Err why) = Unit {0}

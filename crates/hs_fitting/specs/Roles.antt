@@ -1,11 +1,12 @@
 -- What the test of a declaration says in the words of hs_tree.
 --     role_fits       a declaration that fits its role has the parameters and the result of the role
-use Rattle.std.proofs.Common.{◌≡◌, ℕ, zero, suc, Bool, true, false, ◌&&◌, List, [], ◌∷◌, Option, Some, None, IsTrue, refl, ap, sym, ◌∙◌, if◌then◌else◌}
+use Rattle.std.proofs.Common.{◌≡◌, ℕ, zero, suc, Bool, true, List, [], ◌∷◌, Option, Some, None, IsTrue, ap, sym, ◌∙◌, if◌then◌else◌}
 use Rattle.std.specs.Prelude.{slice_get}
 use Rattle.hs_expressions.specs.Binding.{IsList, IsSignature}
 use Rattle.hs_expressions.specs.Roles as test
 use Rattle.hs_expressions.specs.Roles.{answer_of, shapes_of, is_answer, is_end, next_of, first_and, are_shaped, is_filled, fills, is_plain, fits_parameters, fits_row, fits_routine, fits_role}
 use Rattle.hs_fitting.specs.NotingRoles.{forms_of, is_of, are_of, same_forms}
+use Rattle.hs_fitting.specs.Tests.{both_tests}
 use Rattle.hs_table.specs.declared.role.Role.{Role}
 use Rattle.hs_table.specs.declared.role.Role.TheVariants as role
 use Rattle.hs_table.specs.declared.routine.Routine.{Routine}
@@ -18,11 +19,6 @@ use Rattle.hs_types.specs.declared.row.Parameters.TheVariants.{Empty, More}
 use Rattle.hs_types.specs.declared.row.Row.TheVariants as row
 use Rattle.hs_types.specs.declared.row.TypeId.{TypeId}
 
--- two tests that are both met
-both_met : (a b : Bool) → (a && b) ≡ true → (a ≡ true) × (b ≡ true)
-both_met true b met = (refl, met)
-both_met false b met = absurd cc
-
 -- what a test says of a list that has ended, and of one that has not
 end_met : (o : Option Parameters) (id : TypeId) (others : ListId) → o ≡ Some (More id others) → is_end o ≡ true → ⊥
 end_met None id others is met = cc
@@ -33,7 +29,7 @@ end_met (Some (More first rest)) id others is met = cc
 first_met : (check : TypeId → Bool) (next : ListId → Bool) (o : Option Parameters) (id : TypeId) (others : ListId) → o ≡ Some (More id others)
     → first_and check next (next_of o) ≡ true → (check id ≡ true) × (next others ≡ true)
 first_met check next o id others is met =
-    both_met (check id) (next others) (sym (ap (λ its. first_and check next (next_of its)) is) ∙ met)
+    both_tests (check id) (next others) (sym (ap (λ its. first_and check next (next_of its)) is) ∙ met)
 
 -- and the test of a first one that is not there
 none_met : (check : TypeId → Bool) (next : ListId → Bool) (o : Option Parameters) → o ≡ Some Empty
@@ -115,5 +111,5 @@ role_fits types table number routine id parameters result there is met =
     let fits : fits_row types routine (Some (row.Function result is.0)) ≡ true
     = sym (ap (fits_row types routine) is.1) ∙ sym (ap (fits_routine types id) there) ∙ met in
     let both : (is_answer types (answer_of routine.role) result ≡ true) × (fits_parameters types routine is.0 ≡ true)
-    = both_met (is_answer types (answer_of routine.role) result) (fits_parameters types routine is.0) fits in
+    = both_tests (is_answer types (answer_of routine.role) result) (fits_parameters types routine is.0) fits in
     named_met types routine.role routine.fills is.0 parameters result is.2 both.0 both.1

@@ -5,10 +5,12 @@ use Rattle.std.proofs.Common.{◌≡◌, ℕ, zero, suc, Bool, true, false, ◌|
 use Rattle.std.specs.List.{AllByRecursion}
 use Rattle.hs_fitting.specs.Claims.{Claims, ObjectsStay, Endures, IsObjectRight, category_at}
 use Rattle.hs_fitting.specs.Links.{objects_self}
+use Rattle.hs_fitting.specs.Positions.{at_place}
+use Rattle.hs_fitting.specs.Tests.{some_same}
 use Rattle.hs_linkage.specs.Objects.{object_as, object_with}
 use Rattle.hs_linkage.specs.declared.translator.StaticObject.{StaticObject}
 use Rattle.hs_linkage.specs.declared.translator.Translator.{Translator}
-use Rattle.hs_tree.specs.Kinds.{Category, of_function, category_of}
+use Rattle.hs_tree.specs.Kinds.{of_function, category_of}
 use Rattle.hs_tree.specs.Objects.{FitsParts}
 use Rattle.hs_tree.specs.Trees.{TypedProgram}
 use Rattle.hs_tree.specs.declared.constant.Part.{Part}
@@ -59,15 +61,6 @@ all_set holds [] place new are is = tt
 all_set holds (it ∷ rest) zero new are is = (is, are.1)
 all_set holds (it ∷ rest) (suc place) new are is = (are.0, all_set holds rest place new are.1 is)
 
--- what is so of all is so of one
-all_at : {A : Type 0} → (holds : A → Type 0) (its : List A) (place : ℕ) (it : A) → AllByRecursion holds its → slice_get its place ≡ Some it → holds it
-all_at holds [] place it are at = absurd cc
-all_at holds (first ∷ rest) zero it are at = subst holds (some_same first it at) are.0
-  where
-    some_same : {A : Type 0} → (a b : A) → Some a ≡ Some b → a ≡ b
-    some_same a b same = cc
-all_at holds (first ∷ rest) (suc place) it are at = all_at holds rest place it are.1 at
-
 -- neither of two tests is met
 not_first : (a b : Bool) → (a || b) ≡ false → a ≡ false
 not_first true b is = is
@@ -77,10 +70,7 @@ module _ (program : TypedProgram) (its : Claims) (m : Translator) where
   -- an object of the category of another one is no function
   no_function : (id : TypeId) (it : StaticObject) → IsObjectRight program its m it
       → category_at program.types (Some it) ≡ Some (category_of program.types id) → category_of program.types id ≡ Some of_function → ⊥
-  no_function id it is same kind = is.category (same_category (category_of program.types it.variable.type_id) (category_of program.types id) same ∙ kind)
-    where
-      same_category : (a b : Option Category) → Some a ≡ Some b → a ≡ b
-      same_category a b same = cc
+  no_function id it is same kind = is.category (some_same (category_of program.types it.variable.type_id) (category_of program.types id) same ∙ kind)
 
   -- a declaration gives another type only to an object without an initialiser
   right_if : (id : TypeId) (objects : List StaticObject) (place : ℕ) (it : StaticObject) (complete b : Bool) → (it.defined || complete) ≡ b
@@ -90,7 +80,7 @@ module _ (program : TypedProgram) (its : Claims) (m : Translator) where
       (if b then objects else slice_set objects place (record it { variable = record it.variable { type_id = id } }))
   right_if id objects place it complete true test at same are = are
   right_if id objects place it complete false test at same are =
-      let is : IsObjectRight program its m it = all_at (IsObjectRight program its m) objects place it are at in
+      let is : IsObjectRight program its m it = at_place (IsObjectRight program its m) objects place it are at in
       let empty : it.parts ≡ [] = is.undefined (not_first it.defined complete test) in
       all_set (IsObjectRight program its m) objects place (record it { variable = record it.variable { type_id = id } }) are
       (record {
@@ -114,7 +104,7 @@ module _ (program : TypedProgram) (its : Claims) (m : Translator) where
       → AllByRecursion (IsObjectRight program its m) (object_with id parts o objects place)
   defined_right id parts objects place None at same fits are = are
   defined_right id parts objects place (Some it) at same fits are =
-      let is : IsObjectRight program its m it = all_at (IsObjectRight program its m) objects place it are at in
+      let is : IsObjectRight program its m it = at_place (IsObjectRight program its m) objects place it are at in
       all_set (IsObjectRight program its m) objects place
       (record { variable = record it.variable { type_id = id }; parts = parts; defined = true }) are
       (record { category = no_function id it is same; undefined = λ undefined. absurd cc; filled = fits })

@@ -10,6 +10,8 @@ use Rattle.std.proofs.Common.{◌≡◌, ◌≤◌, ◌⊎◌, inl, inr, ℕ, ze
 use Rattle.std.specs.Prelude.{◌&&◌, ◌||◌}
 use Rattle.hs_expressions.specs.Binding.{IsList, IsSignature, AllAlike, IsLike}
 use Rattle.hs_expressions.specs.Binding.Calls.{end_or_more, same_first, same_others, same_result, same_parameters}
+use Rattle.hs_fitting.specs.Listed.{list_stays}
+use Rattle.hs_fitting.specs.Tests.{both_tests}
 use Rattle.hs_linkage.specs.Linkage.{composite}
 use Rattle.hs_operands.specs.Conversions.{same_type}
 use Rattle.hs_operands.specs.Laws.Numbers.{same-is}
@@ -51,7 +53,7 @@ module _ (types : TypeTable) where
   all_alike_turned (id ∷ ids) (other ∷ others) are = (sym are.0, all_alike_turned ids others are.1)
 
   -- and like a third one
-  all_alike_then : (its others thirds : List TypeId) → AllAlike types its others → AllAlike types others thirds → AllAlike types its thirds
+  pub all_alike_then : (its others thirds : List TypeId) → AllAlike types its others → AllAlike types others thirds → AllAlike types its thirds
   all_alike_then [] [] thirds are are' = are'
   all_alike_then [] (other ∷ others) thirds are are' = absurd are
   all_alike_then (id ∷ ids) [] thirds are are' = absurd are
@@ -155,11 +157,6 @@ module _ (types : TypeTable) where
 either_one : (a b : Bool) → (a || b) ≡ true → (a ≡ true) ⊎ (b ≡ true)
 either_one true b is = inl refl
 either_one false b is = inr is
-
--- both of two tests
-pub both_tests : (a b : Bool) → (a && b) ≡ true → (a ≡ true) × (b ≡ true)
-both_tests true b is = (refl, is)
-both_tests false b is = absurd cc
 
 -- two rows that are there, of one category, which is not that of functions
 abbrev AreObjects : Option Row → Option Row → Type 0
@@ -343,12 +340,6 @@ agree_same_category old types o a b grows is = (objects_agree_shape old types gr
 abbrev AgreedLists : TypeTable → TypeTable → ℕ → ListId → ListId → Type 0
 AgreedLists old types count list other =
     (its : List TypeId) × (others : List TypeId) × IsList old list its × IsList old other others × AllAlike types its others × (suc (length its) ≤ count)
-
--- a list that is there stays
-pub list_stays : (old types : TypeTable) → Grows old types → (list : ListId) (its : List TypeId) → IsList old list its → IsList types list its
-list_stays old types grows list [] is = grows.lists list.number Empty is
-list_stays old types grows list (id ∷ ids) is =
-    (is.0, grows.lists list.number (More id is.0) is.1, list_stays old types grows is.0 ids is.2)
 
 -- no parameters
 none_fewer : (count : ℕ) → suc zero ≤ suc count

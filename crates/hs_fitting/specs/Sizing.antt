@@ -2,15 +2,13 @@
 --     MayHaveStart types id           the type is complete, or an array of complete elements whose length is not known
 --     may_start_solid                 so it is solid
 --     IsSized, sized_started          the type after the initialiser
-use Rattle.std.proofs.Common.{◌≡◌, ℕ, Bool, true, false, ◌||◌, Option, Some, None, is_some, Result, Ok, Err, refl, ap, sym, subst, ◌∙◌}
+use Rattle.std.proofs.Common.{◌≡◌, ℕ, true, false, ◌||◌, Option, Some, None, is_some, Result, Ok, Err, refl, ap, sym, subst, ◌∙◌}
 use Rattle.hs_expressions.specs.Binding.Keeping.{Giving}
-use Rattle.hs_expressions.specs.Laws.{IsConstant}
-use Rattle.hs_expressions.specs.Laws.Always.{Always, on_types_always}
-use Rattle.hs_expressions.specs.Laws.Grown.{Growing, arrayed_grows, end_grows}
 use Rattle.hs_fitting.specs.Moves.{IsWhole}
 use Rattle.hs_fitting.specs.Readying.{Started}
 use Rattle.hs_fitting.specs.Scalars.{IsSolidRow, IsSolid, open_not_whole}
 use Rattle.hs_fitting.specs.Staying.{row_stays}
+use Rattle.hs_fitting.specs.Tests.{or_false}
 use Rattle.hs_fitting.specs.Whole.{MayStart}
 use Rattle.hs_initialisers.specs.Initialisers.{sized_by, sized}
 use Rattle.hs_operands.specs.Laws.Added.{row_found}
@@ -20,7 +18,6 @@ use Rattle.hs_tree.specs.Trees.{TypedFunction, TypedProgram}
 use Rattle.hs_typer.specs.Declarators.{untyped_end}
 use Rattle.hs_typer.specs.Steps.{with_types, on_types}
 use Rattle.hs_typer.specs.declared.typer.Typer.{Typer}
-use Rattle.hs_types.specs.Growing.{grows_self}
 use Rattle.hs_types.specs.Layouts.{array_layout}
 use Rattle.hs_types.specs.TypeTables.{TypeTable, row_of, layout_in, layout_of, row_of_layout, row_of_element, with_result, arrayed, id_of, IsRight, Grows}
 use Rattle.hs_types.specs.declared.layout.Layout.{Layout}
@@ -35,20 +32,16 @@ pub record MayHaveStart (types : TypeTable) (id : TypeId) : Type 0 where
   pub elements : (of : TypeId) → row_of types id ≡ Some (row.OpenArray of) → IsWhole types of
 
 -- so the type is solid
-no_more : (b : Bool) → (b || false) ≡ true → b ≡ true
-no_more true is = refl
-no_more false is = is
-
 solid_by : (types : TypeTable) (id : TypeId) (o : Option Row) → row_of types id ≡ o → (is_some (layout_in types o) || is_open_row o) ≡ true
     → ((of : TypeId) → o ≡ Some (row.OpenArray of) → IsWhole types of) → IsSolidRow types id o
-solid_by types id None same may elements = rw same (no_more false may)
-solid_by types id (Some row.Void) same may elements = rw same (no_more (is_some (layout_in types (Some row.Void))) may)
-solid_by types id (Some (row.Integer kind)) same may elements = rw same (no_more (is_some (layout_in types (Some (row.Integer kind)))) may)
-solid_by types id (Some (row.Pointer of)) same may elements = rw same (no_more (is_some (layout_in types (Some (row.Pointer of)))) may)
-solid_by types id (Some (row.Enumeration number)) same may elements = rw same (no_more (is_some (layout_in types (Some (row.Enumeration number)))) may)
-solid_by types id (Some (row.Struct number)) same may elements = rw same (no_more (is_some (layout_in types (Some (row.Struct number)))) may)
-solid_by types id (Some (row.Array of size layout)) same may elements = rw same (no_more (is_some (layout_in types (Some (row.Array of size layout)))) may)
-solid_by types id (Some (row.Function result list)) same may elements = rw same (no_more (is_some (layout_in types (Some (row.Function result list)))) may)
+solid_by types id None same may elements = rw same (or_false false may)
+solid_by types id (Some row.Void) same may elements = rw same (or_false (is_some (layout_in types (Some row.Void))) may)
+solid_by types id (Some (row.Integer kind)) same may elements = rw same (or_false (is_some (layout_in types (Some (row.Integer kind)))) may)
+solid_by types id (Some (row.Pointer of)) same may elements = rw same (or_false (is_some (layout_in types (Some (row.Pointer of)))) may)
+solid_by types id (Some (row.Enumeration number)) same may elements = rw same (or_false (is_some (layout_in types (Some (row.Enumeration number)))) may)
+solid_by types id (Some (row.Struct number)) same may elements = rw same (or_false (is_some (layout_in types (Some (row.Struct number)))) may)
+solid_by types id (Some (row.Array of size layout)) same may elements = rw same (or_false (is_some (layout_in types (Some (row.Array of size layout)))) may)
+solid_by types id (Some (row.Function result list)) same may elements = rw same (or_false (is_some (layout_in types (Some (row.Function result list)))) may)
 solid_by types id (Some (row.OpenArray of)) same may elements = elements of refl
 
 pub may_start_solid : (types : TypeTable) (id : TypeId) → MayHaveStart types id → IsSolid types id
@@ -61,20 +54,6 @@ pub record IsSized (program : TypedProgram) (types : TypeTable) (id : TypeId) (c
   pub same : IsWhole types id → made ≡ id
   pub row : (of : TypeId) → row_of types id ≡ Some (row.OpenArray of)
       → (layout : Layout) × (row_of program.types made ≡ Some (row.Array of count layout))
-
-sized_by_grows : (at : Place) (id : TypeId) (count : ℕ) (it : Option Row) (types : TypeTable) → Growing types (sized_by at id count it types)
-sized_by_grows at id count None types = grows_self types
-sized_by_grows at id count (Some row.Void) types = grows_self types
-sized_by_grows at id count (Some (row.Integer kind)) types = grows_self types
-sized_by_grows at id count (Some (row.Pointer of)) types = grows_self types
-sized_by_grows at id count (Some (row.Enumeration number)) types = grows_self types
-sized_by_grows at id count (Some (row.Struct number)) types = grows_self types
-sized_by_grows at id count (Some (row.Array of size layout)) types = grows_self types
-sized_by_grows at id count (Some (row.OpenArray of)) types = end_grows at types (arrayed of count types) (arrayed_grows of count types)
-sized_by_grows at id count (Some (row.Function result list)) types = grows_self types
-
-pub sized_always : (at : Place) (id : TypeId) (count : ℕ) → Always IsConstant (on_types (sized at id count))
-sized_always at id count = on_types_always (sized at id count) (λ types. sized_by_grows at id count (row_of types id) types)
 
 module _ (program : TypedProgram) (function : TypedFunction) (types : TypeTable) where
   SizedGiving : TypeId → ℕ → Typer → Result (TypeId × TypeTable) TypeEnd → Type 0

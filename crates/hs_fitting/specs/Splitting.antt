@@ -100,8 +100,11 @@ module _ (holds holds' : Phrase → Type 0) (so : (it : Phrase) → holds it →
     statement_so (tree.return_ at e) is = so (of_statement (tree.return_ at e)) is
 
     pub block_so : (it : TypedBlock) → EachBlock holds it → EachBlock holds' it
-    block_so (tree.compound opening declarations its closing) is =
-        (all_so (λ it. holds (of_declaration it)) (λ it. holds' (of_declaration it)) (λ it is. so (of_declaration it) is) declarations is.0, statements_so its is.1)
+    block_so (tree.compound opening declarations its closing) is = (
+      all_so (λ it. holds (of_declaration it)) (λ it. holds' (of_declaration it))
+          (λ it is. so (of_declaration it) is) declarations is.0,
+      statements_so its is.1,
+    )
 
     pub statements_so : (its : TypedStatements) → EachOfStatements holds its → EachOfStatements holds' its
     statements_so tree.no_statements is = tt

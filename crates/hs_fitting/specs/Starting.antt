@@ -2,7 +2,7 @@
 --     IsStart program function p      a type, and what an object of it starts with; a value meets all facts of expressions
 --     starting_started                an initialiser, in the forms of `Readying.antt`
 --     starting_fits                   from a place of the text
-use Rattle.std.proofs.Common.{◌≡◌, Bool, true, false, ◌&&◌, ◌||◌, Option, Some, None, is_some, Result, Ok, Err, refl, ap, subst, if◌then◌else◌}
+use Rattle.std.proofs.Common.{◌≡◌, Bool, true, false, ◌&&◌, Option, Some, None, is_some, Result, Ok, Err, refl, ap, subst, if◌then◌else◌}
 use Rattle.hs_expressions.specs.Binding.{IsBoundNode}
 use Rattle.hs_expressions.specs.Binding.Keeping.{KnowsBound, Giving, plain_bound}
 use Rattle.hs_expressions.specs.Laws.{IsScoped, Knows}
@@ -15,6 +15,7 @@ use Rattle.hs_fitting.specs.Readying.{Started, IsRightValue, gives_started, of_t
 use Rattle.hs_fitting.specs.Scalars.{IsSolid}
 use Rattle.hs_fitting.specs.Sizing.{MayHaveStart, may_start_solid}
 use Rattle.hs_fitting.specs.Staying.{text_kind_stays}
+use Rattle.hs_fitting.specs.Tests.{second_of_three, second_test}
 use Rattle.hs_fitting.specs.WideOperators.{assigned_wide}
 use Rattle.hs_initialisers.specs.Aggregates.{text_kind}
 use Rattle.hs_initialisers.specs.Initialisers.{is_string, assigned_start, constant_start, starting, with_parts}
@@ -46,15 +47,6 @@ abbrev pub IsStart : TypedProgram → TypedFunction → TypeId × Starting → T
 IsStart program function p = FitsStart program p.0 p.1 × InStart (IsRightValue program function) p.1
 
 -- ---- what can be assigned to can be read
-
--- one of three tests
-second_of_three : (a b c : Bool) → b ≡ true → ((a || b) || c) ≡ true
-second_of_three true b c is = refl
-second_of_three false b c is = rw is refl
-
-second_test : (a b : Bool) → (a && b) ≡ true → b ≡ true
-second_test true b is = is
-second_test false b is = absurd cc
 
 number_readable : (types : TypeTable) (at : Place) (id : TypeId) (o : Option Integer) (b : Bool) (e made : RightValue) → number_kind types id ≡ o
     → assigned_number at id o b e ≡ Ok made → is_readable types id ≡ true

@@ -4,9 +4,10 @@
 --     scalar_size                     a scalar takes a byte or more
 use Rattle.std.proofs.Common.{◌≡◌, ◌≤◌, Bool, true, false, ◌||◌, Option, Some, None, refl, ap, sym, subst, ◌∙◌, if◌then◌else◌, arith}
 use Rattle.std.specs.Prelude.{is_some, option_map}
-use Rattle.hs_fitting.specs.Answers.{answered, false_true}
+use Rattle.hs_fitting.specs.Answers.{false_true}
 use Rattle.hs_fitting.specs.Moves.{IsWhole}
 use Rattle.hs_fitting.specs.Scalars.{Aggregate, Subobject, IsSolidRow, IsSolid, whole_solid}
+use Rattle.hs_fitting.specs.Tests.{some_there, some_same}
 use Rattle.hs_initialisers.specs.Aggregates.{member_at, next_by, next_in, takes, character_row, character_of, text_kind}
 use Rattle.hs_tree.specs.Kinds.{kind_of_row, pointed_of_row, element_of_row, length_of_row, element, is_scalar, array_length}
 use Rattle.hs_tree.specs.Objects.{field_in, field_of}
@@ -21,11 +22,7 @@ use Rattle.hs_types.specs.declared.row.Row.{Row}
 use Rattle.hs_types.specs.declared.row.Row.TheVariants as row
 use Rattle.hs_types.specs.declared.row.TypeId.{TypeId}
 
--- what is complete has a layout, and a body if it is a struct
-some_there : {A : Type 0} → (o : Option A) → is_some o ≡ true → (it : A) × (o ≡ Some it)
-some_there None is = absurd cc
-some_there (Some it) is = (it, refl)
-
+-- what is complete has a body if it is a struct
 mapped_there : (o : Option Body) → is_some (option_map (λ body. body.layout) o) ≡ true → (body : Body) × (o ≡ Some body)
 mapped_there None is = absurd cc
 mapped_there (Some body) is = (body, refl)
@@ -55,11 +52,11 @@ module _ (types : TypeTable) (right : IsRight types) (later : TypeTable) (grows 
   elements_whole id of (Some (row.Enumeration number)) same solid is = absurd cc
   elements_whole id of (Some (row.Struct number)) same solid is = absurd cc
   elements_whole id of (Some (row.Array other length layout)) same solid is =
-      let its : other ≡ of = answered other of is in
+      let its : other ≡ of = some_same other of is in
       let fits = right.rows id.number (row.Array other length layout) same in
       rw (← its, fits.1) refl
   elements_whole id of (Some (row.OpenArray other)) same solid is =
-      let its : other ≡ of = answered other of is in
+      let its : other ≡ of = some_same other of is in
       rw (← its) solid
   elements_whole id of (Some (row.Function result list)) same solid is = absurd cc
 

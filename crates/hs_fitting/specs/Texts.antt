@@ -3,12 +3,13 @@
 --     text_parts                                the law
 use Rattle.std.proofs.Common.{◌≡◌, ◌≤◌, ◌<◌, ◌+◌, ◌*◌, ◌==◌, ℕ, suc, Bool, true, false, List, [], ◌∷◌, length, take, Option, Some, None, Ok, refl, ap, sym, subst, ◌∙◌, if◌then◌else◌, arith, length-take}
 use Rattle.std.specs.Prelude.{nat_le}
-use Rattle.hs_fitting.specs.Answers.{answered, accepted}
+use Rattle.hs_fitting.specs.Answers.{accepted}
 use Rattle.hs_fitting.specs.Moves.{IsWhole}
 use Rattle.hs_fitting.specs.Nexts.{if_some, at_most, element_within, array_size}
 use Rattle.hs_fitting.specs.PartLists.{AreParts, characters_parts}
 use Rattle.hs_fitting.specs.Scalars.{Subobject, Scalars, IsAt, IsSolid, open_not_whole}
 use Rattle.hs_fitting.specs.Staying.{text_kind_stays, element_stays, length_stays}
+use Rattle.hs_fitting.specs.Tests.{some_same}
 use Rattle.hs_initialisers.specs.Aggregates.{is_character, character_row, character_of, text_kind}
 use Rattle.hs_initialisers.specs.Initialisers.{characters, that_fit, text_with, text_as, text_by, text_of}
 use Rattle.hs_operands.specs.Laws.Stays.{number_kind-stays}
@@ -71,19 +72,19 @@ characters_length its id (byte ∷ bytes) offset = ap suc (characters_length its
 -- those that fit are no more than there is room for
 cut_fits : (room : ℕ) (bytes fitted : List ℕ) (b : Bool) → (if b then Some (take room bytes) else None) ≡ Some fitted → length fitted ≤ room
 cut_fits room bytes fitted true given =
-    subst (λ its. length its ≤ room) (answered (take room bytes) fitted given) (omega (arith, length-take room bytes))
+    subst (λ its. length its ≤ room) (some_same (take room bytes) fitted given) (omega (arith, length-take room bytes))
 cut_fits room bytes fitted false given = absurd cc
 
 all_fit : (room : ℕ) (bytes fitted : List ℕ) (b : Bool) → nat_le (length bytes) room ≡ b
     → (if b then Some bytes else if length bytes == suc room then Some (take room bytes) else None) ≡ Some fitted → length fitted ≤ room
 all_fit room bytes fitted true is given =
-    subst (λ its. length its ≤ room) (answered bytes fitted given) (at_most (length bytes) room is)
+    subst (λ its. length its ≤ room) (some_same bytes fitted given) (at_most (length bytes) room is)
 all_fit room bytes fitted false is given = cut_fits room bytes fitted (length bytes == suc room) given
 
 fits_room : (o : Option ℕ) (bytes fitted : List ℕ) (room : ℕ) → o ≡ Some room → that_fit o bytes ≡ Some fitted → length fitted ≤ room
 fits_room None bytes fitted room same given = absurd cc
 fits_room (Some other) bytes fitted room same given =
-    subst (λ n. length fitted ≤ n) (answered other room same) (all_fit other bytes fitted (nat_le (length bytes) other) refl given)
+    subst (λ n. length fitted ≤ n) (some_same other room same) (all_fit other bytes fitted (nat_le (length bytes) other) refl given)
 
 module _ (program : TypedProgram) (types : TypeTable) (right : IsRight types) (holds : Scalars) where
   -- an element of an array of characters
@@ -97,12 +98,12 @@ module _ (program : TypedProgram) (types : TypeTable) (right : IsRight types) (h
   spot_at at id of field place (Some (row.Enumeration number)) same its under is scalar = absurd cc
   spot_at at id of field place (Some (row.Struct number)) same its under is scalar = absurd cc
   spot_at at id of field place (Some (row.Array other count layout)) same its under is scalar =
-      let elements : other ≡ of = answered other of its in
+      let elements : other ≡ of = some_same other of its in
       let same' : row_of types id ≡ Some (row.Array of count layout) = same ∙ ap (λ it. Some (row.Array it count layout)) elements in
       (element_within types right (record { type_id = id; offset = at; field = field; begun = place }) of count layout same' (under count refl) holds
       is).0 scalar
   spot_at at id of field place (Some (row.OpenArray other)) same its under is scalar =
-      let elements : other ≡ of = answered other of its in
+      let elements : other ≡ of = some_same other of its in
       (is.1 of place (same ∙ ap (λ it. Some (row.OpenArray it)) elements)).0 scalar
   spot_at at id of field place (Some (row.Function result list)) same its under is scalar = absurd cc
 
@@ -117,7 +118,7 @@ module _ (program : TypedProgram) (types : TypeTable) (right : IsRight types) (h
   array_bytes id of (Some (row.Struct number)) same its one whole = absurd cc
   array_bytes id of (Some (row.Array other count layout)) same its one whole =
       let fits = right.rows id.number (row.Array other count layout) same in
-      let elements : other ≡ of = answered other of its in
+      let elements : other ≡ of = some_same other of its in
       let each : fits.0.size ≡ 1 = sym (ap size_in fits.1) ∙ ap (size_of types) elements ∙ one in
       let all : fits.0.size * count ≡ layout.size = array_size types right count fits.0 layout fits.2 in
       let bytes : 1 * count ≡ layout.size = ap (λ n. n * count) (sym each) ∙ all in
@@ -153,7 +154,7 @@ module _ (program : TypedProgram) (types : TypeTable) (right : IsRight types) (h
               let has = array_bytes it.type_id of (row_of types it.type_id) refl same one whole in
               omega (arith, count, fits has.0 has.1, has.2);
           each = λ other open'.
-              let elements : other ≡ of = answered other of (sym (ap element_of_row open') ∙ same) in
+              let elements : other ≡ of = some_same other of (sym (ap element_of_row open') ∙ same) in
               ap (size_of types) elements ∙ one;
         }
       where

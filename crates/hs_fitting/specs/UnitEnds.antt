@@ -13,7 +13,9 @@ use Rattle.hs_fitting.specs.Claims.{Claims, ObjectsStay, RefersTo, IsTypedIn, Is
 use Rattle.hs_fitting.specs.Entities.{unfit_self}
 use Rattle.hs_fitting.specs.Known.{all_by_both}
 use Rattle.hs_fitting.specs.Listed.{list_stays}
+use Rattle.hs_fitting.specs.Positions.{at_place}
 use Rattle.hs_fitting.specs.Shapes.{agree_signed}
+use Rattle.hs_fitting.specs.Tests.{some_same}
 use Rattle.hs_linkage.specs.Definitions.{definitions_in, all_definitions}
 use Rattle.hs_linkage.specs.Externals.{type_of_entity, unfit}
 use Rattle.hs_linkage.specs.declared.definitions.Definition.{Definition}
@@ -82,9 +84,6 @@ typed_function types (entity.Constant bits) typed id is its to same = absurd cc
 typed_function types (entity.Variable variable other) typed id is its to same = absurd cc
 typed_function types (entity.Function other to') typed id is its to same =
     subst (λ id. category_of types id ≡ Some of_function) (some_same other id is) typed
-  where
-    some_same : (a b : TypeId) → Some a ≡ Some b → a ≡ b
-    some_same a b same = cc
 typed_function types (entity.Typedef other) typed id is its to same = absurd cc
 
 -- so is that of a routine
@@ -116,23 +115,15 @@ module _ (program : TypedProgram) (its : Claims) (m : Translator) (grows : Grows
 
 -- ---- numbers of functions
 
+-- one less
+pub lower : (a b : ℕ) → suc a < suc b → a < b
+lower a b is = omega (arith, is)
+
 -- the first ones of a list
 first_ones : {A : Type 0} → (xs ys : List A) (n : ℕ) (it : A) → n < length xs → slice_get (xs ++ ys) n ≡ Some it → slice_get xs n ≡ Some it
 first_ones [] ys n it less at = absurd (grind (arith, less))
 first_ones (x ∷ xs) ys zero it less at = at
 first_ones (x ∷ xs) ys (suc n) it less at = first_ones xs ys n it (lower n (length xs) less) at
-  where
-    lower : (a b : ℕ) → suc a < suc b → a < b
-    lower a b is = omega (arith, is)
-
--- what is so of all is so of one
-one_of : {A : Type 0} → (holds : A → Type 0) (xs : List A) (n : ℕ) (it : A) → AllByRecursion holds xs → slice_get xs n ≡ Some it → holds it
-one_of holds [] n it are at = absurd cc
-one_of {A = A} holds (x ∷ xs) zero it are at = subst holds (some_same x it at) are.0
-  where
-    some_same : (a b : A) → Some a ≡ Some b → a ≡ b
-    some_same a b same = cc
-one_of holds (x ∷ xs) (suc n) it are at = one_of holds xs n it are.1 at
 
 -- units before a number
 all_below_in : (number : ℕ) (unit its : List ExternalDeclaration) → AllByRecursion (λ it. it.unit < suc number) (definitions_in number unit its)
@@ -162,7 +153,7 @@ pub unit_before : (units before after : List (List ExternalDeclaration)) → uni
     → number < length (all_definitions 0 before) → slice_get (all_definitions 0 units) number ≡ Some it → it.unit < length before
 unit_before units before after are number it less at =
     none_more it.unit (length before)
-    (one_of (λ it. it.unit < 0 + length before) (all_definitions 0 before) number it (all_below 0 before)
+    (at_place (λ it. it.unit < 0 + length before) (all_definitions 0 before) number it (all_below 0 before)
     (first_ones (all_definitions 0 before) (all_definitions (0 + length before) after) number it less
     (subst (λ all. slice_get all number ≡ Some it) (ap (all_definitions 0) are ∙ all_appended_units before after) at)))
   where
@@ -183,5 +174,7 @@ unit_before units before after are number it less at =
             → all_definitions number (before ++ after) ≡ all_definitions number before ++ all_definitions (number + length before) after
         all_from number [] = ap (λ n. all_definitions n after) (none number)
         all_from number (unit ∷ before) =
-            ap (λ all. definitions_in number unit unit ++ all) (all_from (suc number) before ∙ ap (λ n. all_definitions (suc number) before ++ all_definitions n after) (plus number (length before)))
-            ∙ sym (Rattle.std.proofs.lemmas.List.append_assoc (definitions_in number unit unit) (all_definitions (suc number) before) (all_definitions (number + suc (length before)) after))
+            ap (λ all. definitions_in number unit unit ++ all)
+            (all_from (suc number) before ∙ ap (λ n. all_definitions (suc number) before ++ all_definitions n after) (plus number (length before)))
+            ∙ sym (Rattle.std.proofs.lemmas.List.append_assoc (definitions_in number unit unit) (all_definitions (suc number) before)
+            (all_definitions (number + suc (length before)) after))

@@ -9,6 +9,7 @@ use Rattle.std.specs.List.{AllByRecursion}
 use Rattle.hs_declarations.specs.Declarations.{block_declared, file_declared}
 use Rattle.hs_expressions.specs.Laws.{IsScoped}
 use Rattle.hs_expressions.specs.Laws.Reached.{all_appended}
+use Rattle.hs_fitting.specs.Answers.{accepted}
 use Rattle.hs_fitting.specs.Bodies.{DefinedRight, DefiningRight}
 use Rattle.hs_fitting.specs.Claims.{Claims, Endures, Stands, Proceeds}
 use Rattle.hs_fitting.specs.DefinedWhole.{definition_right}
@@ -200,10 +201,7 @@ module _ (program : TypedProgram) (sound : IsRight program.types) (anyone : Type
           ≡ length (all_definitions 0 before) + length (definitions_in (length before) unit (first ++ syntax.function_definition words it body ∷ []))
       given_some (Ok q) same = subst (λ p. length (with_function done p.0)
           ≡ length (all_definitions 0 before) + length (definitions_in (length before) unit (first ++ syntax.function_definition words it body ∷ [])))
-          (same_ok (Some q.0, q.1) p same) (one_more q.0)
-        where
-          same_ok : (a b : Option TypedFunction × Translator) → ◌≡◌ {A = Result (Option TypedFunction × Translator) TypeError} (Ok a) (Ok b) → a ≡ b
-          same_ok a b same = cc
+          (accepted (Some q.0, q.1) p same) (one_more q.0)
       given_some (Err why) same = absurd cc
   with_counts first rest (syntax.declaration it) done p m same count = given_none (declared_if (place_of_declaration it) it m) same
     where
@@ -215,10 +213,7 @@ module _ (program : TypedProgram) (sound : IsRight program.types) (anyone : Type
           ≡ length (all_definitions 0 before) + length (definitions_in (length before) unit (first ++ syntax.declaration it ∷ []))
       given_none (Ok q) same = subst (λ p. length (with_function done p.0)
           ≡ length (all_definitions 0 before) + length (definitions_in (length before) unit (first ++ syntax.declaration it ∷ [])))
-          (same_ok (None, q.1) p same) as_many
-        where
-          same_ok : (a b : Option TypedFunction × Translator) → ◌≡◌ {A = Result (Option TypedFunction × Translator) TypeError} (Ok a) (Ok b) → a ≡ b
-          same_ok a b same = cc
+          (accepted (None, q.1) p same) as_many
       given_none (Err why) same = absurd cc
 
   -- ---- all external declarations of the unit

@@ -12,6 +12,7 @@ use Rattle.hs_fitting.specs.Claims.{Claims, AreFulfilled, AreObjects, IsMet, Sta
 use Rattle.hs_fitting.specs.Declaring.{either_moved}
 use Rattle.hs_fitting.specs.Moves.{Moves}
 use Rattle.hs_fitting.specs.Moving.{Moved, Moving, passes_moved, stops_moved, knowing_moved, unless_moved, then_moved}
+use Rattle.hs_fitting.specs.Tests.{some_none}
 use Rattle.hs_linkage.specs.Works.{Work, work_with, ◌>>=◌, pass, stop, knowing, same_work, unless}
 use Rattle.hs_linkage.specs.declared.definitions.Definition.{Definition}
 use Rattle.hs_linkage.specs.declared.translator.Translator.{Translator}
@@ -40,11 +41,8 @@ module _ (types : TypeTable) where
         routines = λ number id is. is;
         objects = λ place is same. same;
         met = λ it is. is;
-        fresh = λ number id it claimed none at met. some_or_none (its.functions number) id claimed none;
+        fresh = λ number id it claimed none at met. some_none (its.functions number) id claimed none;
       }
-    where
-      some_or_none : (o : Option TypeId) (id : TypeId) → o ≡ Some id → o ≡ None → ⊥
-      some_or_none o id is is' = cc
 
   -- a new claim is made by one step or by the other
   fresh_then : (its mid later : Claims) (m n : Translator) → n.definitions ≡ m.definitions → Proceeds types its m mid n
@@ -199,7 +197,11 @@ module _ {here : List ℕ → Bool} {program : TypedProgram} {function : TypedFu
   pub passes_walks : {A : Type 0} → {pre : Claims → Translator → Type 0} → {after : Claims → Translator → A → Type 0} → {holds : A → Type 0} → (it : A)
       → ((its : Claims) (m : Translator) → pre its m → after its m it) → holds it → Walks here program function pre (pass it) after holds
   passes_walks {after = after} {holds = holds} it known is =
-      record { moved = passes_moved it; from = λ its m scoped counts stands met. stays_walked here program function after holds it its m stands (known its m met) is }
+      record {
+        moved = passes_moved it;
+        from = λ its m scoped counts stands met. stays_walked here program function after holds it its m stands
+            (known its m met) is;
+      }
 
   pub stops_walks : {A : Type 0} → {pre : Claims → Translator → Type 0} → {after : Claims → Translator → A → Type 0} → {holds : A → Type 0}
       → (why : TypeError) → Walks here program function pre (stop why) after holds
@@ -210,7 +212,11 @@ module _ {here : List ℕ → Bool} {program : TypedProgram} {function : TypedFu
       → ((its : Claims) (m : Translator) → pre its m → (it : A) → f m ≡ Ok it → Grows m.typer.types program.types → after its m it × holds it)
       → Walks here program function pre (knowing f) after holds
   knowing_walks {after = after} {holds = holds} f are =
-      record { moved = knowing_moved f; from = λ its m scoped counts stands met. same_walked here program function after holds its m stands (f m) (are its m met) }
+      record {
+        moved = knowing_moved f;
+        from = λ its m scoped counts stands met. same_walked here program function after holds its m stands (f m)
+            (are its m met);
+      }
 
   pub unless_walks : {pre : Claims → Translator → Type 0} → {after : Claims → Translator → Unit {0} → Type 0} → (why : TypeError)
       (test : Translator → Bool) → ((its : Claims) (m : Translator) → pre its m → test m ≡ false → after its m tt)
@@ -229,7 +235,8 @@ module _ {here : List ℕ → Bool} {program : TypedProgram} {function : TypedFu
   then_walks {after = after} {after' = after'} {holds = holds} {holds' = holds'} {next = next} first before walks =
       record {
         moved = then_moved first before.moved (λ it. (walks it).moved);
-        from = λ its m scoped counts stands met. next_walked here program function after after' holds holds' its m next (first m) counts (before.moved.from m scoped)
+        from = λ its m scoped counts stands met. next_walked here program function after after' holds holds' its m next (first m) counts
+            (before.moved.from m scoped)
             (before.from its m scoped counts stands met) walks;
       }
 

@@ -6,11 +6,12 @@
 --     inside_nested                   a list in braces for that part
 --     nested_end, nested_count        where what has begun ends
 use Rattle.std.proofs.Common.{◌≡◌, ◌≤◌, ◌+◌, ◌*◌, ℕ, zero, suc, Bool, true, false, List, [], ◌∷◌, Option, Some, None, is_some, refl, sym, subst, ap, ◌∙◌, if◌then◌else◌, arith}
-use Rattle.hs_fitting.specs.Answers.{answered, none_some}
+use Rattle.hs_fitting.specs.Answers.{none_some}
 use Rattle.hs_fitting.specs.Moves.{IsWhole}
 use Rattle.hs_fitting.specs.Nexts.{next_known}
 use Rattle.hs_fitting.specs.Scalars.{Aggregate, Subobject, Scalars, Within, IsAt, IsSolid, room, Beyond, Next, whole_solid, whole_room, whole_at, open_not_whole}
 use Rattle.hs_fitting.specs.Staying.{next_stays, takes_stays}
+use Rattle.hs_fitting.specs.Tests.{some_same}
 use Rattle.hs_initialisers.specs.Aggregates.{next_in, advanced, fresh, unfilled, takes, Reached, reached_by, reached_within, reached_in, reached, whole_by, whole_in, whole, count_begun, most_types}
 use Rattle.hs_operands.specs.Laws.Made.{either_way}
 use Rattle.hs_tree.specs.Kinds.{is_scalar}
@@ -132,7 +133,7 @@ module _ (types : TypeTable) (right : IsRight types) (holds : Scalars) (root : S
         let same : takes types text sub ≡ true =
         sym (takes_stays types right later grows text sub (whole_solid types sub.type_id next.whole)) ∙ taken in
         let here : Reached = (sub, advanced it ∷ outer) in
-        subst (λ to. Target types holds root from to × (takes types text to.0 ≡ true)) (answered here to given) (
+        subst (λ to. Target types holds root from to × (takes types text to.0 ≡ true)) (some_same here to given) (
           record {
             within = next.at holds nested.0.at;
             whole = next.whole;
@@ -185,7 +186,7 @@ module _ (types : TypeTable) (right : IsRight types) (holds : Scalars) (root : S
   whole_by_target later it outer from to (Some sub) nested same given =
       let next : Next types it sub = next_known types right it sub nested.0.solid same in
       let here : Reached = (sub, advanced it ∷ outer) in
-      subst (Target types holds root from) (answered here to given)
+      subst (Target types holds root from) (some_same here to given)
       (record {
         within = next.at holds nested.0.at;
         whole = next.whole;

@@ -10,6 +10,7 @@ use Rattle.hs_expressions.specs.Laws.Extending.{typed_always}
 use Rattle.hs_expressions.specs.Laws.Reached.{scoped_after}
 use Rattle.hs_fitting.specs.Initialising.{alone_always, braced_always}
 use Rattle.hs_fitting.specs.Moves.{IsWhole, whole_stays}
+use Rattle.hs_fitting.specs.Tests.{or_false}
 use Rattle.hs_initialisers.specs.Aggregates.{text_kind, count_begun}
 use Rattle.hs_initialisers.specs.Initialisers.{is_string, braced, all_of, sized_by, sized, alone, initialised, assigned_start, constant_start, starting, with_parts}
 use Rattle.hs_operands.specs.Assignments.{assigned, assigned_pointer, assigned_number}
@@ -43,7 +44,7 @@ abbrev pub MayStart : TypeTable → TypeId → Type 0
 MayStart types id = (is_complete types id || is_open types id) ≡ true
 
 -- an array of unknown length
-open_row : (it : Option Row) → is_open_row it ≡ true → (of : TypeId) × (it ≡ Some (row.OpenArray of))
+pub open_row : (it : Option Row) → is_open_row it ≡ true → (of : TypeId) × (it ≡ Some (row.OpenArray of))
 open_row None is = absurd cc
 open_row (Some row.Void) is = absurd cc
 open_row (Some (row.Integer kind)) is = absurd cc
@@ -101,11 +102,6 @@ unfolding WholeType WholeSized
 ended_whole at (Ok p) is = is
 ended_whole at (Err why) is = tt
 
--- no other type is open
-left_whole : (one : Bool) → (one || false) ≡ true → one ≡ true
-left_whole true is = refl
-left_whole false is = is
-
 sized_by_whole : (at : Place) (id : TypeId) (count : ℕ) (types : TypeTable) (it : Option Row) → row_of types id ≡ it
     → (is_some (layout_in types it) || is_open_row it) ≡ true → WholeSized (sized_by at id count it types)
 unfolding WholeSized
@@ -113,8 +109,8 @@ sized_by_whole at id count types None same is = absurd cc
 sized_by_whole at id count types (Some row.Void) same is = absurd cc
 sized_by_whole at id count types (Some (row.Integer kind)) same is = rw same refl
 sized_by_whole at id count types (Some (row.Pointer of)) same is = rw same refl
-sized_by_whole at id count types (Some (row.Enumeration number)) same is = rw same (left_whole _ is)
-sized_by_whole at id count types (Some (row.Struct number)) same is = rw same (left_whole _ is)
+sized_by_whole at id count types (Some (row.Enumeration number)) same is = rw same (or_false _ is)
+sized_by_whole at id count types (Some (row.Struct number)) same is = rw same (or_false _ is)
 sized_by_whole at id count types (Some (row.Array of size layout)) same is = rw same refl
 sized_by_whole at id count types (Some (row.OpenArray of)) same is =
     ended_whole at (arrayed of count types) (arrayed_whole of count types (layout_of types of))

@@ -1,7 +1,7 @@
 -- The program that units come to is as each program keeps itself: each fact of `Fitting.antt` of hs_tree is so of it.
 --     IsSoOfEach          what is so of each expression of a body
 --     typed_fits          the law
-use Rattle.std.proofs.Common.{◌≡◌, ℕ, zero, suc, Bool, true, false, ◌||◌, ◌&&◌, List, [], ◌∷◌, length, slice_get, Option, Some, None, Result, Ok, Err, IsTrue, refl, sym, ap, subst, ◌∙◌, if◌then◌else◌, arith}
+use Rattle.std.proofs.Common.{◌≡◌, ℕ, zero, suc, Bool, true, false, ◌||◌, List, [], ◌∷◌, length, slice_get, Option, Some, None, Result, Ok, Err, IsTrue, refl, sym, ap, subst, ◌∙◌, if◌then◌else◌, arith}
 use Rattle.std.specs.Prelude.{◌==◌, codes}
 use Rattle.std.specs.Cmp.Lexicographic.{same_text}
 use Rattle.std.proofs.lemmas.Bool.Decides.{nat_tests}
@@ -9,6 +9,7 @@ use Rattle.std.specs.List.{AllByRecursion}
 use Rattle.hs_expressions.specs.Binding.{IsBoundNode}
 use Rattle.hs_expressions.specs.Binding.Keeping.{IsBound}
 use Rattle.hs_expressions.specs.Laws.Reached.{all_so}
+use Rattle.hs_fitting.specs.Bodies.{first_same, rest_same}
 use Rattle.hs_fitting.specs.Claims.{no_claims, Endures}
 use Rattle.hs_fitting.specs.Found.{place_found}
 use Rattle.hs_fitting.specs.Fulfilling.{stands_at_end, claims_fulfilled, claims_signed}
@@ -17,6 +18,7 @@ use Rattle.hs_fitting.specs.Names.{names_of, defined_names, functions_are_named}
 use Rattle.hs_fitting.specs.Phrases.{IsRightPhrase}
 use Rattle.hs_fitting.specs.ProgramWalks.{Came, Coming, program_comes}
 use Rattle.hs_fitting.specs.Splitting.{right_so, expressions_so, block_so}
+use Rattle.hs_fitting.specs.Tests.{true_false, or_true, both_tests, some_same}
 use Rattle.hs_fitting.specs.Units.{all_stay}
 use Rattle.hs_fitting.specs.UnitWalks.{IsRightFunction}
 use Rattle.hs_fitting.specs.Works.{Given}
@@ -72,11 +74,6 @@ module _ (program : TypedProgram) (all : List TypedFunction) (are : AllByRecursi
 
 -- ---- `main`
 
-both_tests : (a b : Bool) → (a && b) ≡ true → (a ≡ true) × (b ≡ true)
-both_tests true true is = (refl, refl)
-both_tests true false is = absurd cc
-both_tests false b is = absurd cc
-
 none_there : (a : ℕ) → (a == zero) ≡ true → a ≡ zero
 none_there a is = grind (arith, nat_tests, is)
 
@@ -86,22 +83,10 @@ same_named : (its : List TypedFunction) (definitions : List Definition) (number 
 same_named [] definitions number it one same at there = absurd cc
 same_named (f ∷ its) [] number it one same at there = absurd cc
 same_named (f ∷ its) (d ∷ definitions) zero it one same at there =
-    ap (λ f. f.name) (sym (some_function f it at)) ∙ first_name f.name d.name (names_of its) (defined_names definitions) same
-    ∙ ap (λ d. d.name) (some_definition d one there)
-  where
-    some_function : (a b : TypedFunction) → Some a ≡ Some b → a ≡ b
-    some_function a b same = cc
-
-    some_definition : (a b : Definition) → Some a ≡ Some b → a ≡ b
-    some_definition a b same = cc
-
-    first_name : (a b : List ℕ) (x y : List (List ℕ)) → (a ∷ x) ≡ (b ∷ y) → a ≡ b
-    first_name a b x y same = cc
+    ap (λ f. f.name) (sym (some_same f it at)) ∙ first_same f.name d.name (names_of its) (defined_names definitions) same
+    ∙ ap (λ d. d.name) (some_same d one there)
 same_named (f ∷ its) (d ∷ definitions) (suc number) it one same at there =
-    same_named its definitions number it one (rest_names f.name d.name (names_of its) (defined_names definitions) same) at there
-  where
-    rest_names : (a b : List ℕ) (x y : List (List ℕ)) → (a ∷ x) ≡ (b ∷ y) → x ≡ y
-    rest_names a b x y same = cc
+    same_named its definitions number it one (rest_same f.name d.name (names_of its) (defined_names definitions) same) at there
 
 -- a number or nothing stays so
 gives_by : (old new : TypeTable) (id : _) → Grows old new → (a b : Bool) → is_number old id ≡ a → is_void old id ≡ b → (a || b) ≡ true
@@ -112,19 +97,12 @@ gives_by old new id grows true b number nothing is = rw (number_stays (number_ki
     number_stays None same is = absurd cc
     number_stays (Some kind) same is = ap Rattle.std.specs.Prelude.is_some (number_kind-stays old new grows id kind same)
 gives_by old new id grows false true number nothing is = rw (is_void-stays old new grows id nothing) (or_true (is_number new id))
-  where
-    or_true : (b : Bool) → (b || true) ≡ true
-    or_true true = refl
-    or_true false = refl
 gives_by old new id grows false false number nothing is = absurd cc
 
 -- ---- the program
 
 some_one : {A : Type 0} → (o : Option A) (P : Option A → Bool) → P None ≡ false → P o ≡ true → (it : A) × (o ≡ Some it)
 some_one None P none is = absurd (true_false (P None) is none)
-  where
-    true_false : (b : Bool) → b ≡ true → b ≡ false → ⊥
-    true_false b is is' = cc
 some_one (Some it) P none is = (it, refl)
 
 module _ (table : List Routine) (units : List (List ExternalDeclaration)) (all : List TypedFunction) (m : Translator) (number : ℕ)

@@ -9,6 +9,7 @@ use Rattle.std.specs.List.{AllByRecursion, list_any}
 use Rattle.std.specs.Prelude.{nat_eq, ◌||◌}
 use Rattle.indexmap.specs.IndexSet.{insert_key}
 use Rattle.hs_fitting.specs.Claims.{IsMarkedIn}
+use Rattle.hs_fitting.specs.Tests.{or_true}
 use Rattle.hs_linkage.specs.declared.translator.StaticObject.{StaticObject}
 use Rattle.hs_linkage.specs.declared.translator.Translator.{Translator}
 use Rattle.hs_tree.specs.Classes.{same_field}
@@ -35,11 +36,6 @@ module _ {A : Type 0} (test : A → Bool) where
   any_longer : (xs ys : List A) → list_any test xs ≡ true → list_any test (xs ++ ys) ≡ true
   any_longer [] ys is = absurd cc
   any_longer (x ∷ xs) ys is = any_either (test x) (list_any test xs) (list_any test (xs ++ ys)) (any_longer xs ys) is
-
-  -- the second one is met
-  or_true : (b : Bool) → (b || true) ≡ true
-  or_true true = refl
-  or_true false = refl
 
   -- with one more behind it
   any_last : (xs : List A) (x : A) → test x ≡ true → list_any test (xs ++ x ∷ []) ≡ true
