@@ -1,0 +1,4 @@
+mod Acting
+mod Counting
+mod Reshaping
+mod Rows

@@ -1,0 +1,7 @@
+use Rattle.hs_heap.proofs.Acting.{acts}
+use Rattle.hs_heap.specs.Blocks.{with_purge_bit}
+use Rattle.hs_heap.proofs.heap.Heap.purge_bit.Goals as goal
+
+-- the row acts as the role says
+pub returns-clause-acts : goal.returns-clause-acts
+returns-clause-acts c block there = acts (with_purge_bit c.args.on) _ _ _ _ _ _ _ _ c.self.view_is c.index_mut.ensures.value c.set_purge_bit.ensures there

@@ -1,0 +1,223 @@
+//! The heap.
+
+ghost use Rattle.std.specs.Prelude.{◌≡◌, [], true, false, length};
+ghost use Rattle.hs_heap.specs.Blocks.{with_lock, with_purge_bit, with_state, emptied, disposed, size_of, state_of, master_of, stored, always, resized, has_life, reallocated};
+ghost use Rattle.std.specs.Result.{result_map_both};
+ghost use Rattle.hs_heap.specs.Memory.{Acts, Answers, Reshapes, Loads, Lends, MakesBlock, IsMade};
+
+use crate::cell::{Cell, Spot};
+use crate::row::Row;
+use crate::stop::{HeapEnd, HeapStop};
+use std::alloc::Global;
+use std::marker::Model;
+
+/// The most live bytes.
+const MOST_BYTES: usize = 16_777_216;
+
+/// The most blocks.
+const MOST_BLOCKS: usize = 4_294_967_295;
+
+/// A heap of relocatable blocks, numbered from 1 in the order in which they were made. Contracts see the list of them.
+#[derive(Drop)]
+pub struct Heap {
+    alloc: Global,
+    rows: Vec<Row>,
+    /// The bytes of all blocks.
+    live: usize,
+}
+
+impl Model for Heap {
+    ghost use Rattle.hs_heap.specs.Memory.{Memory, IsKept};
+
+    ghost Value = { Memory };
+
+    ghost view = { λ it. record { blocks = it.rows.items } };
+
+    ghost invariant = { λ it. IsKept it.rows.items it.live };
+}
+
+impl Heap {
+    /// A heap without blocks. Takes no memory.
+    pub fn new(alloc: Global) -> Heap
+        ensures { result ≡ record { blocks = [] } }
+    {
+        Heap {
+            alloc,
+            rows: Vec::new(alloc),
+            live: 0,
+        }
+    }
+
+    /// Makes a block of that many bytes without values, and gives its number (Inside Macintosh: Memory, NewHandle).
+    ///
+    /// # Errors
+    ///
+    /// `Full` if there is no room for it, and `NoMemory`. The heap is then as it was.
+    pub fn new_block(&mut self, size: u32) -> Result<u32, HeapEnd>
+        ensures { MakesBlock size self.old self.new result }
+    {
+        if size as usize > MOST_BYTES - self.live || self.rows.len() >= MOST_BLOCKS {
+            return Err(HeapEnd::Full);
+        }
+        let row = Row::new(self.alloc, size)?;
+        self.rows.push(row)?;
+        self.live += size as usize;
+        Ok(self.rows.len() as u32)
+    }
+
+    /// Locks the block: no shift moves or purges it (HLock).
+    ///
+    /// # Errors
+    ///
+    /// Here and below `Disposed` and `Purged`, of a block that was disposed or purged. A block that was emptied stays as it is.
+    pub fn lock(&mut self, b: u32) -> Result<(), HeapStop>
+        requires made { IsMade self.old b }
+        ensures acts { Acts (with_lock true) b self.old self.new result }
+        ensures as_many { length self.new.blocks ≡ length self.old.blocks }
+    {
+        self.rows[b as usize - 1].set_lock(true)
+    }
+
+    /// Takes the lock away, however often the block was locked (HUnlock).
+    pub fn unlock(&mut self, b: u32) -> Result<(), HeapStop>
+        requires made { IsMade self.old b }
+        ensures acts { Acts (with_lock false) b self.old self.new result }
+        ensures as_many { length self.new.blocks ≡ length self.old.blocks }
+    {
+        self.rows[b as usize - 1].set_lock(false)
+    }
+
+    /// Says whether the block may be purged while it is unlocked (HPurge and HNoPurge).
+    pub fn purge_bit(&mut self, b: u32, on: bool) -> Result<(), HeapStop>
+        requires made { IsMade self.old b }
+        ensures acts { Acts (with_purge_bit on) b self.old self.new result }
+        ensures as_many { length self.new.blocks ≡ length self.old.blocks }
+    {
+        self.rows[b as usize - 1].set_purge_bit(on)
+    }
+
+    /// Puts the lock, bit 7, and the purge bit, bit 6, back (HSetState). Other bits are ignored.
+    pub fn set_state(&mut self, b: u32, s: u8) -> Result<(), HeapStop>
+        requires made { IsMade self.old b }
+        ensures acts { Acts (with_state s) b self.old self.new result }
+        ensures as_many { length self.new.blocks ≡ length self.old.blocks }
+    {
+        self.rows[b as usize - 1].set_state(s)
+    }
+
+    /// Takes the cells of the block away, unless it is locked (EmptyHandle). Pointers into it are then of an old life.
+    pub fn empty(&mut self, b: u32) -> Result<(), HeapStop>
+        requires made { IsMade self.old b }
+        ensures acts { Acts emptied b self.old self.new result }
+        ensures as_many { length self.new.blocks ≡ length self.old.blocks }
+    {
+        let row = &mut self.rows[b as usize - 1];
+        let held = row.bytes();
+        let done = row.empty();
+        let left = row.bytes();
+        self.live -= held - left;
+        done
+    }
+
+    /// Ends the block, locked or not (DisposeHandle).
+    pub fn dispose(&mut self, b: u32) -> Result<(), HeapStop>
+        requires made { IsMade self.old b }
+        ensures acts { Acts disposed b self.old self.new result }
+        ensures as_many { length self.new.blocks ≡ length self.old.blocks }
+    {
+        let row = &mut self.rows[b as usize - 1];
+        let held = row.bytes();
+        let done = row.dispose();
+        let left = row.bytes();
+        self.live -= held - left;
+        done
+    }
+
+    /// Cuts the block to that many bytes, or adds bytes without values (SetHandleSize).
+    ///
+    /// # Errors
+    ///
+    /// `Stopped`; `Full` if live bytes would pass 16777216; `NoMemory`. The heap is then as it was. A block that was emptied stays as it is.
+    pub fn resize(&mut self, b: u32, size: u32) -> Result<(), HeapEnd>
+        requires made { IsMade self.old b }
+        ensures acts { Reshapes always (resized size) b self.old self.new result }
+        ensures as_many { length self.new.blocks ≡ length self.old.blocks }
+    {
+        let row = &mut self.rows[b as usize - 1];
+        let others = self.live - row.bytes();
+        let done = row.resize(size, MOST_BYTES - others);
+        self.live = others + row.bytes();
+        done
+    }
+
+    /// Gives an unlocked block that many new bytes without values, also one that was emptied; it is then unlocked and unpurgeable
+    /// (ReallocateHandle). A locked block stays as it is.
+    ///
+    /// # Errors
+    ///
+    /// Those of `resize`, and `Full` if the life of the block has ended.
+    pub fn realloc(&mut self, b: u32, size: u32) -> Result<(), HeapEnd>
+        requires made { IsMade self.old b }
+        ensures acts { Reshapes has_life (reallocated size) b self.old self.new result }
+        ensures as_many { length self.new.blocks ≡ length self.old.blocks }
+    {
+        let row = &mut self.rows[b as usize - 1];
+        let others = self.live - row.bytes();
+        let done = row.reallocate(self.alloc, size, MOST_BYTES - others);
+        self.live = others + row.bytes();
+        done
+    }
+
+    /// The state byte: bit 7 is the lock, and bit 6 is set if the block may be purged (HGetState). It is 0 of a block that was emptied.
+    pub fn state(&self, b: u32) -> Result<u8, HeapStop>
+        requires made { IsMade self.now b }
+        ensures { Answers state_of b self.now result }
+    {
+        self.rows[b as usize - 1].state()
+    }
+
+    /// How many bytes the block has (GetHandleSize), none if it was emptied.
+    pub fn size(&self, b: u32) -> Result<u32, HeapStop>
+        requires made { IsMade self.now b }
+        ensures { Answers size_of b self.now result }
+    {
+        self.rows[b as usize - 1].size()
+    }
+
+    /// What the master pointer of the block's handle holds: where the block is now, or nothing if it was emptied.
+    pub fn master(&self, b: u32) -> Result<Option<Spot>, HeapStop>
+        requires made { IsMade self.now b }
+        ensures { Answers (master_of b) b self.now result }
+    {
+        self.rows[b as usize - 1].master(b)
+    }
+
+    /// Copies as many cells as `into` has, from the place that the pointer names.
+    ///
+    /// # Errors
+    ///
+    /// `Disposed`, `Old`, `Stale` and `Range`, in this order. Nothing is copied then.
+    pub fn load(&self, p: &Spot, into: &mut [Cell]) -> Result<(), HeapStop>
+        requires made { IsMade self.now p.now.block }
+        ensures { Loads p.now self.now into.old into.new result }
+    {
+        self.rows[p.block as usize - 1].load(p, into)
+    }
+
+    /// Puts cells at the place that the pointer names. The errors are those of `load`, and the heap is then as it was.
+    pub fn store(&mut self, p: &Spot, cells: &[Cell]) -> Result<(), HeapStop>
+        requires made { IsMade self.old p.now.block }
+        ensures acts { Acts (stored p.now cells.now) p.now.block self.old self.new result }
+        ensures as_many { length self.new.blocks ≡ length self.old.blocks }
+    {
+        self.rows[p.block as usize - 1].store(p, cells)
+    }
+
+    /// Lends the cells of the block, none if it was emptied, without copying them.
+    pub fn view(&self, b: u32) -> Result<&[Cell], HeapStop>
+        requires made { IsMade self.now b }
+        ensures { Lends b self.now (result_map_both (λ its. its.now) (λ why. why) result) }
+    {
+        self.rows[b as usize - 1].cells()
+    }
+}

@@ -1,0 +1,15 @@
+//! The heap of relocatable blocks. `specs/Blocks.antt` has what each role does to a block, and `specs/Memory.antt` what a call does to the
+//! heap.
+#![tactic(auto)]
+
+mod cell;
+mod heap;
+mod presence;
+mod row;
+mod stop;
+#[cfg(test)]
+mod tests;
+
+pub use cell::{Cell, Pointer, Spot};
+pub use heap::Heap;
+pub use stop::{HeapEnd, HeapStop};
