@@ -1,4 +1,6 @@
 mod Acting
+mod Copying
 mod Counting
+mod Moving
 mod Reshaping
 mod Rows

@@ -150,6 +150,12 @@ place_for s count block =
     else if not (s.epoch == block.epoch) then Err stop.Stale
     else range_at s.offset count (reach block.presence block.cells)
 
+-- where two uses begin; the first is tested first
+abbrev pub places_of : Result ℕ HeapStop → Result ℕ HeapStop → Result (ℕ × ℕ) HeapStop
+places_of (Ok here) (Ok there) = Ok (here, there)
+places_of (Ok here) (Err why) = Err why
+places_of (Err why) second = Err why
+
 -- the cells from that place on
 abbrev pub loaded_at : ℕ → Block → Result ℕ HeapStop → Result (List Cell) HeapStop
 loaded_at count block (Ok at) = Ok (take count (drop at block.cells))
@@ -160,13 +166,22 @@ abbrev pub loaded : Spot → ℕ → Block → Result (List Cell) HeapStop
 loaded s count block = loaded_at count block (place_for s count block)
 
 -- the block with those cells from that place on
+abbrev pub with_cells : ℕ → List Cell → Block → Block
+with_cells at cells block = record block { cells = take at block.cells ++ cells ++ drop (at + length cells) block.cells }
+
+-- the same, or the stop
 abbrev pub stored_at : List Cell → Block → Result ℕ HeapStop → Result Block HeapStop
-stored_at cells block (Ok at) = Ok (record block { cells = take at block.cells ++ cells ++ drop (at + length cells) block.cells })
+stored_at cells block (Ok at) = Ok (with_cells at cells block)
 stored_at cells block (Err why) = Err why
 
 -- the block after a store through a pointer
 abbrev pub stored : Spot → List Cell → Block → Result Block HeapStop
 stored s cells block = stored_at cells block (place_for s (length cells) block)
+
+-- the block after a store of cells that were loaded, or the stop of the load
+abbrev pub moved : Spot → Result (List Cell) HeapStop → Block → Result Block HeapStop
+moved s (Ok cells) block = stored s cells block
+moved s (Err why) block = Err why
 
 -- The cells were copied, or nothing was changed.
 abbrev pub IsCopied : Result (List Cell) HeapStop → List Cell → List Cell → Result Unit HeapStop → Type 0

@@ -7,8 +7,8 @@
 --     Loads, Lends                    cells that are copied or lent
 --     MakesBlock size old new result        a new block, or why not
 --     IsKept blocks live              what the heap keeps
-use Rattle.std.specs.Prelude.{◌≡◌, ◌≤◌, ℕ, zero, suc, ◌+◌, ◌-◌, nat_lt, nat_le, Bool, true, false, ◌&&◌, List, [], ◌∷◌, ◌++◌, length, slice_get, slice_set, sum_by, Option, Some, None, Result, Ok, Err}
-use Rattle.hs_heap.specs.Blocks.{Block, IsCopied, cells_of, loaded, new_block}
+use Rattle.std.specs.Prelude.{◌≡◌, ◌≤◌, ◌<◌, take, drop, ℕ, zero, suc, ◌+◌, ◌-◌, nat_lt, nat_le, Bool, true, false, ◌&&◌, List, [], ◌∷◌, ◌++◌, length, slice_get, slice_set, sum_by, Option, Some, None, Result, Ok, Err}
+use Rattle.hs_heap.specs.Blocks.{Block, IsCopied, cells_of, loaded, moved, with_cells, new_block}
 use Rattle.hs_heap.specs.declared.cell.Cell.{Cell}
 use Rattle.hs_heap.specs.declared.cell.Spot.{Spot}
 use Rattle.hs_heap.specs.declared.stop.HeapStop.{HeapStop}
@@ -80,6 +80,22 @@ Copies role number heap old new result = (block : Block) → block_at heap.block
 -- as many cells as there are in the list, from where a pointer reaches
 abbrev pub Loads : Spot → Memory → List Cell → List Cell → Result Unit HeapStop → Type 0
 Loads s heap old new result = Copies (loaded s (length old)) s.block heap old new result
+
+-- BlockMove: as many cells from where one pointer reaches to where another does, also in one block. The first one is tested first.
+abbrev pub Moves : Spot → Spot → ℕ → Memory → Memory → Result Unit HeapStop → Type 0
+Moves from to count old new result =
+    (first second : Block) → block_at old.blocks from.block ≡ Some first → block_at old.blocks to.block ≡ Some second
+    → ActsAs (moved to (loaded from count first) second) to.block old new result
+
+-- the block at that place has that many cells
+abbrev pub HasCells : ℕ → ℕ → List Block → Type 0
+HasCells place count blocks = (place < length blocks) × ((block : Block) → slice_get blocks place ≡ Some block → count ≤ length block.cells)
+
+-- as many cells of the block at the first place were copied to the block at the second place
+abbrev pub IsCopiedBetween : ℕ → ℕ → ℕ → ℕ → ℕ → List Block → List Block → Type 0
+IsCopiedBetween from to here there count old new =
+    (first second : Block) → slice_get old from ≡ Some first → slice_get old to ≡ Some second
+    → new ≡ slice_set old to (with_cells there (take count (drop here first.cells)) second)
 
 -- the cells of the block of that number are lent, or why not
 abbrev pub Lends : ℕ → Memory → Result (List Cell) HeapStop → Type 0

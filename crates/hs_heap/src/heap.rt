@@ -1,9 +1,9 @@
 //! The heap.
 
-ghost use Rattle.std.specs.Prelude.{◌≡◌, [], true, false, length};
-ghost use Rattle.hs_heap.specs.Blocks.{with_lock, with_purge_bit, with_state, emptied, disposed, size_of, state_of, master_of, stored, always, resized, has_life, reallocated};
+ghost use Rattle.std.specs.Prelude.{◌≡◌, ◌≤◌, ◌+◌, IfOk, [], true, false, length};
+ghost use Rattle.hs_heap.specs.Blocks.{place_for, places_of, with_lock, with_purge_bit, with_state, emptied, disposed, size_of, state_of, master_of, stored, always, resized, has_life, reallocated};
 ghost use Rattle.std.specs.Result.{result_map_both};
-ghost use Rattle.hs_heap.specs.Memory.{Acts, Answers, Reshapes, Loads, Lends, MakesBlock, IsMade};
+ghost use Rattle.hs_heap.specs.Memory.{Acts, Answers, Reshapes, Loads, Lends, Moves, HasCells, IsCopiedBetween, MakesBlock, IsMade};
 
 use crate::cell::{Cell, Spot};
 use crate::row::Row;
@@ -34,6 +34,60 @@ impl Model for Heap {
     ghost view = { λ it. record { blocks = it.rows.items } };
 
     ghost invariant = { λ it. IsKept it.rows.items it.live };
+}
+
+/// Copies that many cells from one row to another, from and to these places.
+fn copy_between(
+    alloc: Global,
+    rows: &mut Vec<Row>,
+    places: (usize, usize),
+    at: (usize, usize),
+    count: usize,
+)
+    requires apart { (places.0 ≡ places.1) → ⊥ }
+    requires from { HasCells places.0 (at.0 + count) rows.old.items }
+    requires to { HasCells places.1 (at.1 + count) rows.old.items }
+    ensures { IsCopiedBetween places.0 places.1 at.0 at.1 count rows.old.items rows.new.items }
+{
+    let cells = rows[places.0].take_cells(alloc);
+    rows[places.1].put(at.1, &cells[at.0..at.0 + count]);
+    rows[places.0].give_cells(cells);
+}
+
+/// Where that many cells begin that two pointers reach. The first one is tested first.
+fn places(
+    a: &Row,
+    b: &Row,
+    from: &Spot,
+    to: &Spot,
+    count: usize,
+) -> Result<(usize, usize), HeapStop>
+    ensures places { result ≡ places_of (place_for from.now count a.now) (place_for to.now count b.now) }
+    ensures from_inside { IfOk result (λ at. at.0 + count ≤ length a.now.cells) }
+    ensures to_inside { IfOk result (λ at. at.1 + count ≤ length b.now.cells) }
+{
+    let here = a.place_for(from, count)?;
+    let there = b.place_for(to, count)?;
+    Ok((here, there))
+}
+
+/// Copies that many cells from one row to another, or inside one.
+fn copy(
+    alloc: Global,
+    rows: &mut Vec<Row>,
+    places: (usize, usize),
+    at: (usize, usize),
+    count: usize,
+)
+    requires from { HasCells places.0 (at.0 + count) rows.old.items }
+    requires to { HasCells places.1 (at.1 + count) rows.old.items }
+    ensures { IsCopiedBetween places.0 places.1 at.0 at.1 count rows.old.items rows.new.items }
+{
+    if places.0 == places.1 {
+        rows[places.1].move_within(at.0, at.1, count);
+    } else {
+        copy_between(alloc, rows, places, at, count);
+    }
 }
 
 impl Heap {
@@ -211,6 +265,27 @@ impl Heap {
         ensures as_many { length self.new.blocks ≡ length self.old.blocks }
     {
         self.rows[p.block as usize - 1].store(p, cells)
+    }
+
+    /// Copies that many cells from where one pointer reaches to where another does, also if the two overlap (BlockMove).
+    ///
+    /// # Errors
+    ///
+    /// Those of `load`, first for `from` and then for `to`. The heap is then as it was.
+    pub fn block_move(&mut self, from: &Spot, to: &Spot, n: u32) -> Result<(), HeapStop>
+        requires from { IsMade self.old from.now.block }
+        requires to { IsMade self.old to.now.block }
+        ensures moves { Moves from.now to.now n self.old self.new result }
+        ensures as_many { length self.new.blocks ≡ length self.old.blocks }
+    {
+        let (i, j) = (from.block as usize - 1, to.block as usize - 1);
+        match places(&self.rows[i], &self.rows[j], from, to, n as usize) {
+            Ok(at) => {
+                copy(self.alloc, &mut self.rows, (i, j), at, n as usize);
+                Ok(())
+            }
+            Err(why) => Err(why),
+        }
     }
 
     /// Lends the cells of the block, none if it was emptied, without copying them.

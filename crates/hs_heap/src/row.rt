@@ -1,7 +1,7 @@
 //! A block as the heap keeps it.
 
-ghost use Rattle.std.specs.Prelude.{◌≡◌, ◌≤◌, true, length, IfOk};
-ghost use Rattle.hs_heap.specs.Blocks.{new_block, with_lock, with_purge_bit, with_state, emptied, disposed, size_of, state_of, master_of, standing, bit, cells_of, reach, range_at, place_for, loaded, stored, RoleActs, Resizes, Reallocates, IsCopied};
+ghost use Rattle.std.specs.Prelude.{◌≡◌, ◌≤◌, ◌+◌, take, drop, [], true, length, IfOk};
+ghost use Rattle.hs_heap.specs.Blocks.{new_block, with_lock, with_purge_bit, with_state, emptied, disposed, size_of, state_of, master_of, standing, bit, cells_of, reach, range_at, place_for, loaded, stored, RoleActs, Resizes, Reallocates, IsCopied, with_cells};
 ghost use Rattle.std.specs.Result.{result_map_both};
 
 use crate::cell::{Cell, Spot};
@@ -10,6 +10,7 @@ use crate::stop::{HeapEnd, HeapStop};
 use hs_base::NoMemory;
 use std::alloc::Global;
 use std::marker::Model;
+use std::mem::replace;
 
 /// The last life of which pointers can be.
 const MOST_LIFE: u64 = 4_294_967_295;
@@ -60,7 +61,8 @@ fn bit(worth: u8, is_set: bool) -> u8
 /// Where that many cells begin from that offset on, if all of them lie among the cells of a block.
 fn range_at(offset: i64, count: usize, size: usize) -> Result<usize, HeapStop>
     requires fits { size ≤ 16777216 }
-    ensures { result ≡ range_at offset count size }
+    ensures range { result ≡ range_at offset count size }
+    ensures inside { IfOk result (λ at. at + count ≤ size) }
 {
     if offset < 0 || offset > size as i64 || count > size - offset as usize {
         return Err(HeapStop::Range);
@@ -207,7 +209,8 @@ impl Row {
 
     /// How many cells a pointer can reach.
     fn reach(&self) -> usize
-        ensures { result ≡ reach self.now.presence self.now.cells }
+        ensures reach { result ≡ reach self.now.presence self.now.cells }
+        ensures among { result ≤ length self.now.cells }
     {
         match self.presence {
             Presence::Purged => 0,
@@ -216,8 +219,9 @@ impl Row {
     }
 
     /// Where that many cells begin that a pointer reaches.
-    fn place_for(&self, p: &Spot, count: usize) -> Result<usize, HeapStop>
-        ensures { result ≡ place_for p.now count self.now }
+    pub(crate) fn place_for(&self, p: &Spot, count: usize) -> Result<usize, HeapStop>
+        ensures place { result ≡ place_for p.now count self.now }
+        ensures inside { IfOk result (λ at. at + count ≤ length self.now.cells) }
     {
         if matches!(self.presence, Presence::Disposed) {
             return Err(HeapStop::Disposed);
@@ -246,7 +250,7 @@ impl Row {
         ensures as_large { length self.new.cells ≡ length self.old.cells }
     {
         let at = self.place_for(p, cells.len())?;
-        self.cells[at..at + cells.len()].copy_from_slice(cells);
+        self.put(at, cells);
         Ok(())
     }
 
@@ -292,5 +296,39 @@ impl Row {
         self.purgeable = false;
         self.presence = Presence::Present;
         Ok(())
+    }
+
+    /// Takes the cells out of the row, until they are given back.
+    pub(crate) fn take_cells(&mut self, alloc: Global) -> Vec<Cell>
+        ensures taken { result.items ≡ self.old.cells }
+        ensures fits { length result.items ≤ 16777216 }
+        ensures left { self.new ≡ record self.old { cells = [] } }
+    {
+        replace(&mut self.cells, Vec::new(alloc))
+    }
+
+    /// Gives the row cells again.
+    pub(crate) fn give_cells(&mut self, cells: Vec<Cell>)
+        requires fits { length cells.items ≤ 16777216 }
+        ensures { self.new ≡ record self.old { cells = cells.items } }
+    {
+        self.cells = cells;
+    }
+
+    /// Puts cells at that place.
+    pub(crate) fn put(&mut self, at: usize, cells: &[Cell])
+        requires inside { at + length cells.now ≤ length self.old.cells }
+        ensures { self.new ≡ with_cells at cells.now self.old }
+    {
+        self.cells[at..at + cells.len()].copy_from_slice(cells);
+    }
+
+    /// Copies that many cells from one place to another, also if the two overlap.
+    pub(crate) fn move_within(&mut self, here: usize, there: usize, count: usize)
+        requires from { here + count ≤ length self.old.cells }
+        requires to { there + count ≤ length self.old.cells }
+        ensures { self.new ≡ with_cells there (take count (drop here self.old.cells)) self.old }
+    {
+        self.cells.copy_within(here..here + count, there);
     }
 }

@@ -146,6 +146,52 @@ fn a_block_is_resized_and_disposed(rt: HostRuntime) -> Result<(), Fail> {
     Ok(())
 }
 
+/// A block of four cells after its first three were moved one further; one of two cells after the last two of it were moved there; and why
+/// three cannot be.
+fn moved(alloc: Global) -> Result<([Cell; 4], [Cell; 2], Option<HeapStop>), HeapEnd> {
+    let mut heap = Heap::new(alloc);
+    let a = heap.new_block(4)?;
+    let b = heap.new_block(2)?;
+    let from = Spot {
+        block: a,
+        life: 0,
+        epoch: 0,
+        offset: 0,
+    };
+    let to = Spot { block: b, ..from };
+    let letters = [
+        Cell::Byte(65),
+        Cell::Byte(66),
+        Cell::Byte(67),
+        Cell::Byte(68),
+    ];
+    heap.store(&from, &letters)?;
+    heap.block_move(&from, &Spot { offset: 1, ..from }, 3)?;
+    heap.block_move(&Spot { offset: 2, ..from }, &to, 2)?;
+    let mut first = [Cell::Undefined; 4];
+    let mut second = [Cell::Undefined; 2];
+    heap.load(&from, &mut first)?;
+    heap.load(&to, &mut second)?;
+    Ok((first, second, heap.block_move(&from, &to, 3).err()))
+}
+
+// Inside Macintosh: Memory, BlockMove: right also if the two overlap.
+#[test]
+fn cells_are_moved(rt: HostRuntime) -> Result<(), Fail> {
+    let first = [
+        Cell::Byte(65),
+        Cell::Byte(65),
+        Cell::Byte(66),
+        Cell::Byte(67),
+    ];
+    let second = [Cell::Byte(66), Cell::Byte(67)];
+    assert_eq!(rt;
+        moved(rt.alloc()).ok(),
+        Some((first, second, Some(HeapStop::Range)))
+    );
+    Ok(())
+}
+
 /// Why a block of that many bytes cannot be made.
 fn refused(alloc: Global, size: u32) -> Option<HeapEnd> {
     Heap::new(alloc).new_block(size).err()
