@@ -146,9 +146,11 @@ module _ (blocks : List Block) (live i j here there count : ℕ) (a b other anot
       copied a b (slice_get-get_or blocks i other first-within ∙ ap Some (sym is-a))
       (slice_get-get_or blocks j another second-within ∙ ap Some (sym is-b))
 
+  -- the blocks are as many
   pub as_many_blocks : length new ≡ length blocks
   as_many_blocks = ap length new_is ∙ length-set blocks j (with_cells there (take count (drop here a.cells)) b)
 
+  -- and so are their bytes
   pub kept_moved : IsKept new live
   kept_moved =
       let cells = take count (drop here a.cells)

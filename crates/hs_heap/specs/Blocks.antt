@@ -156,6 +156,10 @@ places_of (Ok here) (Ok there) = Ok (here, there)
 places_of (Ok here) (Err why) = Err why
 places_of (Err why) second = Err why
 
+-- where that many cells begin that two pointers reach
+abbrev pub both_places : Spot → Spot → ℕ → Block → Block → Result (ℕ × ℕ) HeapStop
+both_places from to count a b = places_of (place_for from count a) (place_for to count b)
+
 -- the cells from that place on
 abbrev pub loaded_at : ℕ → Block → Result ℕ HeapStop → Result (List Cell) HeapStop
 loaded_at count block (Ok at) = Ok (take count (drop at block.cells))
@@ -209,10 +213,11 @@ RoleReshapes lives (Err wanted) room old new (Err Full) = ⊥
 RoleReshapes lives (Err wanted) room old new (Err NoMemory) = ⊥
 RoleReshapes lives (Err wanted) room old new (Err (Stopped why)) = (why ≡ wanted) × (new ≡ old)
 
--- SetHandleSize and ReallocateHandle, with room for that many cells
+-- SetHandleSize, with room for that many cells
 abbrev pub Resizes : ℕ → ℕ → Block → Block → Result Unit HeapEnd → Type 0
 Resizes size room old new result = RoleReshapes true (resized size old) room old new result
 
+-- the same of ReallocateHandle
 abbrev pub Reallocates : ℕ → ℕ → Block → Block → Result Unit HeapEnd → Type 0
 Reallocates size room old new result = RoleReshapes (has_life old) (reallocated size old) room old new result
 

@@ -1,7 +1,7 @@
 //! The heap.
 
 ghost use Rattle.std.specs.Prelude.{◌≡◌, ◌≤◌, ◌+◌, IfOk, [], true, false, length};
-ghost use Rattle.hs_heap.specs.Blocks.{place_for, places_of, with_lock, with_purge_bit, with_state, emptied, disposed, size_of, state_of, master_of, stored, always, resized, has_life, reallocated};
+ghost use Rattle.hs_heap.specs.Blocks.{both_places, with_lock, with_purge_bit, with_state, emptied, disposed, size_of, state_of, master_of, stored, always, resized, has_life, reallocated};
 ghost use Rattle.std.specs.Result.{result_map_both};
 ghost use Rattle.hs_heap.specs.Memory.{Acts, Answers, Reshapes, Loads, Lends, Moves, HasCells, IsCopiedBetween, MakesBlock, IsMade};
 
@@ -62,7 +62,7 @@ fn places(
     to: &Spot,
     count: usize,
 ) -> Result<(usize, usize), HeapStop>
-    ensures places { result ≡ places_of (place_for from.now count a.now) (place_for to.now count b.now) }
+    ensures places { result ≡ both_places from.now to.now count a.now b.now }
     ensures from_inside { IfOk result (λ at. at.0 + count ≤ length a.now.cells) }
     ensures to_inside { IfOk result (λ at. at.1 + count ≤ length b.now.cells) }
 {
