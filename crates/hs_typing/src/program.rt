@@ -51,6 +51,7 @@ impl From<NoMemory> for ProgramError {
 /// The parts of a typed program.
 #[derive(Drop)]
 pub(crate) struct Typed {
+    /// Its types, each once.
     pub types: Types,
     pub globals: Globals,
     pub literals: Literals,
