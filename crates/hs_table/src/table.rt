@@ -26,8 +26,10 @@ impl Model for Table {
 impl Table {
     ghost use Rattle.hs_table.specs.Tables.{IsTable};
 
-    /// The table of these routines. Takes no memory.
-    pub(crate) fn from_vec(routines: Vec<Routine>) -> Table
+    /// The table of these routines, which are one: their names ascend, and each of them is right. Takes no memory.
+    ///
+    /// Example: no routines are a table.
+    pub fn from_vec(routines: Vec<Routine>) -> Table
         requires { IsTable routines.items }
         ensures { result ≡ routines.items }
     {
