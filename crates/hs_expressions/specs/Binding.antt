@@ -18,8 +18,7 @@ use Rattle.hs_operands.specs.Operands.{TypedOperand}
 use Rattle.hs_operands.specs.declared.operand.Bound.{Bound}
 use Rattle.hs_operands.specs.declared.operand.Bound.TheVariants as bound
 use Rattle.hs_syntax.specs.Trees.{Expression}
-use Rattle.hs_tree.specs.Classes.{is_taken}
-use Rattle.hs_tree.specs.Fitting.{declared, is_taken_variable, types_of, prototype_in, InRange, FitsFunction, FitsRoutine, IsMarked}
+use Rattle.hs_tree.specs.Fitting.{declared, is_taken_variable, types_of, prototype_in, InRange, FitsFunction, FitsRoutine, IsFieldTaken, IsMarked}
 use Rattle.hs_tree.specs.Kinds.{AreAlike}
 use Rattle.hs_tree.specs.Inside.{Node, EachRight, EachLeft}
 use Rattle.hs_tree.specs.Trees.{TypedFunction, TypedProgram}
@@ -99,7 +98,7 @@ IsNotedCall program types call = IsPrototype program.types types call.type_id (p
 abbrev pub IsNotedAddress : TypedProgram → TypedFunction → Taken → Type 0
 IsNotedAddress program function (taken.Variable variable) =
     IsTrue (is_some (declared program function variable)) → IsTrue (is_taken_variable (declared program function variable))
-IsNotedAddress program function (taken.Field field) = IsTrue (is_taken program.taken field)
+IsNotedAddress program function (taken.Field field) = IsFieldTaken program field
 
 -- What was noted before it may be of another function.
 pub record AreNoted (program : TypedProgram) (function : TypedFunction) (s new : Typer) : Type 0 where

@@ -25,8 +25,7 @@ use Rattle.hs_names.specs.Scopes.{Declared, find}
 use Rattle.hs_operands.specs.declared.operand.Bound.{Bound}
 use Rattle.hs_operands.specs.declared.operand.Bound.TheVariants as bound
 use Rattle.hs_table.specs.declared.routine.Routine.{Routine}
-use Rattle.hs_tree.specs.Classes.{is_taken}
-use Rattle.hs_tree.specs.Fitting.{types_of, is_taken_variable, variable_of_global}
+use Rattle.hs_tree.specs.Fitting.{types_of, is_taken_variable, variable_of_global, IsFieldTaken}
 use Rattle.hs_tree.specs.Kinds.{AreAlike, Category, of_function, category_of}
 use Rattle.hs_tree.specs.Objects.{FitsParts}
 use Rattle.hs_tree.specs.Trees.{TypedProgram}
@@ -196,7 +195,7 @@ IsMarkedIn program (taken.Variable (variable.Global place)) =
     IsTrue (is_some (variable_of_global (slice_get program.globals place)))
     → IsTrue (is_taken_variable (variable_of_global (slice_get program.globals place)))
 IsMarkedIn program (taken.Variable (variable.Local place)) = Unit {0}
-IsMarkedIn program (taken.Field field) = IsTrue (is_taken program.taken field)
+IsMarkedIn program (taken.Field field) = IsFieldTaken program field
 
 -- What was noted until then is the program's, whatever function it is of.
 pub record Endures (program : TypedProgram) (its : Claims) (m : Translator) : Type 0 where

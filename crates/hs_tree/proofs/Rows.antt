@@ -9,6 +9,7 @@ use Rattle.hs_tree.specs.Trees.{RightValue, LeftValue, TypedStatement, TypedStat
 use Rattle.hs_tree.specs.declared.class.Class.TheVariants as class
 use Rattle.hs_tree.specs.declared.head.Head.{Head}
 use Rattle.hs_tree.specs.declared.head.VariableDecl.{VariableDecl}
+use Rattle.hs_tree.specs.declared.representatives.Representatives.{Representatives}
 use Rattle.hs_types.specs.Rows.{integer_id, char_pointer_id}
 use Rattle.hs_types.specs.TypeTables.{basic_types}
 use Rattle.hs_types.specs.declared.integer.Integer.TheVariants as kind
@@ -35,6 +36,7 @@ program_with at result variables statements =
             body = tree.compound at [] statements at;
           } ∷ [];
       routines = [];
+      same = record { structs = []; types = [] };
       taken = [];
       main = 0;
     }
@@ -73,18 +75,36 @@ converted_result at fits = let same : integer_id kind.Char ≡ integer_id kind.I
 break_outside : (at : Place) → Fits (program_with at (integer_id kind.Int) [] (one (tree.break_ at))) → ⊥
 break_outside at fits = let holds : false ≡ true = fits.places.0 in cc
 
+-- each type stands for itself
+abbrev none_same : Representatives
+none_same = record { structs = []; types = [] }
+
 -- a field is a class of its own, unless its address is taken
 abbrev field : FieldId
 field = record { of = 3; place = 1 }
 
 class_of_field : (at : Place) (object : LeftValue)
-    → class_of basic_types [] (tree.member (head at char_pointer_id) field 4 object) ≡ Some (class.Field field)
+    → class_of basic_types none_same [] (tree.member (head at char_pointer_id) field 4 object) ≡ Some (class.Field field)
 class_of_field at object = refl
 
 class_of_taken : (at : Place) (object : LeftValue)
-    → class_of basic_types (field ∷ []) (tree.member (head at char_pointer_id) field 4 object) ≡ Some (class.Pointer char_pointer_id)
+    → class_of basic_types none_same (field ∷ []) (tree.member (head at char_pointer_id) field 4 object) ≡ Some (class.Pointer char_pointer_id)
 class_of_taken at object = refl
 
+-- struct 3 is one with struct 1
+abbrev one_struct : Representatives
+one_struct = record { structs = 0 ∷ 1 ∷ 2 ∷ 1 ∷ []; types = [] }
+
+class_in_another_unit : (at : Place) (object : LeftValue)
+    → class_of basic_types one_struct [] (tree.member (head at char_pointer_id) field 4 object) ≡ Some (class.Field (record { of = 1; place = 1 }))
+class_in_another_unit at object = refl
+
+-- its address is taken where it has the other number
+class_of_taken_elsewhere : (at : Place)
+    → class_of basic_types one_struct (record { of = 1; place = 1 } ∷ []) (tree.arrow (head at char_pointer_id) field 4 (number_at at 0))
+    ≡ Some (class.Pointer char_pointer_id)
+class_of_taken_elsewhere at = refl
+
 -- a number has no class
-class_of_number : (at : Place) (object : LeftValue) → class_of basic_types [] (tree.member (head at (integer_id kind.Int)) field 4 object) ≡ None
+class_of_number : (at : Place) (object : LeftValue) → class_of basic_types none_same [] (tree.member (head at (integer_id kind.Int)) field 4 object) ≡ None
 class_of_number at object = refl

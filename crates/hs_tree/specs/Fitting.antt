@@ -8,7 +8,7 @@
 use Rattle.std.specs.Prelude.{◌≡◌, ◌≤◌, ◌<◌, ℕ, Bool, true, false, List, [], ◌∷◌, length, take, slice_get, Option, Some, None, IsTrue, is_some, codes, not, ◌&&◌, ◌||◌}
 use Rattle.std.specs.List.{AllByRecursion}
 use Rattle.hs_table.specs.declared.routine.Routine.{Routine}
-use Rattle.hs_tree.specs.Classes.{is_taken}
+use Rattle.hs_tree.specs.Classes.{is_taken_anywhere}
 use Rattle.hs_tree.specs.Kinds.{AreAlike, number_kind, pointed, element, array_length, is_number, is_void, is_readable, IsNumber, IsAnyNumber, IsPointer, IsPointerTo, IsStruct, IsScalar, IsReadable, IsPointerToSize}
 use Rattle.hs_tree.specs.Roles.{FitsRole}
 use Rattle.hs_tree.specs.Trees as tree
@@ -27,6 +27,7 @@ use Rattle.hs_types.specs.Rows.{integer_id}
 use Rattle.hs_types.specs.TypeTables.{TypeTable, row_of, is_complete}
 use Rattle.hs_types.specs.declared.integer.Integer.{Integer}
 use Rattle.hs_types.specs.declared.integer.Integer.TheVariants as kind
+use Rattle.hs_types.specs.declared.row.FieldId.{FieldId}
 use Rattle.hs_types.specs.declared.row.Row.{Row}
 use Rattle.hs_types.specs.declared.row.Row.TheVariants as row
 use Rattle.hs_types.specs.declared.row.TypeId.{TypeId}
@@ -259,12 +260,16 @@ abbrev pub is_taken_variable : Option VariableDecl → Bool
 is_taken_variable None = false
 is_taken_variable (Some it) = it.taken
 
+-- the program has noted that it takes the address of the field, or of one that is one with it
+abbrev pub IsFieldTaken : TypedProgram → FieldId → Type 0
+IsFieldTaken program field = IsTrue (is_taken_anywhere program.same program.taken field)
+
 -- What the program takes the address of is marked as taken.
 abbrev pub IsMarked : TypedProgram → TypedFunction → Node → Type 0
 IsMarked program function (right (tree.address head (tree.variable its variable))) =
     IsTrue (is_taken_variable (declared program function variable))
-IsMarked program function (right (tree.address head (tree.member its field offset object))) = IsTrue (is_taken program.taken field)
-IsMarked program function (right (tree.address head (tree.arrow its field offset pointer))) = IsTrue (is_taken program.taken field)
+IsMarked program function (right (tree.address head (tree.member its field offset object))) = IsFieldTaken program field
+IsMarked program function (right (tree.address head (tree.arrow its field offset pointer))) = IsFieldTaken program field
 IsMarked program function _ = Unit {0}
 
 -- a promoted number, as the controlling expression of a switch is (3.6.4.2)

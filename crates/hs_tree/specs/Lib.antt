@@ -3,6 +3,7 @@ pub mod Fitting
 pub mod Inside
 pub mod Kinds
 pub mod Objects
+pub mod Representatives
 pub mod Roles
 pub mod RowLaws
 pub mod Straight

@@ -16,6 +16,7 @@ use Rattle.hs_tree.specs.declared.operators.Arithmetic.{Arithmetic}
 use Rattle.hs_tree.specs.declared.operators.Comparison.{Comparison}
 use Rattle.hs_tree.specs.declared.operators.Stride.{Stride}
 use Rattle.hs_tree.specs.declared.operators.Unary.{Unary}
+use Rattle.hs_tree.specs.declared.representatives.Representatives.{Representatives}
 use Rattle.hs_tree.specs.declared.statement.Label.{Label}
 use Rattle.hs_types.specs.TypeTables.{TypeTable}
 use Rattle.hs_types.specs.declared.integer.Integer.{Integer}
@@ -119,6 +120,7 @@ pub record TypedProgram : Type 0 where
   pub literals : List (List ℕ)
   pub functions : List TypedFunction
   pub routines : List BoundRoutine
+  pub same : Representatives
   pub taken : List FieldId
   pub main : ℕ
 

@@ -8,6 +8,7 @@ use Rattle.hs_tree.specs.Trees.{TypedStatements, TypedFunction, TypedProgram}
 use Rattle.hs_tree.specs.declared.function.BoundRoutine.{BoundRoutine}
 use Rattle.hs_tree.specs.declared.function.Function.{Function}
 use Rattle.hs_tree.specs.declared.globals.Global.{Global}
+use Rattle.hs_tree.specs.declared.representatives.Representatives.{Representatives}
 use Rattle.hs_tree.specs.declared.statement.Block.{Block, Block', Row_of-Labelled, end_of-Labelled, more_of-Labelled}
 use Rattle.hs_tree.specs.declared.statement.Declaration.{Declaration}
 use Rattle.hs_tree.specs.declared.statement.Initial.{Initial}
@@ -117,14 +118,15 @@ view_function it =
     }
 
 -- the program with these parts
-abbrev pub program_of : TypeTable → List Global → List (List ℕ) → List Function → List BoundRoutine → List FieldId → ℕ → TypedProgram
-program_of types globals literals functions routines taken main =
+abbrev pub program_of : TypeTable → List Global → List (List ℕ) → List Function → List BoundRoutine → Representatives → List FieldId → ℕ → TypedProgram
+program_of types globals literals functions routines same taken main =
     record {
       types = types;
       globals = globals;
       literals = literals;
       functions = map view_function functions;
       routines = routines;
+      same = same;
       taken = taken;
       main = main;
     }

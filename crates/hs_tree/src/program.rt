@@ -4,7 +4,7 @@ ghost use Rattle.std.specs.Prelude.{◌≡◌, Some, slice_get, option_copied};
 ghost use Rattle.hs_tree.specs.Fitting.{Fits};
 ghost use Rattle.hs_tree.specs.Views.{program_of};
 
-use crate::{Function, Globals, Literals, Routines, TakenFields};
+use crate::{Function, Globals, Literals, Representatives, Routines, TakenFields};
 use hs_types::Types;
 
 /// A typed program: every conversion is explicit, each member access names its field, and each call is bound to a function or to a
@@ -18,11 +18,13 @@ pub struct Program {
     /// The functions that are defined, in the order of the text.
     pub functions: Vec<Function>,
     pub routines: Routines,
-    /// The fields whose addresses the program takes.
+    /// Which of its types are one.
+    pub same: Representatives,
+    /// The fields whose addresses the program takes, each by the one that stands for it.
     pub taken: TakenFields,
     /// The number of the function `main`.
     pub main: u32,
-    pub ghost fits: { ∥ Fits (program_of types globals literals functions.items routines taken main) ∥₁ },
+    pub ghost fits: { ∥ Fits (program_of types globals literals functions.items routines same taken main) ∥₁ },
 }
 
 impl Program {

@@ -4,11 +4,11 @@ ghost use Rattle.std.specs.Prelude.{◌≡◌, ◌∷◌, [], map, IfOk};
 ghost use Rattle.hs_tree_tests.specs.Samples.{sample_place, sample_head, smallest_body, smallest_main};
 ghost use Rattle.hs_tree.specs.Views.{view_block, view_function};
 
-use hs_base::{Bytes, NoMemory, Pos};
+use hs_base::{Bytes, NoMemory, Numbers, Pos};
 use hs_tokens::{Origin, Place};
 use hs_tree::{
-    Block, Class, Function, Globals, Head, Labelled, Literals, Lvalue, Program, Routines, Rvalue,
-    Statement, TakenFields, Variable, VariableDecl, Variables,
+    Block, Class, Function, Globals, Head, Labelled, Literals, Lvalue, Program, Representatives,
+    Routines, Rvalue, Statement, TakenFields, TypeIds, Variable, VariableDecl, Variables,
 };
 use hs_types::{FieldId, Integer, TypeId, Types};
 use std::alloc::Global;
@@ -52,15 +52,28 @@ fn member(alloc: Global, type_id: TypeId, field: FieldId) -> Result<Lvalue, NoMe
     })
 }
 
-/// The class of a member of that type, before and after its address is taken.
-fn classes(alloc: Global, type_id: TypeId) -> Result<(Option<Class>, Option<Class>), NoMemory> {
+/// Each type stands for itself, but these structs.
+fn same(alloc: Global, structs: &[u32]) -> Result<Representatives, NoMemory> {
+    Ok(Representatives {
+        structs: Numbers::from_vec(structs.to_vec(alloc)?),
+        types: TypeIds::from_vec(Vec::new(alloc)),
+    })
+}
+
+/// The class of a member of that type of struct 3, before and after the address of a member is taken.
+fn classes(
+    alloc: Global,
+    structs: &[u32],
+    type_id: TypeId,
+    of: u32,
+) -> Result<(Option<Class>, Option<Class>), NoMemory> {
     let types = Types::new(alloc)?;
-    let field = FieldId { of: 3, place: 1 };
+    let same = same(alloc, structs)?;
     let mut taken = TakenFields::new(alloc);
-    let object = member(alloc, type_id, field)?;
-    let before = Class::of(&types, &taken, &object);
-    taken.add(field)?;
-    let after = Class::of(&types, &taken, &object);
+    let object = member(alloc, type_id, FieldId { of: 3, place: 1 })?;
+    let before = Class::of(&types, &same, &taken, &object);
+    taken.add(FieldId { of, place: 1 })?;
+    let after = Class::of(&types, &same, &taken, &object);
     Ok((before, after))
 }
 
@@ -71,12 +84,25 @@ fn a_field_is_a_class_until_its_address_is_taken(rt: HostRuntime) -> Result<(), 
     let pointer = TypeId::char_pointer();
     let field = Class::Field(FieldId { of: 3, place: 1 });
     assert_eq!(rt;
-        classes(alloc, pointer),
+        classes(alloc, &[], pointer, 3),
         Ok((Some(field), Some(Class::Pointer(pointer))))
     );
     assert_eq!(rt;
-        classes(alloc, TypeId::integer(Integer::Int)),
+        classes(alloc, &[], TypeId::integer(Integer::Int), 3),
         Ok((None, None))
+    );
+    Ok(())
+}
+
+// Own: structs of several units that are one have one class for each field, and the address of a field is taken in all of them.
+#[test]
+fn a_field_is_one_class_in_all_units(rt: HostRuntime) -> Result<(), Fail> {
+    let alloc = rt.alloc();
+    let pointer = TypeId::char_pointer();
+    let field = Class::Field(FieldId { of: 1, place: 1 });
+    assert_eq!(rt;
+        classes(alloc, &[0, 1, 2, 1], pointer, 1),
+        Ok((Some(field), Some(Class::Pointer(pointer))))
     );
     Ok(())
 }
@@ -152,6 +178,7 @@ fn smallest(alloc: Global) -> Result<Program, NoMemory> {
         literals: Literals::from_vec(Vec::new(alloc)),
         functions,
         routines: Routines::from_vec(Vec::new(alloc)),
+        same: same(alloc, &[])?,
         taken: TakenFields::new(alloc),
         main: 0,
     })
