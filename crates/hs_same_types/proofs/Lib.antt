@@ -1,0 +1,3 @@
+mod Along
+mod Rows
+mod Tagged

@@ -1,0 +1,9 @@
+//! Which types of several units are one: each unit has types of its own, and the first of those that are one stands for all.
+//! `specs/Representatives.antt` has the definition.
+#![tactic(auto)]
+
+mod structs;
+mod tags;
+mod types;
+
+pub use types::representatives;
