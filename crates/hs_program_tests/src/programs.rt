@@ -255,6 +255,60 @@ fn fields_are_marked(rt: HostRuntime) -> Result<(), Fail> {
     Ok(())
 }
 
+/// The program that the units of these texts are.
+fn of_two(alloc: Global, first: &str, second: &str) -> Result<Program, Why> {
+    let units = units_of(alloc, &[first, second])?;
+    Ok(program_of(alloc, built_in(alloc)?, &units)?)
+}
+
+/// What stands for the first three structs of the units of these texts, and whether the second field of the second one is taken.
+fn structs(alloc: Global, first: &str, second: &str) -> Result<([u32; 3], bool), Why> {
+    let it = of_two(alloc, first, second)?;
+    let same = &it.same;
+    let field = same.field_for(FieldId { of: 1, place: 1 });
+    let numbers = [same.struct_for(0), same.struct_for(1), same.struct_for(2)];
+    Ok((numbers, it.taken.has(field)))
+}
+
+// Own: the first of the structs that are one stands for all, so the address of a field is taken in all units.
+#[test]
+fn structs_of_several_units_are_one(rt: HostRuntime) -> Result<(), Fail> {
+    let alloc = rt.alloc();
+    let first = "struct S { int a; int b; } s; void f(void) { int *p; p = &s.b; }";
+    assert_eq!(rt;
+        structs(
+            alloc,
+            first,
+            "struct S { int a; int b; } s; struct T { int a; } t; void main() { }"
+        ),
+        Ok(([0, 0, 2], true))
+    );
+    assert_eq!(rt;
+        structs(
+            alloc,
+            first,
+            "struct U { int a; int b; } u; void main() { }"
+        ),
+        Ok(([0, 0, 2], true))
+    );
+    Ok(())
+}
+
+// Own: a tag without a body in its unit goes with the first struct of that tag that has one, in whatever unit.
+#[test]
+fn a_tag_without_a_body_goes_with_one_that_has_one(rt: HostRuntime) -> Result<(), Fail> {
+    let alloc = rt.alloc();
+    assert_eq!(rt;
+        structs(
+            alloc,
+            "struct T; struct S *p; void main() { }",
+            "int i; struct S { int a; int b; } s; int *q = &s.b;"
+        ),
+        Ok(([0, 2, 2], true))
+    );
+    Ok(())
+}
+
 /// How many parameters the routine is declared with, if it is called.
 fn count_of(it: &BoundRoutine) -> Option<usize> {
     match &it.prototype {

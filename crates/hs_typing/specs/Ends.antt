@@ -12,10 +12,12 @@ use Rattle.indexmap.specs.IndexSet.{insert_key}
 use Rattle.hs_linkage.specs.declared.translator.StaticObject.{StaticObject}
 use Rattle.hs_table.specs.declared.routine.Routine.{Routine}
 use Rattle.hs_tree.specs.Classes.{same_field}
+use Rattle.hs_tree.specs.Representatives.{field_for}
 use Rattle.hs_tree.specs.declared.function.BoundRoutine.{BoundRoutine}
 use Rattle.hs_tree.specs.declared.function.Prototype.{Prototype}
 use Rattle.hs_tree.specs.declared.globals.Global.{Global}
 use Rattle.hs_tree.specs.declared.head.Variable.TheVariants as variable
+use Rattle.hs_tree.specs.declared.representatives.Representatives.{Representatives}
 use Rattle.hs_typer.specs.declared.typer.RoutineCall.{RoutineCall}
 use Rattle.hs_typer.specs.declared.typer.Taken.{Taken}
 use Rattle.hs_typer.specs.declared.typer.Taken.TheVariants as taken
@@ -84,15 +86,15 @@ abbrev pub taken_globals : List ℕ → List Taken → List ℕ
 taken_globals done [] = done
 taken_globals done (it ∷ rest) = taken_globals (with_taken_global done it) rest
 
--- a field, with those before
-abbrev pub with_taken_field : List FieldId → Taken → List FieldId
-with_taken_field done (taken.Variable variable) = done
-with_taken_field done (taken.Field field) = insert_key same_field done field
+-- what stands for a field, with those before
+abbrev pub with_taken_field : Representatives → List FieldId → Taken → List FieldId
+with_taken_field same done (taken.Variable variable) = done
+with_taken_field same done (taken.Field field) = insert_key same_field done (field_for same field)
 
 -- in the order of the text; `done` are those before
-abbrev pub taken_fields : List FieldId → List Taken → List FieldId
-taken_fields done [] = done
-taken_fields done (it ∷ rest) = taken_fields (with_taken_field done it) rest
+abbrev pub taken_fields : Representatives → List FieldId → List Taken → List FieldId
+taken_fields same done [] = done
+taken_fields same done (it ∷ rest) = taken_fields same (with_taken_field same done it) rest
 
 -- no routine is called yet
 abbrev pub no_types : List Routine → List (Option TypeId)

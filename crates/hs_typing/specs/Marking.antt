@@ -12,11 +12,13 @@ use Rattle.hs_fitting.specs.Claims.{IsMarkedIn}
 use Rattle.hs_fitting.specs.Tests.{or_true}
 use Rattle.hs_linkage.specs.declared.translator.StaticObject.{StaticObject}
 use Rattle.hs_linkage.specs.declared.translator.Translator.{Translator}
-use Rattle.hs_tree.specs.Classes.{same_field}
+use Rattle.hs_tree.specs.Classes.{same_field, is_taken_anywhere}
 use Rattle.hs_tree.specs.Fitting.{is_taken_variable, variable_of_global}
+use Rattle.hs_tree.specs.Representatives.{field_for}
 use Rattle.hs_tree.specs.Trees.{TypedFunction, TypedProgram}
 use Rattle.hs_tree.specs.declared.globals.Global.{Global}
 use Rattle.hs_tree.specs.declared.head.Variable.TheVariants as variable
+use Rattle.hs_tree.specs.declared.representatives.Representatives.{Representatives}
 use Rattle.hs_typer.specs.declared.typer.Taken.{Taken}
 use Rattle.hs_typer.specs.declared.typer.Taken.TheVariants as taken
 use Rattle.hs_types.specs.TypeTables.{TypeTable}
@@ -104,33 +106,36 @@ place_taken done (it ∷ rest) = (place_first done it rest, place_taken (with_ta
 
 -- ---- the fields
 
--- a field stays
-field_once : (done : List FieldId) (it : Taken) (field : FieldId) → list_any (same_field field) done ≡ true
-    → list_any (same_field field) (with_taken_field done it) ≡ true
-field_once done (taken.Variable variable) field is = is
-field_once done (taken.Field other) field is = any_still (same_field field) same_field done other is
+-- what stands for a field is among them
+abbrev pub IsFieldIn : Representatives → List FieldId → Taken → Type 0
+IsFieldIn same fields (taken.Variable variable) = Unit {0}
+IsFieldIn same fields (taken.Field field) = is_taken_anywhere same fields field ≡ true
 
--- after all that follow
-field_stays : (done : List FieldId) (its : List Taken) (field : FieldId) → list_any (same_field field) done ≡ true
-    → list_any (same_field field) (taken_fields done its) ≡ true
-field_stays done [] field is = is
-field_stays done (it ∷ rest) field is = field_stays (with_taken_field done it) rest field (field_once done it field is)
+module _ (same : Representatives) where
+  -- a field stays
+  field_once : (done : List FieldId) (it : Taken) (field : FieldId) → list_any (same_field field) done ≡ true
+      → list_any (same_field field) (with_taken_field same done it) ≡ true
+  field_once done (taken.Variable variable) field is = is
+  field_once done (taken.Field other) field is = any_still (same_field field) same_field done (field_for same other) is
 
--- a field is among them
-abbrev pub IsFieldTaken : List FieldId → Taken → Type 0
-IsFieldTaken fields (taken.Variable variable) = Unit {0}
-IsFieldTaken fields (taken.Field field) = list_any (same_field field) fields ≡ true
+  -- after all that follow
+  field_stays : (done : List FieldId) (its : List Taken) (field : FieldId) → list_any (same_field field) done ≡ true
+      → list_any (same_field field) (taken_fields same done its) ≡ true
+  field_stays done [] field is = is
+  field_stays done (it ∷ rest) field is = field_stays (with_taken_field same done it) rest field (field_once done it field is)
 
--- once it is put in
-field_first : (done : List FieldId) (it : Taken) (rest : List Taken) → IsFieldTaken (taken_fields (with_taken_field done it) rest) it
-field_first done (taken.Variable variable) rest = tt
-field_first done (taken.Field field) rest =
-    field_stays (insert_key same_field done field) rest field (any_inserted same_field done field (itself_field field))
+  -- once it is put in
+  field_first : (done : List FieldId) (it : Taken) (rest : List Taken)
+      → IsFieldIn same (taken_fields same (with_taken_field same done it) rest) it
+  field_first done (taken.Variable variable) rest = tt
+  field_first done (taken.Field field) rest =
+      field_stays (insert_key same_field done (field_for same field)) rest (field_for same field)
+      (any_inserted same_field done (field_for same field) (itself_field (field_for same field)))
 
--- all of them
-pub field_taken : (done : List FieldId) (its : List Taken) → AllByRecursion (IsFieldTaken (taken_fields done its)) its
-field_taken done [] = tt
-field_taken done (it ∷ rest) = (field_first done it rest, field_taken (with_taken_field done it) rest)
+  -- all of them
+  pub field_taken : (done : List FieldId) (its : List Taken) → AllByRecursion (IsFieldIn same (taken_fields same done its)) its
+  field_taken done [] = tt
+  field_taken done (it ∷ rest) = (field_first done it rest, field_taken (with_taken_field same done it) rest)
 
 -- ---- the program
 
@@ -149,8 +154,12 @@ ended_marked types marks from (it ∷ its) (one ∷ rest) (suc place) are is the
     ended_marked types marks (suc from) its rest place are.1 (ap (λ at. list_any (nat_eq at) marks) next ∙ is) there
 
 module _ (m : Translator) (functions : List TypedFunction) (main : ℕ) where
+  -- which types are one
+  abbrev same_at_end : Representatives
+  same_at_end = (program_at_end m functions main).same
+
   -- one address
-  one_marked : (it : Taken) → IsPlaceTaken (taken_globals [] m.typer.taken) it → IsFieldTaken (taken_fields [] m.typer.taken) it
+  one_marked : (it : Taken) → IsPlaceTaken (taken_globals [] m.typer.taken) it → IsFieldIn same_at_end (taken_fields same_at_end [] m.typer.taken) it
       → IsMarkedIn (program_at_end m functions main) it
   one_marked (taken.Variable (variable.Global place)) is field = λ there.
       let program : TypedProgram = program_at_end m functions main in
@@ -162,10 +171,10 @@ module _ (m : Translator) (functions : List TypedFunction) (main : ℕ) where
 
   -- each of them
   each_marked : (its : List Taken) → AllByRecursion (IsPlaceTaken (taken_globals [] m.typer.taken)) its
-      → AllByRecursion (IsFieldTaken (taken_fields [] m.typer.taken)) its → AllByRecursion (IsMarkedIn (program_at_end m functions main)) its
+      → AllByRecursion (IsFieldIn same_at_end (taken_fields same_at_end [] m.typer.taken)) its → AllByRecursion (IsMarkedIn (program_at_end m functions main)) its
   each_marked [] places fields = tt
   each_marked (it ∷ rest) places fields = (one_marked it places.0 fields.0, each_marked rest places.1 fields.1)
 
   -- What the address is taken of is marked.
   pub all_marked : AllByRecursion (IsMarkedIn (program_at_end m functions main)) m.typer.taken
-  all_marked = each_marked m.typer.taken (place_taken [] m.typer.taken) (field_taken [] m.typer.taken)
+  all_marked = each_marked m.typer.taken (place_taken [] m.typer.taken) (field_taken same_at_end [] m.typer.taken)

@@ -13,6 +13,7 @@ use Rattle.hs_linkage.specs.Definitions.{all_definitions, first_place, is_defini
 use Rattle.hs_linkage.specs.Works.{before_units}
 use Rattle.hs_linkage.specs.declared.definitions.Definition.{Definition}
 use Rattle.hs_linkage.specs.declared.translator.Translator.{Translator}
+use Rattle.hs_same_types.specs.Representatives.{representatives}
 use Rattle.hs_syntax.specs.Trees.{ExternalDeclaration}
 use Rattle.hs_table.specs.declared.routine.Routine.{Routine}
 use Rattle.hs_tree.specs.Kinds.{is_number, is_void}
@@ -21,6 +22,7 @@ use Rattle.hs_tree.specs.Views.{program_of}
 use Rattle.hs_tree.specs.declared.function.BoundRoutine.{BoundRoutine}
 use Rattle.hs_tree.specs.declared.globals.Global.{Global}
 use Rattle.hs_tree.specs.declared.program.Program.{Program}
+use Rattle.hs_tree.specs.declared.representatives.Representatives.{Representatives}
 use Rattle.hs_typer.specs.declared.type_error.TypeError.{TypeError}
 use Rattle.hs_typer.specs.declared.type_error.TypeError.TheVariants as typing
 use Rattle.hs_types.specs.TypeTables.{TypeTable}
@@ -43,9 +45,9 @@ abbrev pub may_be_main : TypeTable → Option TypedFunction → Bool
 may_be_main types None = false
 may_be_main types (Some it) = (it.parameters == 0) && (is_number types it.result || is_void types it.result)
 
--- types, objects, strings, routines, and the fields whose addresses are taken
+-- types, objects, strings, routines, which types are one, and the fields whose addresses are taken
 abbrev pub Parts : Type 0
-Parts = TypeTable × List Global × List (List ℕ) × List BoundRoutine × List FieldId
+Parts = TypeTable × List Global × List (List ℕ) × List BoundRoutine × Representatives × List FieldId
 
 -- with the objects, and the types that they have, which say how large they are
 abbrev pub parts_with : Translator → List Global × TypeTable → Parts
@@ -54,7 +56,8 @@ parts_with m p = (
   sized_globals p.1 p.0,
   m.typer.literals,
   bound_routines p.1 [] m.typer.table (first_types (no_types m.typer.table) m.typer.calls),
-  taken_fields [] m.typer.taken,
+  representatives p.1 m.typer.origins,
+  taken_fields (representatives p.1 m.typer.origins) [] m.typer.taken,
 )
 
 -- what the units leave at their end
@@ -63,13 +66,14 @@ parts_of m = parts_with m (globals_of (taken_globals [] m.typer.taken) 0 [] m.ob
 
 -- the program of these parts
 abbrev pub assembled : Parts → List TypedFunction → ℕ → TypedProgram
-assembled (types, globals, literals, routines, taken) functions main =
+assembled (types, globals, literals, routines, same, taken) functions main =
     record {
       types = types;
       globals = globals;
       literals = literals;
       functions = functions;
       routines = routines;
+      same = same;
       taken = taken;
       main = main;
     }
@@ -100,10 +104,10 @@ typed table units = ended (translated table units)
 
 -- the parts of a program, and a program of the code
 abbrev pub view_typed : Typed → TypedProgram
-view_typed it = program_of it.types it.globals it.literals it.functions.items it.routines it.taken it.main
+view_typed it = program_of it.types it.globals it.literals it.functions.items it.routines it.same it.taken it.main
 
 abbrev pub view_program : Program → TypedProgram
-view_program it = program_of it.types it.globals it.literals it.functions.items it.routines it.taken it.main
+view_program it = program_of it.types it.globals it.literals it.functions.items it.routines it.same it.taken it.main
 
 -- the program, or the refusal, is that of the definition, unless memory ran out
 abbrev pub IsGivenAs : {A : Type 0} → (A → TypedProgram) → Result TypedProgram ProgramError → Result A ProgramError → Type 0

@@ -4,7 +4,7 @@ ghost use Rattle.std.specs.Prelude.{◌≡◌, [], IfOk};
 ghost use Rattle.hs_typing.specs.Ends.{with_taken_global, taken_globals, with_taken_field, taken_fields};
 
 use hs_base::NoMemory;
-use hs_tree::{TakenFields, Variable};
+use hs_tree::{Representatives, TakenFields, Variable};
 use hs_typer::Taken;
 use indexmap::IndexSet;
 use std::alloc::Global;
@@ -36,26 +36,34 @@ pub(crate) fn taken_globals(alloc: Global, its: &[Taken]) -> Result<IndexSet<u32
     Ok(all)
 }
 
-/// The fields, with one more, if it is the address of a field.
-fn with_taken_field(done: TakenFields, it: Taken) -> Result<TakenFields, NoMemory>
-    ensures { IfOk result (λ all. all ≡ with_taken_field done it) }
+/// The fields, with what stands for one more, if it is the address of a field.
+fn with_taken_field(
+    same: &Representatives,
+    done: TakenFields,
+    it: Taken,
+) -> Result<TakenFields, NoMemory>
+    ensures { IfOk result (λ all. all ≡ with_taken_field same.now done it) }
 {
     let mut all = done;
     match it {
-        Taken::Field(field) => all.add(field)?,
+        Taken::Field(field) => all.add(same.field_for(field))?,
         Taken::Variable(_) => {}
     }
     Ok(all)
 }
 
-/// The fields whose addresses the program takes, once each.
-pub(crate) fn taken_fields(alloc: Global, its: &[Taken]) -> Result<TakenFields, NoMemory>
-    ensures { IfOk result (λ all. all ≡ taken_fields [] its.now) }
+/// What stands for the fields whose addresses the program takes, once each.
+pub(crate) fn taken_fields(
+    alloc: Global,
+    same: &Representatives,
+    its: &[Taken],
+) -> Result<TakenFields, NoMemory>
+    ensures { IfOk result (λ all. all ≡ taken_fields same.now [] its.now) }
 {
     let mut all = TakenFields::new(alloc);
     let mut rest = its;
     'rest: while let Some((it, others)) = rest.split_first() {
-        all = with_taken_field(all, *it)?;
+        all = with_taken_field(same, all, *it)?;
         rest = others;
     }
     Ok(all)

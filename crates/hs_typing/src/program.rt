@@ -18,9 +18,12 @@ use crate::routines::{bound_routines, first_types};
 use hs_base::{Limit, LimitKind, NoMemory};
 use hs_functions::functions_of;
 use hs_linkage::{Definitions, Objects, Translator};
+use hs_same_types::representatives;
 use hs_syntax::Unit;
 use hs_table::Table;
-use hs_tree::{Function, Global as Object, Globals, Literals, Program, Routines, TakenFields};
+use hs_tree::{
+    Function, Global as Object, Globals, Literals, Program, Representatives, Routines, TakenFields,
+};
 use hs_typer::{TypeError, Typer};
 use hs_types::Types;
 use std::alloc::Global;
@@ -57,6 +60,7 @@ pub(crate) struct Typed {
     pub literals: Literals,
     pub functions: Vec<Function>,
     pub routines: Routines,
+    pub same: Representatives,
     pub taken: TakenFields,
     pub main: u32,
 }
@@ -66,6 +70,7 @@ pub(crate) struct Typed {
 struct Ends {
     globals: Globals,
     routines: Routines,
+    same: Representatives,
     taken: TakenFields,
 }
 
@@ -92,15 +97,17 @@ fn routines_at_end(alloc: Global, m: &Translator) -> Result<Routines, NoMemory>
 
 /// What the units leave at their end.
 fn ends_of(alloc: Global, m: &mut Translator) -> Result<Ends, NoMemory>
-    ensures { IfOk result (λ it. parts_of m.old ≡ (m.new.typer.types, it.globals, m.new.typer.literals, it.routines, it.taken)) }
+    ensures { IfOk result (λ it. parts_of m.old ≡ (m.new.typer.types, it.globals, m.new.typer.literals, it.routines, it.same, it.taken)) }
 {
     let objects = globals_at_end(alloc, m)?;
     let globals = Globals::from_vec(sized_globals(alloc, &m.typer.types, objects)?);
     let routines = routines_at_end(alloc, m)?;
-    let taken = taken_fields(alloc, m.typer.taken.items())?;
+    let same = representatives(alloc, &m.typer.types, &m.typer.origins)?;
+    let taken = taken_fields(alloc, &same, m.typer.taken.items())?;
     Ok(Ends {
         globals,
         routines,
+        same,
         taken,
     })
 }
@@ -108,7 +115,7 @@ fn ends_of(alloc: Global, m: &mut Translator) -> Result<Ends, NoMemory>
 /// A program of these parts.
 fn assembled(m: Translator, ends: Ends, functions: Vec<Function>, main: u32) -> Typed
     ensures { view_typed result
-        ≡ assembled (m.typer.types, ends.globals, m.typer.literals, ends.routines, ends.taken) (map view_function functions.items) main }
+        ≡ assembled (m.typer.types, ends.globals, m.typer.literals, ends.routines, ends.same, ends.taken) (map view_function functions.items) main }
 {
     let Translator { typer, .. } = m;
     let Typer {
@@ -119,6 +126,7 @@ fn assembled(m: Translator, ends: Ends, functions: Vec<Function>, main: u32) -> 
     let Ends {
         globals,
         routines,
+        same,
         taken,
     } = ends;
     Typed {
@@ -127,6 +135,7 @@ fn assembled(m: Translator, ends: Ends, functions: Vec<Function>, main: u32) -> 
         literals,
         functions,
         routines,
+        same,
         taken,
         main,
     }
@@ -246,6 +255,7 @@ fn whole(it: Typed) -> Program
         literals,
         functions,
         routines,
+        same,
         taken,
         main,
     } = it;
@@ -255,6 +265,7 @@ fn whole(it: Typed) -> Program
         literals,
         functions,
         routines,
+        same,
         taken,
         main,
     }
