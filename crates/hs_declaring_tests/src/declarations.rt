@@ -1,6 +1,6 @@
 //! Declarations: the objects that they make, or the first refusal and its column.
 
-use crate::texts::{Refusal, Why, parsed, placeless};
+use crate::texts::{Refusal, Why, answer, placeless, units_of};
 use hs_declarations::{block_declaration, file_declaration};
 use hs_linkage::{Definitions, Translator};
 use hs_syntax::{Block, Decl, External, Unit, first_of_specifiers};
@@ -20,7 +20,7 @@ pub(crate) fn place_of(it: &Decl) -> Result<Place, Refusal> {
 
 /// Declares what a declaration of file scope declares.
 fn in_file(alloc: Global, m: &mut Translator, it: &Decl) -> Result<(), Refusal> {
-    Ok(file_declaration(alloc, m, place_of(it)?, it)?)
+    answer(file_declaration(alloc, m, place_of(it)?, it))
 }
 
 /// Declares what a declaration of a block declares, and returns how many variables it gives a value.
@@ -87,20 +87,29 @@ pub(crate) fn beginning(alloc: Global, units: &[Unit]) -> Result<Translator, Ref
     Ok(Translator::new(alloc, built_in(alloc)?, definitions)?)
 }
 
-/// What a text makes.
-fn makes(alloc: Global, text: &str) -> Result<Made, Refusal> {
-    let mut units = Vec::new(alloc);
-    units.push(parsed(alloc, text)?)?;
-    let mut m = beginning(alloc, &units)?;
+/// Declares what units declare, and returns what they make.
+fn made_with(alloc: Global, m: &mut Translator, units: &[Unit]) -> Result<Made, Refusal> {
     let mut values = 0usize;
-    for it in &units {
-        values = values.saturating_add(with_unit(alloc, &mut m, it)?);
+    for it in units {
+        values = values.saturating_add(with_unit(alloc, m, it)?);
     }
     Ok(Made {
         objects: m.objects.items().len(),
-        size: last_size(&m),
+        size: last_size(m),
         values,
     })
+}
+
+/// What units make.
+fn made_of(alloc: Global, units: &[Unit]) -> Result<Made, Refusal> {
+    let mut m = beginning(alloc, units)?;
+    made_with(alloc, &mut m, units)
+}
+
+/// What a text makes.
+fn makes(alloc: Global, text: &str) -> Result<Made, Refusal> {
+    let units = units_of(alloc, &[text])?;
+    made_of(alloc, &units)
 }
 
 /// So many objects, of which the last one has that size, and so many values.

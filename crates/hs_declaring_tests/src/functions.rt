@@ -1,27 +1,23 @@
 //! Programs of one unit and of two: how many functions they define, or the first refusal and its column.
 
 use crate::declarations::beginning;
-use crate::texts::{Refusal, Why, parsed, placeless};
+use crate::texts::{Refusal, Why, answer, placeless, units_of};
 use hs_functions::functions_of;
 use hs_syntax::Unit;
 use hs_tree::{Function, VariableDecl};
 use std::alloc::Global;
 use std::test::Fail;
 
-/// The units that texts are.
-fn units_of(alloc: Global, texts: &[&str]) -> Result<Vec<Unit>, Refusal> {
-    let mut units = Vec::new(alloc);
-    for text in texts {
-        units.push(parsed(alloc, text)?)?;
-    }
-    Ok(units)
+/// The functions that units define.
+fn defined_in(alloc: Global, units: &[Unit]) -> Result<Vec<Function>, Refusal> {
+    let mut m = beginning(alloc, units)?;
+    answer(functions_of(alloc, &mut m, units))
 }
 
 /// The functions that texts define, each of which is a unit.
 fn functions_in(alloc: Global, texts: &[&str]) -> Result<Vec<Function>, Refusal> {
     let units = units_of(alloc, texts)?;
-    let mut m = beginning(alloc, &units)?;
-    Ok(functions_of(alloc, &mut m, &units)?)
+    defined_in(alloc, &units)
 }
 
 /// How many functions a text defines.

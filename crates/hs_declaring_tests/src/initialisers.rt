@@ -1,7 +1,7 @@
 //! Initialisers: the size of the object and the constants that it starts with, or the first refusal and its column.
 
 use crate::declarations::{place_of, size_of};
-use crate::texts::{Refusal, Why, parsed, placeless};
+use crate::texts::{Refusal, Why, answer, parsed, placeless};
 use hs_expressions::{derivations, specifiers};
 use hs_initialisers::{initialised, inline_words, starting};
 use hs_syntax::{Decl, External, Initialiser, Item, Unit};
@@ -53,7 +53,7 @@ fn base(alloc: Global, typer: &mut Typer, at: Place, it: &Decl) -> Result<TypeId
 fn declared(alloc: Global, typer: &mut Typer, at: Place, it: &Decl) -> Result<TypeId, Refusal> {
     let id = base(alloc, typer, at, it)?;
     let its = derivations(alloc, typer, at, &first(it)?.declarator)?;
-    Ok(formed(&mut typer.types, at, &its, id)?)
+    answer(formed(&mut typer.types, at, &its, id))
 }
 
 /// What is known before the first declaration.
@@ -74,14 +74,32 @@ fn are(parts: &[Part], rows: &[(u32, Constant)]) -> bool {
     true
 }
 
+/// What an object is to have: its size, and the constants that it starts with.
+type Wanted<'a> = (u32, &'a [(u32, Constant)]);
+
+/// Whether the object of a declaration has these, with what is known.
+fn has_with(
+    alloc: Global,
+    typer: &mut Typer,
+    it: &Decl,
+    (size, rows): Wanted<'_>,
+) -> Result<bool, Refusal> {
+    let at = place_of(it)?;
+    let id = declared(alloc, typer, at, it)?;
+    let (made, parts) = initialised(alloc, typer, at, id, start(first(it)?)?)?;
+    Ok(size_of(&typer.types, made) == size && are(&parts, rows))
+}
+
+/// Whether the object of a declaration has these.
+fn has(alloc: Global, it: &Decl, wanted: Wanted<'_>) -> Result<bool, Refusal> {
+    let mut typer = beginning(alloc)?;
+    has_with(alloc, &mut typer, it, wanted)
+}
+
 /// Whether the object of a text has that size and starts with these constants.
 fn starts(alloc: Global, text: &str, size: u32, rows: &[(u32, Constant)]) -> Result<bool, Refusal> {
     let it = declaration(alloc, text)?;
-    let at = place_of(&it)?;
-    let mut typer = beginning(alloc)?;
-    let id = declared(alloc, &mut typer, at, &it)?;
-    let (made, parts) = initialised(alloc, &mut typer, at, id, start(first(&it)?)?)?;
-    Ok(size_of(&typer.types, made) == size && are(&parts, rows))
+    has(alloc, &it, (size, rows))
 }
 
 /// A number.
@@ -185,22 +203,42 @@ fn has_value(it: Initial) -> bool {
     }
 }
 
-/// Whether the automatic object of a text starts with a `short` value.
-fn starts_with_value(alloc: Global, text: &str) -> Result<bool, Refusal> {
-    let it = declaration(alloc, text)?;
-    let at = place_of(&it)?;
-    let mut typer = beginning(alloc)?;
-    let id = declared(alloc, &mut typer, at, &it)?;
-    let (_, value) = starting(alloc, &mut typer, at, id, start(first(&it)?)?)?;
+/// Whether the automatic object of a declaration starts with a `short` value, with what is known.
+fn has_value_with(alloc: Global, typer: &mut Typer, it: &Decl) -> Result<bool, Refusal> {
+    let at = place_of(it)?;
+    let id = declared(alloc, typer, at, it)?;
+    let (_, value) = starting(alloc, typer, at, id, start(first(it)?)?)?;
     Ok(has_value(value))
 }
 
-/// The words after a prototype, if they are constants.
-fn words_of(alloc: Global, text: &str) -> Result<(), Refusal> {
-    let it = declaration(alloc, text)?;
+/// Whether the automatic object of a declaration starts with a `short` value.
+fn has_value_of(alloc: Global, it: &Decl) -> Result<bool, Refusal> {
     let mut typer = beginning(alloc)?;
-    inline_words(alloc, &mut typer, start(first(&it)?)?)?;
-    Ok(())
+    has_value_with(alloc, &mut typer, it)
+}
+
+/// Whether the automatic object of a text starts with a `short` value.
+fn starts_with_value(alloc: Global, text: &str) -> Result<bool, Refusal> {
+    let it = declaration(alloc, text)?;
+    has_value_of(alloc, &it)
+}
+
+/// The words after a prototype, if they are constants, with what is known.
+fn words_with(alloc: Global, typer: &mut Typer, it: &Decl) -> Result<bool, Refusal> {
+    inline_words(alloc, typer, start(first(it)?)?)?;
+    Ok(true)
+}
+
+/// Whether the words after a prototype are constants, before any declaration.
+fn words_in(alloc: Global, it: &Decl) -> Result<bool, Refusal> {
+    let mut typer = beginning(alloc)?;
+    words_with(alloc, &mut typer, it)
+}
+
+/// Whether the words after a prototype are constants.
+fn words_of(alloc: Global, text: &str) -> Result<bool, Refusal> {
+    let it = declaration(alloc, text)?;
+    words_in(alloc, &it)
 }
 
 // X3.159-1989 3.5.7: an automatic object starts with a value that is converted. Own: the words of an inline trap are dropped.
@@ -209,7 +247,7 @@ fn values_and_inline_words_are_taken(rt: HostRuntime) -> Result<(), Fail> {
     let alloc = rt.alloc();
     assert_eq!(rt; starts_with_value(alloc, "short s = 1L;"), Ok(true));
     assert_eq!(rt; starts_with_value(alloc, "short s = { 1 };"), Ok(false));
-    assert_eq!(rt; words_of(alloc, "void f(void) = 0xA9B4;"), Ok(()));
-    assert_eq!(rt; words_of(alloc, "void f(void) = { 1, 2 };"), Ok(()));
+    assert_eq!(rt; words_of(alloc, "void f(void) = 0xA9B4;"), Ok(true));
+    assert_eq!(rt; words_of(alloc, "void f(void) = { 1, 2 };"), Ok(true));
     Ok(())
 }

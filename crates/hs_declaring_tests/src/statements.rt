@@ -1,7 +1,7 @@
 //! Statements: how many a body has, or the first refusal and its column.
 
 use crate::declarations::beginning;
-use crate::texts::{Refusal, Why, parsed, placeless};
+use crate::texts::{Refusal, Why, placeless, units_of};
 use hs_linkage::Translator;
 use hs_statements::body;
 use hs_syntax::{External, Unit};
@@ -28,15 +28,19 @@ fn of_first(alloc: Global, m: &mut Translator, it: &Unit) -> Result<usize, Refus
     }
 }
 
-/// How many statements the function that a text is has in its body.
-fn stated(alloc: Global, text: &str) -> Result<usize, Refusal> {
-    let mut units = Vec::new(alloc);
-    units.push(parsed(alloc, text)?)?;
-    let mut m = beginning(alloc, &units)?;
+/// The same of the first function of the first unit.
+fn of_units(alloc: Global, units: &[Unit]) -> Result<usize, Refusal> {
+    let mut m = beginning(alloc, units)?;
     match units.first() {
         Some(it) => of_first(alloc, &mut m, it),
         None => Err(placeless(Why::Unread)),
     }
+}
+
+/// How many statements the function that a text is has in its body.
+fn stated(alloc: Global, text: &str) -> Result<usize, Refusal> {
+    let units = units_of(alloc, &[text])?;
+    of_units(alloc, &units)
 }
 
 /// A refusal.

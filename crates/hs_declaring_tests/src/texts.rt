@@ -63,6 +63,18 @@ impl<T: Drop> From<AllocFailed<T>> for Refusal {
     }
 }
 
+/// The list with one item more. What is held is of a type that this function does not know, so its proof is short.
+fn with_item<T: Drop>(list: Vec<T>, next: Result<T, Refusal>) -> Result<Vec<T>, Refusal> {
+    let mut items = list;
+    items.push(next?)?;
+    Ok(items)
+}
+
+/// An answer of typing, with its refusal as one of the tests.
+pub(crate) fn answer<T: Drop>(result: Result<T, TypeError>) -> Result<T, Refusal> {
+    Ok(result?)
+}
+
 /// Tokens that no macro made.
 fn with_origins(alloc: Global, tokens: Vec<Token>) -> Result<Vec<SourceToken>, Refusal> {
     let mut sources = Vec::new(alloc);
@@ -84,6 +96,15 @@ fn tokens_of(alloc: Global, text: &[u8]) -> Result<Vec<SourceToken>, Refusal> {
         return Err(placeless(Why::Unread));
     };
     with_origins(alloc, tokens)
+}
+
+/// The units that texts are.
+pub(crate) fn units_of(alloc: Global, texts: &[&str]) -> Result<Vec<Unit>, Refusal> {
+    let mut units = Vec::new(alloc);
+    for text in texts {
+        units = with_item(units, parsed(alloc, text))?;
+    }
+    Ok(units)
 }
 
 /// The unit that a text is.
