@@ -1,0 +1,4 @@
+pub mod Entries
+pub mod Roles
+pub mod Texts
+pub mod Trees
