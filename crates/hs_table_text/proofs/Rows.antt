@@ -72,9 +72,9 @@ lock_entry = table (member (codes "role") (string (codes "lock")) no_members)
 abbrev event_entry : Data
 event_entry =
     table (member (codes "fills") (integer (pos 2))
-           (member (codes "moves") (boolean true)
-            (member (codes "purges") (boolean true)
-             (member (codes "role") (string (codes "plain")) no_members))))
+    (member (codes "moves") (boolean true)
+    (member (codes "purges") (boolean true)
+    (member (codes "role") (string (codes "plain")) no_members))))
 
 -- `role = "fly"`
 abbrev flying_entry : Data

@@ -12,15 +12,10 @@ use Rattle.toml.specs.Data.{Members, table, members_depth, members_have_valid_da
 use Rattle.hs_table.specs.declared.role.Role.{Role}
 use Rattle.hs_table.specs.declared.routine.Routine.{Routine}
 use Rattle.hs_table.specs.Tables.{IsTable, is_identifier, is_plain, is_right, names_ascend}
-use Rattle.hs_table_text.specs.Entries.{entry_of}
+use Rattle.hs_table_text.specs.Entries.{entry_of, routine_with}
 use Rattle.hs_table_text.specs.RoleLaws.{role_back}
 use Rattle.hs_table_text.specs.Texts.{routines_in, table_of}
 use Rattle.hs_table_text.specs.Trees.{entry_tree, routine_trees, root_tree}
-
--- a routine with these fields
-abbrev made : List ℕ → Role → Bool → Bool → ℕ → ℕ → Routine
-made name role moves purges fills size =
-    record { name = name; role = role; moves = moves; purges = purges; fills = fills; size = size }
 
 -- what a number that is not 0 says of the role
 plain_of : (plain : Bool) (fills size : ℕ) → (plain || ((fills == 0) && (size == 0))) ≡ true → (fills == 0) ≡ false → plain ≡ true
@@ -38,7 +33,7 @@ not_0 below = grind (arith, nat_tests)
 -- a routine is read back from its tree: one case for each number that is written or not
 fields_back : (name : List ℕ) (role : Role) (moves purges : Bool) (fills size : ℕ) → is_identifier name ≡ true
     → (is_plain role || ((fills == 0) && (size == 0))) ≡ true → fills ≤ 4294967295 → size ≤ 65536
-    → entry_of name (table (entry_tree (made name role moves purges fills size))) ≡ Some (made name role moves purges fills size)
+    → entry_of name (table (entry_tree (routine_with name role moves purges fills size))) ≡ Some (routine_with name role moves purges fills size)
 fields_back name role moves purges zero zero named plain small_fills small_size =
     simp (role_back role, named) refl
 fields_back name role moves purges (suc fills) zero named plain small_fills small_size =
@@ -83,7 +78,7 @@ tree_back routines is small =
 
 -- the keys of a routine hold no tables
 entry_depth : (name : List ℕ) (role : Role) (moves purges : Bool) (fills size : ℕ)
-    → members_depth (entry_tree (made name role moves purges fills size)) ≡ 0
+    → members_depth (entry_tree (routine_with name role moves purges fills size)) ≡ 0
 entry_depth name role moves purges zero zero = refl
 entry_depth name role moves purges (suc fills) zero = refl
 entry_depth name role moves purges zero (suc size) = refl
@@ -103,7 +98,7 @@ tree_depth routines = omega (arith, routines_depth routines)
 
 -- the keys of a routine hold no dates
 entry_dates : (name : List ℕ) (role : Role) (moves purges : Bool) (fills size : ℕ)
-    → members_have_valid_dates (entry_tree (made name role moves purges fills size)) ≡ true
+    → members_have_valid_dates (entry_tree (routine_with name role moves purges fills size)) ≡ true
 entry_dates name role moves purges zero zero = refl
 entry_dates name role moves purges (suc fills) zero = refl
 entry_dates name role moves purges zero (suc size) = refl

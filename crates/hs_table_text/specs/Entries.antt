@@ -5,7 +5,7 @@
 --     entry_of name data               the routine that is written so, if it is written right
 use Rattle.std.specs.Prelude.{ℕ, zero, suc, ℤ, pos, negsuc, nat_le, Bool, true, false, ◌&&◌, ◌||◌, List, codes, Option, Some, None, if◌then◌else◌}
 use Rattle.std.specs.Str.{bytes_eq}
-use Rattle.toml.specs.Data.{Data, integer, boolean, Members, no_members, member, get, as_str, as_table}
+use Rattle.toml.specs.Data.{Data, Members, no_members, member, get_member, as_bool, as_integer, as_str, as_table}
 use Rattle.hs_table.specs.declared.role.Role.{Role}
 use Rattle.hs_table.specs.declared.routine.Routine.{Routine}
 use Rattle.hs_table.specs.Tables.{is_identifier, is_plain}
@@ -20,8 +20,7 @@ None >>= f = None
 -- the Boolean of a key; false if the key is absent
 abbrev pub flag_in : Option Data → Option Bool
 flag_in None = Some false
-flag_in (Some (boolean flag)) = Some flag
-flag_in (Some _) = None
+flag_in (Some written) = as_bool written
 
 -- the integer is at least 1, and at most the most
 abbrev pub number_in : ℕ → ℤ → Option ℕ
@@ -32,8 +31,8 @@ number_in most (negsuc _) = None
 -- the number of a key that only a plain routine has; 0 if the key is absent
 abbrev pub plain_number : Bool → ℕ → Option Data → Option ℕ
 plain_number plain most None = Some 0
-plain_number true most (Some (integer number)) = number_in most number
-plain_number _ most (Some _) = None
+plain_number true most (Some written) = as_integer written >>= number_in most
+plain_number false most (Some written) = None
 
 -- the two keys are the same
 abbrev pub is_key : List ℕ → List ℕ → Bool
@@ -58,15 +57,18 @@ role_in value = do
   name ← as_str data_of_role
   role_named name
 
+-- the routine with these six fields
+abbrev pub routine_with : List ℕ → Role → Bool → Bool → ℕ → ℕ → Routine
+routine_with name role moves purges fills size =
+    record { name = name; role = role; moves = moves; purges = purges; fills = fills; size = size }
+
 -- the routine of that name with these keys, if name and keys are right
 abbrev pub entry_of : List ℕ → Data → Option Routine
 entry_of name written = do
   keys ← as_table written
-  role ← role_in (get (codes "role") written)
-  moves ← flag_in (get (codes "moves") written)
-  purges ← flag_in (get (codes "purges") written)
-  fills ← plain_number (is_plain role) 4294967295 (get (codes "fills") written)
-  size ← plain_number (is_plain role) 65536 (get (codes "size") written)
-  if is_identifier name && are_known_keys role keys
-      then Some (record { name = name; role = role; moves = moves; purges = purges; fills = fills; size = size })
-      else None
+  role ← role_in (get_member (codes "role") keys)
+  moves ← flag_in (get_member (codes "moves") keys)
+  purges ← flag_in (get_member (codes "purges") keys)
+  fills ← plain_number (is_plain role) 4294967295 (get_member (codes "fills") keys)
+  size ← plain_number (is_plain role) 65536 (get_member (codes "size") keys)
+  if is_identifier name && are_known_keys role keys then Some (routine_with name role moves purges fills size) else None

@@ -1,4 +1,6 @@
+pub mod Answers
 pub mod BackLaws
+pub mod Building
 pub mod Entries
 pub mod ReadingLaws
 pub mod RoleLaws

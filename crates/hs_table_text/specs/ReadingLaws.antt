@@ -6,12 +6,12 @@ use Rattle.std.specs.Prelude.{IsTrue, nat_le, if◌then◌else◌}
 use Rattle.std.specs.List.{list_all}
 use Rattle.std.proofs.lemmas.Bool.{and_parts, and_from, leb-true, le-leb}
 use Rattle.std.proofs.lemmas.Bool.Decides.{nat_tests}
-use Rattle.toml.specs.Data.{Data, string, integer, float, boolean, datetime, array, table, Members, no_members, member, is_before as is_before_members, get_member}
+use Rattle.toml.specs.Data.{Data, Members, no_members, member, is_before as is_before_members, get_member, as_integer, as_table}
 use Rattle.hs_table.specs.declared.role.Role.{Role}
 use Rattle.hs_table.specs.declared.routine.Routine.{Routine}
 use Rattle.hs_table.specs.Tables.{IsTable, is_before, is_identifier, is_plain, is_right, names_ascend}
 use Rattle.hs_table_text.specs.declared.error.TableError.{TableError}
-use Rattle.hs_table_text.specs.Entries.{◌>>=◌, are_known_keys, entry_of, flag_in, number_in, plain_number, role_in}
+use Rattle.hs_table_text.specs.Entries.{◌>>=◌, are_known_keys, entry_of, flag_in, number_in, plain_number, role_in, routine_with}
 use Rattle.hs_table_text.specs.Texts.{in_front, routines_in, routines_of}
 
 -- each key is before the next one, in the order of their bytes
@@ -35,36 +35,24 @@ number_within most (pos (suc below)) number is = of_test (nat_le (suc below) mos
     of_test false told is = absurd (cc)
 number_within most (negsuc below) number is = absurd (cc)
 
+-- the same if there is an integer
+written_fits : (most : ℕ) (written : Option ℤ) (number : ℕ) → (written >>= number_in most) ≡ Some number → FitsNumber true most number
+written_fits most None number is = absurd (cc)
+written_fits most (Some written) number is =
+    record { within = number_within most written number is; plain_only = λ no. absurd (cc) }
+
 -- a number that is read fits
 number_fits : (plain : Bool) (most : ℕ) (value : Option Data) (number : ℕ) → plain_number plain most value ≡ Some number
     → FitsNumber plain most number
 number_fits plain most None number is =
     let same : 0 ≡ number = cc in rw (← same) (record { within = le-leb 0 most (omega arith); plain_only = λ _. refl })
-number_fits true most (Some (integer written)) number is =
-    record { within = number_within most written number is; plain_only = λ no. absurd (cc) }
-number_fits true most (Some (string _)) number is = absurd (cc)
-number_fits true most (Some (float _)) number is = absurd (cc)
-number_fits true most (Some (boolean _)) number is = absurd (cc)
-number_fits true most (Some (datetime _)) number is = absurd (cc)
-number_fits true most (Some (array _)) number is = absurd (cc)
-number_fits true most (Some (table _)) number is = absurd (cc)
-number_fits false most (Some (integer _)) number is = absurd (cc)
-number_fits false most (Some (string _)) number is = absurd (cc)
-number_fits false most (Some (float _)) number is = absurd (cc)
-number_fits false most (Some (boolean _)) number is = absurd (cc)
-number_fits false most (Some (datetime _)) number is = absurd (cc)
-number_fits false most (Some (array _)) number is = absurd (cc)
-number_fits false most (Some (table _)) number is = absurd (cc)
+number_fits true most (Some written) number is = written_fits most (as_integer written) number is
+number_fits false most (Some written) number is = absurd (cc)
 
 -- what is known of a routine that is read
 pub record IsEntry (name : List ℕ) (routine : Routine) : Type 0 where
   pub named : routine.name ≡ name
   pub right : is_right routine ≡ true
-
--- a routine with these fields
-abbrev made : List ℕ → Role → Bool → Bool → ℕ → ℕ → Routine
-made name role moves purges fills size =
-    record { name = name; role = role; moves = moves; purges = purges; fills = fills; size = size }
 
 -- numbers that fit are those of a routine that is right
 plain_or_0 : (plain : Bool) (fills size : ℕ) → (plain ≡ false → fills ≡ 0) → (plain ≡ false → size ≡ 0)
@@ -75,19 +63,19 @@ plain_or_0 false fills size no_fills no_size = rw (no_fills refl, no_size refl) 
 -- the last step: the name and the keys are right
 last_step : (name : List ℕ) (role : Role) (moves purges : Bool) (fills size : ℕ) (known : Bool) (routine : Routine)
     → FitsNumber (is_plain role) 4294967295 fills → FitsNumber (is_plain role) 65536 size
-    → (if is_identifier name && known then Some (made name role moves purges fills size) else None) ≡ Some routine → IsEntry name routine
+    → (if is_identifier name && known then Some (routine_with name role moves purges fills size) else None) ≡ Some routine → IsEntry name routine
 last_step name role moves purges fills size known routine of_fills of_size is =
     of_test (is_identifier name && known) (λ yes. (and_parts (is_identifier name) known yes).0) is
   where
     of_test : (test : Bool) → (test ≡ true → is_identifier name ≡ true)
-        → (if test then Some (made name role moves purges fills size) else None) ≡ Some routine → IsEntry name routine
+        → (if test then Some (routine_with name role moves purges fills size) else None) ≡ Some routine → IsEntry name routine
     of_test true identifier is =
-        let same : made name role moves purges fills size ≡ routine = cc in
+        let same : routine_with name role moves purges fills size ≡ routine = cc in
         rw (← same)
         (record {
           named = refl;
           right = and_from _ _ (and_from _ _ (identifier refl) of_size.within)
-          (plain_or_0 (is_plain role) fills size of_fills.plain_only of_size.plain_only);
+              (plain_or_0 (is_plain role) fills size of_fills.plain_only of_size.plain_only);
         })
     of_test false identifier is = absurd (cc)
 
@@ -95,7 +83,7 @@ last_step name role moves purges fills size known routine of_fills of_size is =
 number_steps : (name : List ℕ) (role : Role) (moves purges known : Bool) (fills size : Option ℕ) (routine : Routine)
     → ((number : ℕ) → fills ≡ Some number → FitsNumber (is_plain role) 4294967295 number)
     → ((number : ℕ) → size ≡ Some number → FitsNumber (is_plain role) 65536 number)
-    → (fills >>= (λ filled. size >>= (λ sized. if is_identifier name && known then Some (made name role moves purges filled sized) else None)))
+    → (fills >>= (λ filled. size >>= (λ sized. if is_identifier name && known then Some (routine_with name role moves purges filled sized) else None)))
     ≡ Some routine → IsEntry name routine
 number_steps name role moves purges known None size routine of_fills of_size is = absurd (cc)
 number_steps name role moves purges known (Some filled) None routine of_fills of_size is = absurd (cc)
@@ -105,8 +93,8 @@ number_steps name role moves purges known (Some filled) (Some sized) routine of_
 -- the steps over the flags
 flag_steps : (name : List ℕ) (role : Role) (moves purges : Option Bool) (known : Bool) (fills size : Option Data) (routine : Routine)
     → (moves >>= (λ moving. purges >>= (λ purging. plain_number (is_plain role) 4294967295 fills >>= (λ filled.
-        plain_number (is_plain role) 65536 size >>= (λ sized.
-            if is_identifier name && known then Some (made name role moving purging filled sized) else None)))))
+    plain_number (is_plain role) 65536 size >>= (λ sized.
+    if is_identifier name && known then Some (routine_with name role moving purging filled sized) else None)))))
     ≡ Some routine → IsEntry name routine
 flag_steps name role None purges known fills size routine is = absurd (cc)
 flag_steps name role (Some moving) None known fills size routine is = absurd (cc)
@@ -114,29 +102,33 @@ flag_steps name role (Some moving) (Some purging) known fills size routine is =
     number_steps name role moving purging known (plain_number (is_plain role) 4294967295 fills) (plain_number (is_plain role) 65536 size)
     routine (number_fits (is_plain role) 4294967295 fills) (number_fits (is_plain role) 65536 size) is
 
--- the steps over the role
-role_steps : (name : List ℕ) (role : Option Role) (moves purges : Option Bool) (known : Role → Bool) (fills size : Option Data)
-    (routine : Routine)
-    → (role >>= (λ one. moves >>= (λ moving. purges >>= (λ purging. plain_number (is_plain one) 4294967295 fills >>= (λ filled.
-        plain_number (is_plain one) 65536 size >>= (λ sized.
-            if is_identifier name && known one then Some (made name one moving purging filled sized) else None))))))
+-- the steps over the keys and the role
+key_steps : (name : List ℕ) (role : Option Role) (keys : Members) (routine : Routine)
+    → (role >>= (λ one. flag_in (get_member (codes "moves") keys) >>= (λ moving.
+    flag_in (get_member (codes "purges") keys) >>= (λ purging.
+    plain_number (is_plain one) 4294967295 (get_member (codes "fills") keys) >>= (λ filled.
+    plain_number (is_plain one) 65536 (get_member (codes "size") keys) >>= (λ sized.
+    if is_identifier name && are_known_keys one keys then Some (routine_with name one moving purging filled sized) else None))))))
     ≡ Some routine → IsEntry name routine
-role_steps name None moves purges known fills size routine is = absurd (cc)
-role_steps name (Some role) moves purges known fills size routine is =
-    flag_steps name role moves purges (known role) fills size routine is
+key_steps name None keys routine is = absurd (cc)
+key_steps name (Some role) keys routine is =
+    flag_steps name role (flag_in (get_member (codes "moves") keys)) (flag_in (get_member (codes "purges") keys))
+    (are_known_keys role keys) (get_member (codes "fills") keys) (get_member (codes "size") keys) routine is
+
+-- the steps over the table of the keys
+table_steps : (name : List ℕ) (written : Option Members) (routine : Routine)
+    → (written >>= (λ keys. role_in (get_member (codes "role") keys) >>= (λ one. flag_in (get_member (codes "moves") keys) >>= (λ moving.
+    flag_in (get_member (codes "purges") keys) >>= (λ purging.
+    plain_number (is_plain one) 4294967295 (get_member (codes "fills") keys) >>= (λ filled.
+    plain_number (is_plain one) 65536 (get_member (codes "size") keys) >>= (λ sized.
+    if is_identifier name && are_known_keys one keys then Some (routine_with name one moving purging filled sized) else None)))))))
+    ≡ Some routine → IsEntry name routine
+table_steps name None routine is = absurd (cc)
+table_steps name (Some keys) routine is = key_steps name (role_in (get_member (codes "role") keys)) keys routine is
 
 -- a routine that is read has its name and is right
 entry_right : (name : List ℕ) (written : Data) (routine : Routine) → entry_of name written ≡ Some routine → IsEntry name routine
-entry_right name (table keys) routine is =
-    role_steps name (role_in (get_member (codes "role") keys)) (flag_in (get_member (codes "moves") keys))
-    (flag_in (get_member (codes "purges") keys)) (λ role. are_known_keys role keys) (get_member (codes "fills") keys)
-    (get_member (codes "size") keys) routine is
-entry_right name (string _) routine is = absurd (cc)
-entry_right name (integer _) routine is = absurd (cc)
-entry_right name (float _) routine is = absurd (cc)
-entry_right name (boolean _) routine is = absurd (cc)
-entry_right name (datetime _) routine is = absurd (cc)
-entry_right name (array _) routine is = absurd (cc)
+entry_right name written routine is = table_steps name (as_table written) routine is
 
 -- the routines after a first one
 pub record IsInFront (name : List ℕ) (one : Option Routine) (others : Result (List Routine) TableError) (routines : List Routine) : Type 0 where
@@ -185,9 +177,10 @@ reads_right (member name written members) routines ascend is =
     let order = and_parts (is_before_members name members) (keys_ascend members) ascend in
     let others = reads_right members parts.rest order.1 parts.is_rest in
     let first = entry_right name written parts.first parts.is_first in
-    rw parts.both
-    (ascend_onto parts.first parts.rest (rw first.named (before_first name members parts.rest order.0 parts.is_rest)) others.0,
-     and_from _ _ first.right others.1)
+    rw parts.both (
+      ascend_onto parts.first parts.rest (rw first.named (before_first name members parts.rest order.0 parts.is_rest)) others.0,
+      and_from _ _ first.right others.1,
+    )
 
 -- the routines that are read from members whose keys ascend are a table
 pub reads_table : (members : Members) (routines : List Routine) → keys_ascend members ≡ true → routines_in members ≡ Ok routines

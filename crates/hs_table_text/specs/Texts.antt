@@ -4,10 +4,10 @@
 --     other_in root            the first other key of the root
 --     table_of root            the table of a document
 --     reading bytes            the table that the bytes are the text of, or why they are no text of a table
-use Rattle.std.specs.Prelude.{ℕ, pos, Bool, false, ◌||◌, List, [], ◌∷◌, codes, Option, Some, None, Result, Ok, Err, if◌then◌else◌}
+use Rattle.std.specs.Prelude.{ℕ, ℤ, pos, Bool, false, ◌||◌, List, [], ◌∷◌, codes, Option, Some, None, Result, Ok, Err, if◌then◌else◌}
 use Rattle.std.specs.Ordering.{int_eq}
 use Rattle.std.specs.Str.{is_utf8}
-use Rattle.toml.specs.Data.{Data, integer, table, Members, no_members, member, get_member}
+use Rattle.toml.specs.Data.{Data, Members, no_members, member, get_member, as_integer, as_table}
 use Rattle.toml.specs.Parse.{parse_document}
 use Rattle.hs_table.specs.declared.routine.Routine.{Routine}
 use Rattle.hs_table_text.specs.Entries.{entry_of, is_key}
@@ -25,21 +25,34 @@ abbrev pub routines_in : Members → Result (List Routine) TableError
 routines_in no_members = Ok []
 routines_in (member name written members) = in_front name (entry_of name written) (routines_in members)
 
+-- the routines of the value of `routine`, if it is a table
+abbrev pub routines_under : Option Members → Result (List Routine) TableError
+routines_under None = Err (BadEntry (codes "routine"))
+routines_under (Some members) = routines_in members
+
 -- the routines of the document: none if it has no key `routine`
 abbrev pub routines_of : Option Data → Result (List Routine) TableError
 routines_of None = Ok []
-routines_of (Some (table members)) = routines_in members
-routines_of (Some _) = Err (BadEntry (codes "routine"))
+routines_of (Some written) = routines_under (as_table written)
+
+-- the document may have the key
+abbrev pub is_root_key : List ℕ → Bool
+is_root_key key = is_key (codes "version") key || is_key (codes "routine") key
 
 -- the first key that is neither `version` nor `routine`
 abbrev pub other_in : Members → Option (List ℕ)
 other_in no_members = None
-other_in (member key _ members) = if is_key (codes "routine") key || is_key (codes "version") key then other_in members else Some key
+other_in (member key _ members) = if is_root_key key then other_in members else Some key
+
+-- the number is the version of this format
+abbrev pub is_one : Option ℤ → Bool
+is_one None = false
+is_one (Some number) = int_eq number (pos 1)
 
 -- the version is the integer 1
 abbrev pub is_version : Option Data → Bool
-is_version (Some (integer number)) = int_eq number (pos 1)
-is_version _ = false
+is_version None = false
+is_version (Some written) = is_one (as_integer written)
 
 -- the routines, if no other key is there
 abbrev pub alone : Option (List ℕ) → Result (List Routine) TableError → Result (List Routine) TableError
@@ -59,6 +72,10 @@ abbrev pub table_in : Option Members → Result (List Routine) TableError
 table_in None = Err NotToml
 table_in (Some root) = table_of root
 
+-- the document that the bytes are, if they are one
+abbrev pub document_in : List ℕ → Option Members
+document_in bytes = if is_utf8 bytes then parse_document bytes else None
+
 -- the table that the bytes are the text of, or why they are none
 abbrev pub reading : List ℕ → Result (List Routine) TableError
-reading bytes = table_in (if is_utf8 bytes then parse_document bytes else None)
+reading bytes = table_in (document_in bytes)

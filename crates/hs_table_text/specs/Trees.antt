@@ -16,9 +16,9 @@ abbrev pub entry_tree : Routine → Members
 entry_tree routine =
     number_member (codes "fills") routine.fills
     (member (codes "moves") (boolean routine.moves)
-     (member (codes "purges") (boolean routine.purges)
-      (member (codes "role") (string (role_name routine.role))
-       (number_member (codes "size") routine.size no_members))))
+    (member (codes "purges") (boolean routine.purges)
+    (member (codes "role") (string (role_name routine.role))
+    (number_member (codes "size") routine.size no_members))))
 
 -- each routine under its name
 abbrev pub routine_trees : List Routine → Members
