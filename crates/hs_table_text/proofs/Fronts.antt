@@ -1,9 +1,8 @@
 -- Routines that were read, and what comes after them.
-use Rattle.std.proofs.Common.{◌≡◌, ℕ, List, [], ◌∷◌, ◌++◌, Option, Some, None, Result, Ok, Err, refl, ap, append-nil, ◌∙◌}
+use Rattle.std.proofs.Common.{◌≡◌, ℕ, List, [], ◌∷◌, ◌++◌, Some, Result, Ok, Err, refl, ap, append-nil, ◌∙◌}
 use Rattle.toml.specs.Data.{Data, Members, member}
 use Rattle.hs_table.specs.declared.routine.Routine.{Routine}
 use Rattle.hs_table_text.specs.declared.error.TableError.{TableError}
-use Rattle.hs_table_text.specs.declared.error.TableError.TheVariants.{BadEntry}
 use Rattle.hs_table_text.specs.Entries.{entry_of}
 use Rattle.hs_table_text.specs.Texts.{in_front, routines_in}
 

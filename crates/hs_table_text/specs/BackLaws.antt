@@ -2,13 +2,13 @@
 --     tree_back routines ..      the table of the tree of a table is this table
 --     tree_depth routines        the tree of a table nests at most two deep
 --     tree_dates routines        it has no date that a TOML text cannot write
-use Rattle.std.proofs.Common.{◌≡◌, ℕ, zero, suc, ◌≤◌, ◌==◌, max, Bool, true, false, ◌&&◌, ◌||◌, List, [], ◌∷◌, Some, Ok, refl, arith}
-use Rattle.std.specs.Prelude.{IsTrue, nat_le}
+use Rattle.std.proofs.Common.{◌≡◌, ℕ, zero, suc, ◌≤◌, ◌==◌, Bool, true, false, ◌&&◌, ◌||◌, List, [], ◌∷◌, Some, Ok, refl, arith}
+use Rattle.std.specs.Prelude.{nat_le}
 use Rattle.std.specs.List.{All, list_all}
 use Rattle.std.proofs.lemmas.Bool.{and_parts, le-leb, leb-true}
 use Rattle.std.proofs.lemmas.Bool.Decides.{nat_tests}
 use Rattle.std.proofs.lemmas.List.Elements.{All-head, All-tail}
-use Rattle.toml.specs.Data.{Members, table, members_depth, members_have_valid_dates}
+use Rattle.toml.specs.Data.{table, members_depth, members_have_valid_dates}
 use Rattle.hs_table.specs.declared.role.Role.{Role}
 use Rattle.hs_table.specs.declared.routine.Routine.{Routine}
 use Rattle.hs_table.specs.Tables.{IsTable, is_identifier, is_plain, is_right, names_ascend}

@@ -1,18 +1,17 @@
 -- What is read is a table: TOML orders the members of a table by their keys, and each entry that is read is right.
 --     keys_ascend members         each key is before the next one
 --     reads_table members ..      the routines that are read from such members are a table
-use Rattle.std.proofs.Common.{◌≡◌, ℕ, zero, suc, pos, negsuc, ◌==◌, ℤ, Bool, true, false, ◌&&◌, ◌||◌, cond, List, [], ◌∷◌, codes, Option, Some, None, Result, Ok, Err, refl, sym, ◌∙◌, ap, arith}
-use Rattle.std.specs.Prelude.{IsTrue, nat_le, if◌then◌else◌}
+use Rattle.std.proofs.Common.{◌≡◌, ℕ, zero, suc, pos, negsuc, ◌==◌, ℤ, Bool, true, false, ◌&&◌, ◌||◌, List, [], ◌∷◌, codes, Option, Some, None, Result, Ok, Err, refl, sym, arith}
+use Rattle.std.specs.Prelude.{nat_le, if◌then◌else◌}
 use Rattle.std.specs.List.{list_all}
-use Rattle.std.proofs.lemmas.Bool.{and_parts, and_from, leb-true, le-leb}
-use Rattle.std.proofs.lemmas.Bool.Decides.{nat_tests}
+use Rattle.std.proofs.lemmas.Bool.{and_parts, and_from, le-leb}
 use Rattle.toml.specs.Data.{Data, Members, no_members, member, is_before as is_before_members, get_member, as_integer, as_table}
 use Rattle.hs_table.specs.declared.role.Role.{Role}
 use Rattle.hs_table.specs.declared.routine.Routine.{Routine}
 use Rattle.hs_table.specs.Tables.{IsTable, is_before, is_identifier, is_plain, is_right, names_ascend}
 use Rattle.hs_table_text.specs.declared.error.TableError.{TableError}
 use Rattle.hs_table_text.specs.Entries.{◌>>=◌, are_known_keys, entry_of, flag_in, number_in, plain_number, role_in, routine_with}
-use Rattle.hs_table_text.specs.Texts.{in_front, routines_in, routines_of}
+use Rattle.hs_table_text.specs.Texts.{in_front, routines_in}
 
 -- each key is before the next one, in the order of their bytes
 abbrev pub keys_ascend : Members → Bool
@@ -50,7 +49,7 @@ number_fits true most (Some written) number is = written_fits most (as_integer w
 number_fits false most (Some written) number is = absurd (cc)
 
 -- what is known of a routine that is read
-pub record IsEntry (name : List ℕ) (routine : Routine) : Type 0 where
+pub record IsRightEntry (name : List ℕ) (routine : Routine) : Type 0 where
   pub named : routine.name ≡ name
   pub right : is_right routine ≡ true
 
@@ -63,12 +62,12 @@ plain_or_0 false fills size no_fills no_size = rw (no_fills refl, no_size refl) 
 -- the last step: the name and the keys are right
 last_step : (name : List ℕ) (role : Role) (moves purges : Bool) (fills size : ℕ) (known : Bool) (routine : Routine)
     → FitsNumber (is_plain role) 4294967295 fills → FitsNumber (is_plain role) 65536 size
-    → (if is_identifier name && known then Some (routine_with name role moves purges fills size) else None) ≡ Some routine → IsEntry name routine
+    → (if is_identifier name && known then Some (routine_with name role moves purges fills size) else None) ≡ Some routine → IsRightEntry name routine
 last_step name role moves purges fills size known routine of_fills of_size is =
     of_test (is_identifier name && known) (λ yes. (and_parts (is_identifier name) known yes).0) is
   where
     of_test : (test : Bool) → (test ≡ true → is_identifier name ≡ true)
-        → (if test then Some (routine_with name role moves purges fills size) else None) ≡ Some routine → IsEntry name routine
+        → (if test then Some (routine_with name role moves purges fills size) else None) ≡ Some routine → IsRightEntry name routine
     of_test true identifier is =
         let same : routine_with name role moves purges fills size ≡ routine = cc in
         rw (← same)
@@ -84,7 +83,7 @@ number_steps : (name : List ℕ) (role : Role) (moves purges known : Bool) (fill
     → ((number : ℕ) → fills ≡ Some number → FitsNumber (is_plain role) 4294967295 number)
     → ((number : ℕ) → size ≡ Some number → FitsNumber (is_plain role) 65536 number)
     → (fills >>= (λ filled. size >>= (λ sized. if is_identifier name && known then Some (routine_with name role moves purges filled sized) else None)))
-    ≡ Some routine → IsEntry name routine
+    ≡ Some routine → IsRightEntry name routine
 number_steps name role moves purges known None size routine of_fills of_size is = absurd (cc)
 number_steps name role moves purges known (Some filled) None routine of_fills of_size is = absurd (cc)
 number_steps name role moves purges known (Some filled) (Some sized) routine of_fills of_size is =
@@ -95,7 +94,7 @@ flag_steps : (name : List ℕ) (role : Role) (moves purges : Option Bool) (known
     → (moves >>= (λ moving. purges >>= (λ purging. plain_number (is_plain role) 4294967295 fills >>= (λ filled.
     plain_number (is_plain role) 65536 size >>= (λ sized.
     if is_identifier name && known then Some (routine_with name role moving purging filled sized) else None)))))
-    ≡ Some routine → IsEntry name routine
+    ≡ Some routine → IsRightEntry name routine
 flag_steps name role None purges known fills size routine is = absurd (cc)
 flag_steps name role (Some moving) None known fills size routine is = absurd (cc)
 flag_steps name role (Some moving) (Some purging) known fills size routine is =
@@ -109,7 +108,7 @@ key_steps : (name : List ℕ) (role : Option Role) (keys : Members) (routine : R
     plain_number (is_plain one) 4294967295 (get_member (codes "fills") keys) >>= (λ filled.
     plain_number (is_plain one) 65536 (get_member (codes "size") keys) >>= (λ sized.
     if is_identifier name && are_known_keys one keys then Some (routine_with name one moving purging filled sized) else None))))))
-    ≡ Some routine → IsEntry name routine
+    ≡ Some routine → IsRightEntry name routine
 key_steps name None keys routine is = absurd (cc)
 key_steps name (Some role) keys routine is =
     flag_steps name role (flag_in (get_member (codes "moves") keys)) (flag_in (get_member (codes "purges") keys))
@@ -122,12 +121,12 @@ table_steps : (name : List ℕ) (written : Option Members) (routine : Routine)
     plain_number (is_plain one) 4294967295 (get_member (codes "fills") keys) >>= (λ filled.
     plain_number (is_plain one) 65536 (get_member (codes "size") keys) >>= (λ sized.
     if is_identifier name && are_known_keys one keys then Some (routine_with name one moving purging filled sized) else None)))))))
-    ≡ Some routine → IsEntry name routine
+    ≡ Some routine → IsRightEntry name routine
 table_steps name None routine is = absurd (cc)
 table_steps name (Some keys) routine is = key_steps name (role_in (get_member (codes "role") keys)) keys routine is
 
 -- a routine that is read has its name and is right
-entry_right : (name : List ℕ) (written : Data) (routine : Routine) → entry_of name written ≡ Some routine → IsEntry name routine
+entry_right : (name : List ℕ) (written : Data) (routine : Routine) → entry_of name written ≡ Some routine → IsRightEntry name routine
 entry_right name written routine is = table_steps name (as_table written) routine is
 
 -- the routines after a first one

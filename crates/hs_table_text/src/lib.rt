@@ -3,8 +3,10 @@
 
 mod entry;
 mod error;
+mod printer;
 mod reader;
 mod roles;
 
 pub use error::TableError;
+pub use printer::print;
 pub use reader::read;

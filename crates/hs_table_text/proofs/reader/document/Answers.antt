@@ -1,4 +1,4 @@
-use Rattle.std.proofs.Common.{◌≡◌, rules}
+use Rattle.std.proofs.Common.{rules}
 use Rattle.std.proofs.lemmas.Str.{is_utf8-from_IsUtf8}
 use Rattle.hs_table_text.proofs.Documents.{no_document}
 use Rattle.hs_table_text.proofs.reader.document.Goals as goal

@@ -4,7 +4,6 @@ use Rattle.toml.specs.View.{view, members_view, table_view}
 use Rattle.toml.proofs.Views.{Entry}
 use Rattle.hs_table_text.proofs.Documents.{keys_ascend-sorted}
 use Rattle.hs_table_text.proofs.Fronts.{after, read_all, read_more}
-use Rattle.hs_table_text.specs.Entries.{entry_of}
 use Rattle.hs_table_text.specs.ReadingLaws.{reads_table}
 use Rattle.hs_table_text.specs.Texts.{routines_in}
 use Rattle.hs_table_text.proofs.reader.routines.Goals as goal
