@@ -4,7 +4,7 @@
 --     tree_dates routines        it has no date that a TOML text cannot write
 use Rattle.std.proofs.Common.{◌≡◌, ℕ, zero, suc, ◌≤◌, ◌==◌, Bool, true, false, ◌&&◌, ◌||◌, List, [], ◌∷◌, Some, Ok, refl, arith}
 use Rattle.std.specs.Prelude.{nat_le}
-use Rattle.std.specs.List.{All, list_all}
+use Rattle.std.specs.List.{list_all}
 use Rattle.std.proofs.lemmas.Bool.{and_parts, le-leb, leb-true}
 use Rattle.std.proofs.lemmas.Bool.Decides.{nat_tests}
 use Rattle.std.proofs.lemmas.List.Elements.{All-head, All-tail}
@@ -15,7 +15,7 @@ use Rattle.hs_table.specs.Tables.{IsTable, is_identifier, is_plain, is_right, na
 use Rattle.hs_table_text.specs.Entries.{entry_of, routine_with}
 use Rattle.hs_table_text.specs.RoleLaws.{role_back}
 use Rattle.hs_table_text.specs.Texts.{routines_in, table_of}
-use Rattle.hs_table_text.specs.Trees.{entry_tree, routine_trees, root_tree}
+use Rattle.hs_table_text.specs.Trees.{entry_tree, routine_trees, root_tree, AreSmall}
 
 -- what a number that is not 0 says of the role
 plain_of : (plain : Bool) (fills size : ℕ) → (plain || ((fills == 0) && (size == 0))) ≡ true → (fills == 0) ≡ false → plain ≡ true
@@ -60,7 +60,7 @@ entry_back routine right small =
     (leb-true routine.size 65536 front.1)
 
 -- the same for each routine of a list
-routines_back : (routines : List Routine) → list_all is_right routines ≡ true → All (λ routine. routine.fills ≤ 4294967295) routines
+routines_back : (routines : List Routine) → list_all is_right routines ≡ true → AreSmall routines
     → routines_in (routine_trees routines) ≡ Ok routines
 routines_back [] right small = refl
 routines_back (routine ∷ routines) right small =
@@ -70,7 +70,7 @@ routines_back (routine ∷ routines) right small =
     rw (first, others) refl
 
 -- the table of the tree of a table is this table
-pub tree_back : (routines : List Routine) → IsTable routines → All (λ routine. routine.fills ≤ 4294967295) routines
+pub tree_back : (routines : List Routine) → IsTable routines → AreSmall routines
     → table_of (root_tree routines) ≡ Ok routines
 tree_back routines is small =
     let parts = and_parts (names_ascend routines) (list_all is_right routines) is in

@@ -1,6 +1,7 @@
 -- How the printer builds the tree of a table, one member after another: the last routine first.
 --     insert_member key written members    the members with one more, at its place in the order of keys
 --     insert_number key number members     the same for a number that is not 0
+--     insert_routine routine members       the same for a routine
 --     trees_onto routines members          the members with the trees of these routines in front
 use Rattle.std.specs.Prelude.{ℕ, zero, suc, pos, List, [], ◌∷◌}
 use Rattle.std.specs.Ordering.{nat_cmp, match_ordering}
@@ -22,6 +23,10 @@ insert_member key written (member other data_of_other members) =
 abbrev pub insert_number : List ℕ → ℕ → Members → Members
 insert_number key zero members = members
 insert_number key (suc below) members = insert_member key (integer (pos (suc below))) members
+
+-- the same for a routine, under its name
+abbrev pub insert_routine : Routine → Members → Members
+insert_routine routine members = insert_member routine.name (table (entry_tree routine)) members
 
 -- the trees of these routines in front of the members
 abbrev pub trees_onto : List Routine → Members → Members

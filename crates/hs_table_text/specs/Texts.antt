@@ -76,6 +76,6 @@ table_in (Some root) = table_of root
 abbrev pub document_in : List ℕ → Option Members
 document_in bytes = if is_utf8 bytes then parse_document bytes else None
 
--- the table that the bytes are the text of, or why they are none
+-- the table that the bytes are the text of, or why there is no such table
 abbrev pub reading : List ℕ → Result (List Routine) TableError
 reading bytes = table_in (document_in bytes)

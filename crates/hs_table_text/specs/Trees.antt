@@ -1,7 +1,9 @@
 -- How a table of routines is written: the TOML tree of its text. Own to this project.
 --     entry_tree routine       the keys of a routine, in the order of their bytes
 --     root_tree routines       the document
-use Rattle.std.specs.Prelude.{ℕ, zero, suc, pos, List, [], ◌∷◌, codes}
+--     AreSmall routines        the numbers of the parameters that they fill are below 2^32
+use Rattle.std.specs.Prelude.{◌≤◌, ℕ, zero, suc, pos, List, [], ◌∷◌, codes}
+use Rattle.std.specs.List.{All}
 use Rattle.toml.specs.Data.{string, integer, boolean, table, Members, no_members, member}
 use Rattle.hs_table.specs.declared.routine.Routine.{Routine}
 use Rattle.hs_table_text.specs.Roles.{role_name}
@@ -28,3 +30,7 @@ routine_trees (routine ∷ routines) = member routine.name (table (entry_tree ro
 -- the document: its routines, and its version
 abbrev pub root_tree : List Routine → Members
 root_tree routines = member (codes "routine") (table (routine_trees routines)) (member (codes "version") (integer (pos 1)) no_members)
+
+-- The numbers of the parameters that the routines fill are below 2^32, as those of a `Routine` are.
+abbrev pub AreSmall : List Routine → Type 0
+AreSmall routines = All (λ routine. routine.fills ≤ 4294967295) routines

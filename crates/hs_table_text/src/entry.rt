@@ -6,7 +6,7 @@ ghost use Rattle.hs_base.specs.Text.{is_word_byte};
 ghost use Rattle.toml.specs.Data.{get_member};
 ghost use Rattle.toml.specs.View.{view, table_view};
 ghost use Rattle.hs_table.specs.Tables.{begins_with_letter, is_identifier, is_plain};
-ghost use Rattle.hs_table_text.specs.Answers.{IsEntry};
+ghost use Rattle.hs_table_text.specs.Answers.{IsEntry, routine_of, written_at};
 ghost use Rattle.hs_table_text.specs.Entries.{flag_in, number_in, plain_number, role_in, is_known_key, are_known_keys, entry_of, routine_with};
 
 use crate::error::TableError;
@@ -25,7 +25,7 @@ pub(crate) fn member<'a>(table: &'a Table, key: &str) -> Option<&'a Value>
 
 /// The Boolean of a key: false if the key is absent.
 fn flag(value: Option<&Value>) -> Option<bool>
-    ensures { result ≡ flag_in (option_map (λ written. view written.now) value.entry) }
+    ensures { result ≡ flag_in (written_at value.entry) }
 {
     match value {
         None => Some(false),
@@ -35,7 +35,7 @@ fn flag(value: Option<&Value>) -> Option<bool>
 
 /// The number of a key that only a plain routine has: 0 if the key is absent.
 fn plain_number(plain: bool, most: u32, value: Option<&Value>) -> Option<u32>
-    ensures { result ≡ plain_number plain most (option_map (λ written. view written.now) value.entry) }
+    ensures { result ≡ plain_number plain most (written_at value.entry) }
 {
     let Some(written) = value else {
         return Some(0);
@@ -59,7 +59,7 @@ fn number(most: u32, written: i64) -> Option<u32>
 
 /// The role that the value names.
 fn role(value: Option<&Value>) -> Option<Role>
-    ensures { result ≡ role_in (option_map (λ written. view written.now) value.entry) }
+    ensures { result ≡ role_in (written_at value.entry) }
 {
     role_named(value?.as_str()?)
 }
@@ -127,7 +127,7 @@ struct EntryKeys {
 
 /// What the keys of the routine of that name say, if name and keys are right.
 fn entry_keys(name: &str, written: &Value) -> Option<EntryKeys>
-    ensures { option_map (λ it. routine_with name.now it.role it.moves it.purges it.fills it.size) result ≡ entry_of name.now (view written.now) }
+    ensures { option_map (routine_of name.now) result ≡ entry_of name.now (view written.now) }
 {
     let keys = written.as_table()?;
     let role = role(member(keys, "role"))?;

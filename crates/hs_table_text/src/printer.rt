@@ -6,9 +6,9 @@ ghost use Rattle.toml.specs.Data.{table};
 ghost use Rattle.toml.specs.Text.{IsDocumentText};
 ghost use Rattle.toml.specs.View.{view, table_view};
 ghost use Rattle.hs_table.specs.Tables.{IsTable, is_right};
-ghost use Rattle.hs_table_text.specs.Building.{insert_member, insert_number};
+ghost use Rattle.hs_table_text.specs.Building.{insert_member, insert_number, insert_routine};
 ghost use Rattle.hs_table_text.specs.Texts.{reading};
-ghost use Rattle.hs_table_text.specs.Trees.{entry_tree, root_tree, routine_trees};
+ghost use Rattle.hs_table_text.specs.Trees.{AreSmall, entry_tree, root_tree, routine_trees};
 
 use crate::roles::role_name;
 use hs_base::NoMemory;
@@ -72,7 +72,7 @@ fn name_of(routine: &Routine) -> &str
 /// Puts the routine under its name.
 fn put_routine(alloc: Global, entries: &mut toml::Table, routine: &Routine) -> Result<(), NoMemory>
     requires { IsTrue (is_right routine.now) }
-    ensures tree { OnOk result (table_view entries.new ≡ insert_member routine.now.name (table (entry_tree routine.now)) (table_view entries.old)) }
+    ensures tree { OnOk result (table_view entries.new ≡ insert_routine routine.now (table_view entries.old)) }
     ensures small { OnOk result (routine.now.fills ≤ 4294967295) }
 {
     let keys = entry_table(alloc, routine)?;
@@ -83,7 +83,7 @@ fn put_routine(alloc: Global, entries: &mut toml::Table, routine: &Routine) -> R
 fn routine_tables(alloc: Global, routines: &[Routine]) -> Result<toml::Table, NoMemory>
     requires { IsTable routines.now }
     ensures tree { IfOk result (λ entries. table_view entries ≡ routine_trees routines.now) }
-    ensures small { OnOk result (All (λ routine. routine.fills ≤ 4294967295) routines.now) }
+    ensures small { OnOk result (AreSmall routines.now) }
 {
     let mut entries = toml::Table::new(alloc);
     'routines: for routine in routines.iter().rev() {
@@ -96,7 +96,7 @@ fn routine_tables(alloc: Global, routines: &[Routine]) -> Result<toml::Table, No
 fn document(alloc: Global, routines: &[Routine]) -> Result<toml::Table, NoMemory>
     requires { IsTable routines.now }
     ensures tree { IfOk result (λ root. table_view root ≡ root_tree routines.now) }
-    ensures small { OnOk result (All (λ routine. routine.fills ≤ 4294967295) routines.now) }
+    ensures small { OnOk result (AreSmall routines.now) }
 {
     let entries = routine_tables(alloc, routines)?;
     let mut root = toml::Table::new(alloc);

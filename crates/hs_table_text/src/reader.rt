@@ -3,7 +3,7 @@
 ghost use Rattle.std.specs.Prelude.{◌≡◌, option_map, IfOk};
 ghost use Rattle.toml.specs.View.{view, table_view};
 ghost use Rattle.hs_table.specs.Tables.{IsTable};
-ghost use Rattle.hs_table_text.specs.Answers.{Answers, IsDocument};
+ghost use Rattle.hs_table_text.specs.Answers.{Answers, IsDocument, written_at};
 ghost use Rattle.hs_table_text.specs.Texts.{is_root_key, is_version, other_in, reading, routines_in, routines_of};
 
 use crate::entry::{copied, entry, member};
@@ -30,7 +30,7 @@ fn document(alloc: Global, bytes: &[u8]) -> Result<toml::Table, TableError>
 
 /// Whether the version is the integer 1.
 fn is_version(value: Option<&Value>) -> bool
-    ensures { result ≡ is_version (option_map (λ written. view written.now) value.entry) }
+    ensures { result ≡ is_version (written_at value.entry) }
 {
     match value {
         None => false,
@@ -52,7 +52,7 @@ fn routines(alloc: Global, entries: &toml::Table) -> Result<Vec<Routine>, TableE
 
 /// The routines of the document: none if it has no key `routine`.
 fn routines_of(alloc: Global, value: Option<&Value>) -> Result<Vec<Routine>, TableError>
-    ensures read { Answers (λ routines. routines.items) (routines_of (option_map (λ written. view written.now) value.entry)) result }
+    ensures read { Answers (λ routines. routines.items) (routines_of (written_at value.entry)) result }
     ensures table { IfOk result (λ routines. IsTable routines.items) }
 {
     let Some(written) = value else {

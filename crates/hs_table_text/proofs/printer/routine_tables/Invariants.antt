@@ -1,9 +1,9 @@
-use Rattle.std.proofs.Common.{◌≡◌, ◌≤◌, true}
-use Rattle.std.specs.List.{All, list_all}
+use Rattle.std.proofs.Common.{◌≡◌, true}
+use Rattle.std.specs.List.{list_all}
 use Rattle.toml.specs.View.{table_view}
 use Rattle.hs_table.specs.Tables.{is_right}
 use Rattle.hs_table_text.specs.Building.{trees_onto}
-use Rattle.hs_table_text.specs.Trees.{routine_trees}
+use Rattle.hs_table_text.specs.Trees.{routine_trees, AreSmall}
 use Rattle.hs_table_text.proofs.printer.routine_tables.Given as goal
 
 -- The trees of the routines that are left are in front of those that are put. Those that are left are right, and the others
@@ -12,5 +12,5 @@ abbrev pub invariant-routines : goal.invariant-routines
 invariant-routines l = record {
   trees : trees_onto l.routine-iterator.iter.rest.now (table_view l.entries) ≡ routine_trees l.routines;
   right : list_all is_right l.routine-iterator.iter.rest.now ≡ true;
-  small : All (λ routine. routine.fills ≤ 4294967295) l.routine-iterator.iter.rest.now → All (λ routine. routine.fills ≤ 4294967295) l.routines;
+  small : AreSmall l.routine-iterator.iter.rest.now → AreSmall l.routines;
 }
