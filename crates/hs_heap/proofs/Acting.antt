@@ -13,17 +13,17 @@ pub same_there : (blocks : List Block) (place : ℕ) (block : Block) → slice_g
 same_there blocks place block there =
     subst (λ it. slice_set blocks place it ≡ blocks) (get_or_from_slice_get blocks place block block there) (set-get_or blocks place block)
 
-module _ (blocks : List Block) (number : ℕ) where
+module _ (blocks : List Block) (number shifts : ℕ) where
   acted_as : (old new : Block) → slice_get blocks (number - 1) ≡ Some old → (wanted : Result Block HeapStop) (result : Result Unit HeapStop)
       → RoleActs wanted old new result
-      → ActsAs wanted number (record { blocks = blocks }) (record { blocks = put_block blocks number new }) result
+      → ActsAs wanted number (record { blocks = blocks; shifts = shifts }) (record { blocks = put_block blocks number new; shifts = shifts }) result
   acted_as old new there (Ok block) (Ok _) is =
-      ap (λ it. record { blocks = put_block blocks number it }) is
+      ap (λ it. record { blocks = put_block blocks number it; shifts = shifts }) is
   acted_as old new there (Ok block) (Err why) is = absurd is
   acted_as old new there (Err wanted) (Ok _) is = absurd is
   acted_as old new there (Err wanted) (Err why) is = (
     is.0,
-    ap (λ its. record { blocks = its })
+    ap (λ its. record { blocks = its; shifts = shifts })
         (ap (put_block blocks number) is.1 ∙ same_there blocks (number - 1) old there),
   )
 
@@ -33,21 +33,21 @@ at_place blocks zero block there = absurd cc
 at_place blocks (suc place) block there = simp unary_clauses there
 
 -- a role of the block there, in the heap
-pub acts : (role : Block → Result Block HeapStop) (blocks : List Block) (number : ℕ) (heap : Memory) (old new other block : Block)
-    (result : Result Unit HeapStop) → record { blocks = blocks } ≡ heap → old ≡ get_or blocks (number - 1) other
+pub acts : (role : Block → Result Block HeapStop) (blocks : List Block) (number shifts : ℕ) (heap : Memory) (old new other block : Block)
+    (result : Result Unit HeapStop) → record { blocks = blocks; shifts = shifts } ≡ heap → old ≡ get_or blocks (number - 1) other
     → RoleActs (role old) old new result → block_at heap.blocks number ≡ Some block
-    → ActsAs (role block) number heap (record { blocks = put_block blocks number new }) result
-acts role blocks number heap old new other block result view is acted there =
+    → ActsAs (role block) number heap (record { blocks = put_block blocks number new; shifts = shifts }) result
+acts role blocks number shifts heap old new other block result view is acted there =
     let at = at_place blocks number block (ap (λ it. block_at it.blocks number) view ∙ there)
     in let same = is ∙ get_or_from_slice_get blocks (number - 1) block other at
-    in subst (λ it. ActsAs (role block) number it (record { blocks = put_block blocks number new }) result) view
-    (acted_as blocks number block new at (role block) result (subst (λ it. RoleActs (role it) it new result) same acted))
+    in subst (λ it. ActsAs (role block) number it (record { blocks = put_block blocks number new; shifts = shifts }) result) view
+    (acted_as blocks number shifts block new at (role block) result (subst (λ it. RoleActs (role it) it new result) same acted))
 
 -- what is copied of the block there
-pub copies : (role : Block → Result (List Cell) HeapStop) (blocks : List Block) (number : ℕ) (heap : Memory) (old other block : Block)
-    (before after : List Cell) (result : Result Unit HeapStop) → record { blocks = blocks } ≡ heap
+pub copies : (role : Block → Result (List Cell) HeapStop) (blocks : List Block) (number shifts : ℕ) (heap : Memory) (old other block : Block)
+    (before after : List Cell) (result : Result Unit HeapStop) → record { blocks = blocks; shifts = shifts } ≡ heap
     → old ≡ get_or blocks (number - 1) other → IsCopied (role old) before after result → block_at heap.blocks number ≡ Some block
     → IsCopied (role block) before after result
-copies role blocks number heap old other block before after result view is copied there =
+copies role blocks number shifts heap old other block before after result view is copied there =
     let at = at_place blocks number block (ap (λ it. block_at it.blocks number) view ∙ there)
     in subst (λ it. IsCopied (role it) before after result) (is ∙ get_or_from_slice_get blocks (number - 1) block other at) copied

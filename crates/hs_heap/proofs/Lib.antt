@@ -1,6 +1,9 @@
 mod Acting
 mod Copying
 mod Counting
+mod Marking
 mod Moving
+mod Passing
 mod Reshaping
 mod Rows
+mod Shifting

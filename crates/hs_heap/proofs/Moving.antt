@@ -6,8 +6,9 @@ use Rattle.std.proofs.lemmas.List.{length-take-le, length-drop, length-append, l
 use Rattle.std.proofs.lemmas.Option.{slice_get-get_or, get_or_from_slice_get}
 use Rattle.hs_heap.proofs.Acting.{at_place}
 use Rattle.hs_heap.proofs.Counting.{counted_with}
+use Rattle.hs_heap.proofs.Marking.{marked_set}
 use Rattle.hs_heap.specs.Blocks.{Block, with_cells, place_for, places_of, range_at, reach, is_disposed, loaded, loaded_at, moved, stored_at}
-use Rattle.hs_heap.specs.Memory.{Memory, IsKept, IsCopiedBetween, ActsAs, block_at, put_block}
+use Rattle.hs_heap.specs.Memory.{Memory, IsKept, IsMarked, IsCopiedBetween, ActsAs, block_at, put_block}
 use Rattle.hs_heap.specs.declared.cell.Cell.{Cell}
 use Rattle.hs_heap.specs.declared.cell.Spot.{Spot}
 use Rattle.hs_heap.specs.declared.presence.Presence.{Presence}
@@ -90,7 +91,7 @@ module _ (from to : Spot) (count : ℕ) (first second : Block) where
 
 -- ---- in the heap
 
-module _ (blocks : List Block) (heap : Memory) (from to : Spot) (count : ℕ) (a b other another : Block) (view : record { blocks = blocks } ≡ heap)
+module _ (blocks : List Block) (shifts : ℕ) (heap : Memory) (from to : Spot) (count : ℕ) (a b other another : Block) (view : record { blocks = blocks; shifts = shifts } ≡ heap)
     (is-a : a ≡ get_or blocks (from.block - 1) other) (is-b : b ≡ get_or blocks (to.block - 1) another) (first second : Block)
     (one : block_at heap.blocks from.block ≡ Some first) (two : block_at heap.blocks to.block ≡ Some second) where
   first_at : slice_get blocks (from.block - 1) ≡ Some first
@@ -116,13 +117,13 @@ module _ (blocks : List Block) (heap : Memory) (from to : Spot) (count : ℕ) (a
   -- or the second block has the cells
   pub moves : (here there : ℕ) (new : List Block) → Ok (here, there) ≡ places_of (place_for from count a) (place_for to count b)
       → IsCopiedBetween (from.block - 1) (to.block - 1) here there count blocks new
-      → ActsAs (moved to (loaded from count first) second) to.block heap (record { blocks = new }) (Ok tt)
+      → ActsAs (moved to (loaded from count first) second) to.block heap (record { blocks = new; shifts = shifts }) (Ok tt)
   moves here there new given copied =
-      subst (λ it. ActsAs it to.block heap (record { blocks = new }) (Ok tt))
+      subst (λ it. ActsAs it to.block heap (record { blocks = new; shifts = shifts }) (Ok tt))
       (sym (moved_by from to count first second (place_for from count first) (place_for to count second) refl refl here there
       (sym (given ∙ same_places))))
-      (ap {A = List Block} (λ its. record { blocks = its }) (copied first second first_at second_at)
-      ∙ ap (λ it. record { blocks = put_block it.blocks to.block (with_cells there (take count (drop here first.cells)) second) }) view)
+      (ap {A = List Block} (λ its. record { blocks = its; shifts = shifts }) (copied first second first_at second_at)
+      ∙ ap (λ it. record { blocks = put_block it.blocks to.block (with_cells there (take count (drop here first.cells)) second); shifts = it.shifts }) view)
 
 -- as many cells as before
 as_many_cells : (at : ℕ) (cells : List Cell) (block : Block) → at + length cells ≤ length block.cells
@@ -164,3 +165,9 @@ module _ (blocks : List Block) (live i j here there count : ℕ) (a b other anot
         room = kept.room;
         numbers = subst (λ n. n ≤ 4294967295) (sym (length-set blocks j (with_cells there cells b))) kept.numbers;
       })
+
+  -- and no epoch rises
+  pub marked_moved : (marks : List ℕ) (shifts : ℕ) → IsMarked blocks marks shifts → IsMarked new marks shifts
+  marked_moved marks shifts marked =
+      subst (λ its. IsMarked its marks shifts) (sym new_is)
+      (marked_set blocks marks shifts j b another (with_cells there (take count (drop here a.cells)) b) marked is-b refl)

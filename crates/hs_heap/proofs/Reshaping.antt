@@ -46,40 +46,40 @@ module _ (blocks : List Block) (live number : ℕ) (old other : Block) (kept : I
       same_room (live_bytes (put_block blocks number block)) live (length old.cells) (length block.cells)
       (counted_with blocks live (number - 1) old other kept there is block) (part_of_live blocks live (number - 1) old other kept there is) kept.room
 
-  reshaped_as : (new : Block) → slice_get blocks (number - 1) ≡ Some old → (lives : Bool) (wanted : Result Block HeapStop)
+  reshaped_as : (shifts : ℕ) (new : Block) → slice_get blocks (number - 1) ≡ Some old → (lives : Bool) (wanted : Result Block HeapStop)
       (result : Result Unit HeapEnd) → RoleReshapes lives wanted (16777216 - (live - length old.cells)) old new result
-      → ReshapesAs lives wanted number (record { blocks = blocks }) (record { blocks = put_block blocks number new })
+      → ReshapesAs lives wanted number (record { blocks = blocks; shifts = shifts }) (record { blocks = put_block blocks number new; shifts = shifts })
       result
-  reshaped_as new at lives (Ok block) (Ok _) is' = (
+  reshaped_as shifts new at lives (Ok block) (Ok _) is' = (
     rw (is'.0, room_is block) (room_met (length block.cells) (16777216 - (live - length old.cells)) is'.1),
-    ap (λ it. record { blocks = put_block blocks number it }) is'.2,
+    ap (λ it. record { blocks = put_block blocks number it; shifts = shifts }) is'.2,
   )
-  reshaped_as new at lives (Ok block) (Err Full) is' = (
+  reshaped_as shifts new at lives (Ok block) (Err Full) is' = (
     ap (λ it. lives && it) (room_is block) ∙ is'.0,
-    ap (λ its. record { blocks = its }) (ap (put_block blocks number) is'.1 ∙ same_there blocks (number - 1) old at),
+    ap (λ its. record { blocks = its; shifts = shifts }) (ap (put_block blocks number) is'.1 ∙ same_there blocks (number - 1) old at),
   )
-  reshaped_as new at lives (Ok block) (Err NoMemory) is' = (
+  reshaped_as shifts new at lives (Ok block) (Err NoMemory) is' = (
     rw (is'.0, room_is block) (room_met (length block.cells) (16777216 - (live - length old.cells)) is'.1),
-    ap (λ its. record { blocks = its }) (ap (put_block blocks number) is'.2 ∙ same_there blocks (number - 1) old at),
+    ap (λ its. record { blocks = its; shifts = shifts }) (ap (put_block blocks number) is'.2 ∙ same_there blocks (number - 1) old at),
   )
-  reshaped_as new at lives (Ok block) (Err (Stopped why)) is' = absurd is'
-  reshaped_as new at lives (Err wanted) (Ok _) is' = absurd is'
-  reshaped_as new at lives (Err wanted) (Err Full) is' = absurd is'
-  reshaped_as new at lives (Err wanted) (Err NoMemory) is' = absurd is'
-  reshaped_as new at lives (Err wanted) (Err (Stopped why)) is' = (
+  reshaped_as shifts new at lives (Ok block) (Err (Stopped why)) is' = absurd is'
+  reshaped_as shifts new at lives (Err wanted) (Ok _) is' = absurd is'
+  reshaped_as shifts new at lives (Err wanted) (Err Full) is' = absurd is'
+  reshaped_as shifts new at lives (Err wanted) (Err NoMemory) is' = absurd is'
+  reshaped_as shifts new at lives (Err wanted) (Err (Stopped why)) is' = (
     is'.0,
-    ap (λ its. record { blocks = its }) (ap (put_block blocks number) is'.1 ∙ same_there blocks (number - 1) old at),
+    ap (λ its. record { blocks = its; shifts = shifts }) (ap (put_block blocks number) is'.1 ∙ same_there blocks (number - 1) old at),
   )
 
   -- a role of the block there, in the heap
-  pub reshapes : (lives : Block → Bool) (role : Block → Result Block HeapStop) (heap : Memory) (new block : Block)
-      (result : Result Unit HeapEnd) → record { blocks = blocks } ≡ heap
+  pub reshapes : (shifts : ℕ) (lives : Block → Bool) (role : Block → Result Block HeapStop) (heap : Memory) (new block : Block)
+      (result : Result Unit HeapEnd) → record { blocks = blocks; shifts = shifts } ≡ heap
       → RoleReshapes (lives old) (role old) (16777216 - (live - length old.cells)) old new result → block_at heap.blocks number ≡ Some block
-      → ReshapesAs (lives block) (role block) number heap (record { blocks = put_block blocks number new }) result
-  reshapes lives role heap new block result view acted found =
+      → ReshapesAs (lives block) (role block) number heap (record { blocks = put_block blocks number new; shifts = shifts }) result
+  reshapes shifts lives role heap new block result view acted found =
       let at = at_place blocks number block (ap (λ it. block_at it.blocks number) view ∙ found)
       in let same = is ∙ get_or_from_slice_get blocks (number - 1) block other at
-      in subst (λ it. ReshapesAs (lives block) (role block) number it (record { blocks = put_block blocks number new }) result) view
-      (subst (λ it. ReshapesAs (lives it) (role it) number (record { blocks = blocks })
-      (record { blocks = put_block blocks number new }) result) same
-      (reshaped_as new (subst (λ it. slice_get blocks (number - 1) ≡ Some it) (sym same) at) (lives old) (role old) result acted))
+      in subst (λ it. ReshapesAs (lives block) (role block) number it (record { blocks = put_block blocks number new; shifts = shifts }) result) view
+      (subst (λ it. ReshapesAs (lives it) (role it) number (record { blocks = blocks; shifts = shifts })
+      (record { blocks = put_block blocks number new; shifts = shifts }) result) same
+      (reshaped_as shifts new (subst (λ it. slice_get blocks (number - 1) ≡ Some it) (sym same) at) (lives old) (role old) result acted))

@@ -1,2 +1,4 @@
 pub mod Blocks
 pub mod Memory
+pub mod Passes
+pub mod Shift

@@ -6,8 +6,9 @@
 --     Reshapes lives role number old new result     the same of a role that takes memory
 --     Loads, Lends                    cells that are copied or lent
 --     MakesBlock size old new result        a new block, or why not
---     IsKept blocks live              what the heap keeps
-use Rattle.std.specs.Prelude.{◌≡◌, ◌≤◌, ◌<◌, take, drop, ℕ, zero, suc, ◌+◌, ◌-◌, nat_lt, nat_le, Bool, true, false, ◌&&◌, List, [], ◌∷◌, ◌++◌, length, slice_get, slice_set, sum_by, Option, Some, None, Result, Ok, Err}
+--     IsKept blocks live              what the heap keeps of its bytes
+--     IsMarked blocks marks shifts    what it keeps of its shifts
+use Rattle.std.specs.Prelude.{◌≡◌, ◌≤◌, ◌<◌, take, drop, ℕ, zero, suc, ◌+◌, ◌-◌, nat_lt, nat_le, Bool, true, false, ◌&&◌, List, [], ◌∷◌, ◌++◌, length, slice_get, slice_set, get_or, sum_by, Option, Some, None, Result, Ok, Err}
 use Rattle.hs_heap.specs.Blocks.{Block, IsCopied, cells_of, loaded, moved, with_cells, new_block}
 use Rattle.hs_heap.specs.declared.cell.Cell.{Cell}
 use Rattle.hs_heap.specs.declared.cell.Spot.{Spot}
@@ -18,6 +19,8 @@ use Rattle.hs_heap.specs.declared.stop.HeapEnd.TheVariants.{Stopped, Full, NoMem
 -- what a contract sees of a heap
 pub record Memory : Type 0 where
   pub blocks : List Block
+  -- how many shifts were made
+  pub shifts : ℕ
 
 -- the block of that number
 abbrev pub block_at : List Block → ℕ → Option Block
@@ -113,8 +116,14 @@ MakesBlock size old new (Err Full) = (has_room old.blocks size ≡ false) × (ne
 MakesBlock size old new (Err NoMemory) = (has_room old.blocks size ≡ true) × (new ≡ old)
 MakesBlock size old new (Err (Stopped why)) = ⊥
 
--- what the heap keeps: `live` counts the bytes, and both numbers are within their limits
+-- `live` counts the bytes, and both numbers are within their limits.
 pub record IsKept (blocks : List Block) (live : ℕ) : Type 0 where
   pub counted : live ≡ live_bytes blocks
   pub room : live ≤ 16777216
   pub numbers : length blocks ≤ 4294967295
+
+-- Each block has a mark, the number of a shift; no mark and no epoch is more than the number of shifts.
+pub record IsMarked (blocks : List Block) (marks : List ℕ) (shifts : ℕ) : Type 0 where
+  pub long : length blocks ≤ length marks
+  pub past : (place : ℕ) → get_or marks place 0 ≤ shifts
+  pub epochs : (place : ℕ) (block : Block) → slice_get blocks place ≡ Some block → block.epoch ≤ shifts

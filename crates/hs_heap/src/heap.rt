@@ -1,11 +1,14 @@
 //! The heap.
 
-ghost use Rattle.std.specs.Prelude.{◌≡◌, ◌≤◌, ◌+◌, IfOk, [], true, false, length};
+ghost use Rattle.std.specs.Prelude.{◌≡◌, ◌≤◌, ◌<◌, ◌+◌, IfOk, [], true, false, length};
 ghost use Rattle.hs_heap.specs.Blocks.{both_places, with_lock, with_purge_bit, with_state, emptied, disposed, size_of, state_of, master_of, stored, always, resized, has_life, reallocated};
 ghost use Rattle.std.specs.Result.{result_map_both};
 ghost use Rattle.hs_heap.specs.Memory.{Acts, Answers, Reshapes, Loads, Lends, Moves, HasCells, IsCopiedBetween, MakesBlock, IsMade};
+ghost use Rattle.hs_heap.specs.Shift.{after_shift, OthersStay, LockedStay, EpochsRise};
 
 use crate::cell::{Cell, Spot};
+use crate::decision::Decision;
+use crate::pass::{purge, relocate};
 use crate::row::Row;
 use crate::stop::{HeapEnd, HeapStop};
 use std::alloc::Global;
@@ -22,18 +25,22 @@ const MOST_BLOCKS: usize = 4_294_967_295;
 pub struct Heap {
     alloc: Global,
     rows: Vec<Row>,
+    /// For each block, the number of the last shift that moved it by a list.
+    marks: Vec<u32>,
     /// The bytes of all blocks.
     live: usize,
+    /// How many shifts were made.
+    shifts: u32,
 }
 
 impl Model for Heap {
-    ghost use Rattle.hs_heap.specs.Memory.{Memory, IsKept};
+    ghost use Rattle.hs_heap.specs.Memory.{Memory, IsKept, IsMarked};
 
     ghost Value = { Memory };
 
-    ghost view = { λ it. record { blocks = it.rows.items } };
+    ghost view = { λ it. record { blocks = it.rows.items; shifts = it.shifts } };
 
-    ghost invariant = { λ it. IsKept it.rows.items it.live };
+    ghost invariant = { λ it. IsKept it.rows.items it.live × IsMarked it.rows.items it.marks.items it.shifts };
 }
 
 /// Copies that many cells from one row to another, from and to these places.
@@ -93,12 +100,14 @@ fn copy(
 impl Heap {
     /// A heap without blocks. Takes no memory.
     pub fn new(alloc: Global) -> Heap
-        ensures { result ≡ record { blocks = [] } }
+        ensures { result ≡ record { blocks = []; shifts = 0 } }
     {
         Heap {
             alloc,
             rows: Vec::new(alloc),
+            marks: Vec::new(alloc),
             live: 0,
+            shifts: 0,
         }
     }
 
@@ -108,12 +117,14 @@ impl Heap {
     ///
     /// `Full` if there is no room for it, and `NoMemory`. The heap is then as it was.
     pub fn new_block(&mut self, size: u32) -> Result<u32, HeapEnd>
-        ensures { MakesBlock size self.old self.new result }
+        ensures makes { MakesBlock size self.old self.new result }
+        ensures same_shifts { self.new.shifts ≡ self.old.shifts }
     {
         if size as usize > MOST_BYTES - self.live || self.rows.len() >= MOST_BLOCKS {
             return Err(HeapEnd::Full);
         }
         let row = Row::new(self.alloc, size)?;
+        self.marks.resize(self.rows.len() + 1, 0)?;
         self.rows.push(row)?;
         self.live += size as usize;
         Ok(self.rows.len() as u32)
@@ -128,6 +139,7 @@ impl Heap {
         requires made { IsMade self.old b }
         ensures acts { Acts (with_lock true) b self.old self.new result }
         ensures as_many { length self.new.blocks ≡ length self.old.blocks }
+        ensures same_shifts { self.new.shifts ≡ self.old.shifts }
     {
         self.rows[b as usize - 1].set_lock(true)
     }
@@ -137,6 +149,7 @@ impl Heap {
         requires made { IsMade self.old b }
         ensures acts { Acts (with_lock false) b self.old self.new result }
         ensures as_many { length self.new.blocks ≡ length self.old.blocks }
+        ensures same_shifts { self.new.shifts ≡ self.old.shifts }
     {
         self.rows[b as usize - 1].set_lock(false)
     }
@@ -146,6 +159,7 @@ impl Heap {
         requires made { IsMade self.old b }
         ensures acts { Acts (with_purge_bit on) b self.old self.new result }
         ensures as_many { length self.new.blocks ≡ length self.old.blocks }
+        ensures same_shifts { self.new.shifts ≡ self.old.shifts }
     {
         self.rows[b as usize - 1].set_purge_bit(on)
     }
@@ -155,6 +169,7 @@ impl Heap {
         requires made { IsMade self.old b }
         ensures acts { Acts (with_state s) b self.old self.new result }
         ensures as_many { length self.new.blocks ≡ length self.old.blocks }
+        ensures same_shifts { self.new.shifts ≡ self.old.shifts }
     {
         self.rows[b as usize - 1].set_state(s)
     }
@@ -164,6 +179,7 @@ impl Heap {
         requires made { IsMade self.old b }
         ensures acts { Acts emptied b self.old self.new result }
         ensures as_many { length self.new.blocks ≡ length self.old.blocks }
+        ensures same_shifts { self.new.shifts ≡ self.old.shifts }
     {
         let row = &mut self.rows[b as usize - 1];
         let held = row.bytes();
@@ -178,6 +194,7 @@ impl Heap {
         requires made { IsMade self.old b }
         ensures acts { Acts disposed b self.old self.new result }
         ensures as_many { length self.new.blocks ≡ length self.old.blocks }
+        ensures same_shifts { self.new.shifts ≡ self.old.shifts }
     {
         let row = &mut self.rows[b as usize - 1];
         let held = row.bytes();
@@ -196,6 +213,7 @@ impl Heap {
         requires made { IsMade self.old b }
         ensures acts { Reshapes always (resized size) b self.old self.new result }
         ensures as_many { length self.new.blocks ≡ length self.old.blocks }
+        ensures same_shifts { self.new.shifts ≡ self.old.shifts }
     {
         let row = &mut self.rows[b as usize - 1];
         let others = self.live - row.bytes();
@@ -214,6 +232,7 @@ impl Heap {
         requires made { IsMade self.old b }
         ensures acts { Reshapes has_life (reallocated size) b self.old self.new result }
         ensures as_many { length self.new.blocks ≡ length self.old.blocks }
+        ensures same_shifts { self.new.shifts ≡ self.old.shifts }
     {
         let row = &mut self.rows[b as usize - 1];
         let others = self.live - row.bytes();
@@ -246,6 +265,27 @@ impl Heap {
         self.rows[b as usize - 1].master(b)
     }
 
+    /// Moves and purges the blocks that the decision names and that permit it, if a routine that moves, or purges, or neither, is called
+    /// (Inside Macintosh: Memory, "Properties of Relocatable Blocks"). All other entries of the decision count for nothing. Takes no memory.
+    pub fn shift(&mut self, moves: bool, purges: bool, d: &Decision)
+        requires shifts_left { self.old.shifts < 4294967295 }
+        ensures shifts { self.new ≡ after_shift (record { moves = moves; purges = purges }) d.now self.old }
+        ensures others_stay { OthersStay (record { moves = moves; purges = purges }) d.now self.old.blocks self.new.blocks }
+        ensures locked_stay { LockedStay self.old.blocks self.new.blocks }
+        ensures epochs { EpochsRise self.old.blocks self.new.blocks }
+        ensures as_many { length self.new.blocks ≡ length self.old.blocks }
+    {
+        self.shifts += 1;
+        purge(&mut self.rows, purges, &d.purges);
+        relocate(
+            &mut self.rows,
+            &mut self.marks,
+            moves || purges,
+            &d.moves,
+            self.shifts,
+        );
+    }
+
     /// Copies as many cells as `into` has, from the place that the pointer names.
     ///
     /// # Errors
@@ -263,6 +303,7 @@ impl Heap {
         requires made { IsMade self.old p.now.block }
         ensures acts { Acts (stored p.now cells.now) p.now.block self.old self.new result }
         ensures as_many { length self.new.blocks ≡ length self.old.blocks }
+        ensures same_shifts { self.new.shifts ≡ self.old.shifts }
     {
         self.rows[p.block as usize - 1].store(p, cells)
     }
@@ -277,6 +318,7 @@ impl Heap {
         requires to { IsMade self.old to.now.block }
         ensures moves { Moves from.now to.now n self.old self.new result }
         ensures as_many { length self.new.blocks ≡ length self.old.blocks }
+        ensures same_shifts { self.new.shifts ≡ self.old.shifts }
     {
         let (i, j) = (from.block as usize - 1, to.block as usize - 1);
         match places(&self.rows[i], &self.rows[j], from, to, n as usize) {

@@ -3,7 +3,9 @@
 #![tactic(auto)]
 
 mod cell;
+mod decision;
 mod heap;
+mod pass;
 mod presence;
 mod row;
 mod stop;
@@ -11,5 +13,6 @@ mod stop;
 mod tests;
 
 pub use cell::{Cell, Pointer, Spot};
+pub use decision::{Decision, Which};
 pub use heap::Heap;
 pub use stop::{HeapEnd, HeapStop};

@@ -3,6 +3,8 @@
 ghost use Rattle.std.specs.Prelude.{◌≡◌, ◌≤◌, ◌+◌, take, drop, [], true, length, IfOk};
 ghost use Rattle.hs_heap.specs.Blocks.{new_block, with_lock, with_purge_bit, with_state, emptied, disposed, size_of, state_of, master_of, standing, bit, cells_of, reach, range_at, place_for, loaded, stored, RoleActs, Resizes, Reallocates, IsCopied, with_cells};
 ghost use Rattle.std.specs.Result.{result_map_both};
+ghost use Rattle.hs_heap.specs.Shift.{is_loose};
+ghost use Rattle.hs_heap.specs.Passes.{purged, relocated};
 
 use crate::cell::{Cell, Spot};
 use crate::presence::Presence;
@@ -102,7 +104,9 @@ impl Row {
 
     /// Sets or clears the lock.
     pub(crate) fn set_lock(&mut self, on: bool) -> Result<(), HeapStop>
-        ensures { RoleActs (with_lock on self.old) self.old self.new result }
+        ensures acts { RoleActs (with_lock on self.old) self.old self.new result }
+        ensures same_epoch { self.new.epoch ≡ self.old.epoch }
+        ensures as_large { length self.new.cells ≡ length self.old.cells }
     {
         if self.standing()? {
             self.locked = on;
@@ -112,7 +116,9 @@ impl Row {
 
     /// Sets or clears the attribute that lets the block be purged.
     pub(crate) fn set_purge_bit(&mut self, on: bool) -> Result<(), HeapStop>
-        ensures { RoleActs (with_purge_bit on self.old) self.old self.new result }
+        ensures acts { RoleActs (with_purge_bit on self.old) self.old self.new result }
+        ensures same_epoch { self.new.epoch ≡ self.old.epoch }
+        ensures as_large { length self.new.cells ≡ length self.old.cells }
     {
         if self.standing()? {
             self.purgeable = on;
@@ -122,7 +128,9 @@ impl Row {
 
     /// Puts both attributes back, as a state byte has them.
     pub(crate) fn set_state(&mut self, byte: u8) -> Result<(), HeapStop>
-        ensures { RoleActs (with_state byte self.old) self.old self.new result }
+        ensures acts { RoleActs (with_state byte self.old) self.old self.new result }
+        ensures same_epoch { self.new.epoch ≡ self.old.epoch }
+        ensures as_large { length self.new.cells ≡ length self.old.cells }
     {
         if self.standing()? {
             self.locked = byte >= 128;
@@ -134,6 +142,7 @@ impl Row {
     /// Takes the cells away, unless the block is locked.
     pub(crate) fn empty(&mut self) -> Result<(), HeapStop>
         ensures acts { RoleActs (emptied self.old) self.old self.new result }
+        ensures same_epoch { self.new.epoch ≡ self.old.epoch }
         ensures shrinks { length self.new.cells ≤ length self.old.cells }
     {
         if self.standing()? && !self.locked {
@@ -147,6 +156,7 @@ impl Row {
     /// Ends the block.
     pub(crate) fn dispose(&mut self) -> Result<(), HeapStop>
         ensures acts { RoleActs (disposed self.old) self.old self.new result }
+        ensures same_epoch { self.new.epoch ≡ self.old.epoch }
         ensures shrinks { length self.new.cells ≤ length self.old.cells }
     {
         self.standing()?;
@@ -247,6 +257,7 @@ impl Row {
     /// Puts cells where the pointer reaches.
     pub(crate) fn store(&mut self, p: &Spot, cells: &[Cell]) -> Result<(), HeapStop>
         ensures acts { RoleActs (stored p.now cells.now self.old) self.old self.new result }
+        ensures same_epoch { self.new.epoch ≡ self.old.epoch }
         ensures as_large { length self.new.cells ≡ length self.old.cells }
     {
         let at = self.place_for(p, cells.len())?;
@@ -258,6 +269,7 @@ impl Row {
     pub(crate) fn resize(&mut self, size: u32, room: usize) -> Result<(), HeapEnd>
         requires has_room { length self.old.cells ≤ room × room ≤ 16777216 }
         ensures reshapes { Resizes size room self.old self.new result }
+        ensures same_epoch { self.new.epoch ≡ self.old.epoch }
         ensures within { length self.new.cells ≤ room }
     {
         if !self.standing()? {
@@ -279,6 +291,7 @@ impl Row {
     ) -> Result<(), HeapEnd>
         requires has_room { length self.old.cells ≤ room × room ≤ 16777216 }
         ensures reshapes { Reallocates size room self.old self.new result }
+        ensures same_epoch { self.new.epoch ≡ self.old.epoch }
         ensures within { length self.new.cells ≤ room }
     {
         self.standing()?;
@@ -296,6 +309,32 @@ impl Row {
         self.purgeable = false;
         self.presence = Presence::Present;
         Ok(())
+    }
+
+    /// Whether the block has its cells and no lock.
+    fn is_loose(&self) -> bool
+        ensures { result ≡ is_loose self.now }
+    {
+        matches!(self.presence, Presence::Present) && !self.locked
+    }
+
+    /// Purges the block, if it permits that.
+    pub(crate) fn purge(&mut self)
+        ensures { self.new ≡ purged self.old }
+    {
+        if self.is_loose() && self.purgeable {
+            self.epoch = self.epoch.saturating_add(1);
+            self.presence = Presence::Purged;
+        }
+    }
+
+    /// Moves the block, if it permits that.
+    pub(crate) fn relocate(&mut self)
+        ensures { self.new ≡ relocated self.old }
+    {
+        if self.is_loose() {
+            self.epoch = self.epoch.saturating_add(1);
+        }
     }
 
     /// Takes the cells out of the row, until they are given back.

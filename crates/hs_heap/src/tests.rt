@@ -1,6 +1,7 @@
 //! What calls do to blocks.
 
-use crate::{Cell, Heap, HeapEnd, HeapStop, Spot};
+use crate::{Cell, Decision, Heap, HeapEnd, HeapStop, Spot, Which};
+use hs_base::Numbers;
 use std::alloc::Global;
 use std::test::Fail;
 
@@ -201,5 +202,137 @@ fn refused(alloc: Global, size: u32) -> Option<HeapEnd> {
 #[test]
 fn a_heap_has_a_limit(rt: HostRuntime) -> Result<(), Fail> {
     assert_eq!(rt; refused(rt.alloc(), 16_777_217), Some(HeapEnd::Full));
+    Ok(())
+}
+
+/// A decision that moves and purges all blocks.
+fn all() -> Decision {
+    Decision {
+        moves: Which::All,
+        purges: Which::All,
+    }
+}
+
+/// Where the first block is when it is new.
+const FRONT: Spot = Spot {
+    block: 1,
+    life: 0,
+    epoch: 0,
+    offset: 0,
+};
+
+/// Where a block is after a shift while it was locked, and after one while it was not; what a load through an older pointer is refused for then;
+/// and the byte that is there now.
+fn shifted(alloc: Global) -> Result<(Option<Spot>, Option<Spot>, Option<HeapStop>, Cell), HeapEnd> {
+    let mut heap = Heap::new(alloc);
+    let b = heap.new_block(4)?;
+    heap.store(&FRONT, &[Cell::Byte(65)])?;
+    heap.lock(b)?;
+    heap.shift(true, true, &all());
+    let locked = heap.master(b)?;
+    heap.unlock(b)?;
+    heap.shift(true, true, &all());
+    let unlocked = heap.master(b)?;
+    let mut cell = [Cell::Undefined];
+    let stop = heap.load(&FRONT, &mut cell).err();
+    heap.load(&Spot { epoch: 1, ..FRONT }, &mut cell)?;
+    Ok((locked, unlocked, stop, cell[0]))
+}
+
+// Inside Macintosh: Memory, "Properties of Relocatable Blocks": a locked block stays. Own: epochs.
+#[test]
+fn a_moved_block_has_a_new_epoch(rt: HostRuntime) -> Result<(), Fail> {
+    let moved = Spot { epoch: 1, ..FRONT };
+    assert_eq!(rt;
+        shifted(rt.alloc()).ok(),
+        Some((
+            Some(FRONT),
+            Some(moved),
+            Some(HeapStop::Stale),
+            Cell::Byte(65)
+        ))
+    );
+    Ok(())
+}
+
+/// Why a block that was purged has no size, and cannot be locked; and why one more byte has no room beside it.
+fn purged(alloc: Global) -> Result<(Option<HeapStop>, Option<HeapStop>, Option<HeapEnd>), HeapEnd> {
+    let mut heap = Heap::new(alloc);
+    let b = heap.new_block(4)?;
+    heap.purge_bit(b, true)?;
+    heap.shift(false, true, &all());
+    let size = heap.size(b).err();
+    let lock = heap.lock(b).err();
+    Ok((size, lock, heap.new_block(16_777_213).err()))
+}
+
+// Inside Macintosh: Memory, "Purging and Reallocating Blocks", narrowed. Own: its bytes still count.
+#[test]
+fn a_purged_block_has_no_size(rt: HostRuntime) -> Result<(), Fail> {
+    let stop = Some(HeapStop::Purged);
+    assert_eq!(rt;
+        purged(rt.alloc()).ok(),
+        Some((stop, stop, Some(HeapEnd::Full)))
+    );
+    Ok(())
+}
+
+/// What the first of two blocks permits, what the routine may do, and the blocks that the decision moves and purges.
+#[derive(Clone, Copy)]
+struct Case {
+    locked: bool,
+    purgeable: bool,
+    moves: bool,
+    purges: bool,
+    moved: [u32; 3],
+    purged: [u32; 3],
+}
+
+/// Whether the first block has that epoch after a shift, and whether it was purged.
+fn after(alloc: Global, case: Case, epoch: u32) -> Result<(bool, bool), HeapEnd> {
+    let mut heap = Heap::new(alloc);
+    let b = heap.new_block(1)?;
+    heap.new_block(1)?;
+    heap.purge_bit(b, case.purgeable)?;
+    if case.locked {
+        heap.lock(b)?;
+    }
+    let decision = Decision {
+        moves: Which::These(Numbers::from_vec(Vec::from_array(alloc, case.moved)?)),
+        purges: Which::These(Numbers::from_vec(Vec::from_array(alloc, case.purged)?)),
+    };
+    heap.shift(case.moves, case.purges, &decision);
+    let is_there = heap.load(&Spot { epoch, ..FRONT }, &mut []).is_ok();
+    Ok((is_there, heap.size(b).is_err()))
+}
+
+// Inside Macintosh: Memory. A locked block is neither moved nor purged; the Memory Manager purges only an unlocked, purgeable block. A block that
+// is not named stays, and so does each under a routine that neither moves nor purges. Own: one that is named again, or in both lists, gets one
+// epoch more; numbers of no block are ignored.
+#[test]
+fn a_shift_changes_what_the_block_permits(rt: HostRuntime) -> Result<(), Fail> {
+    let alloc = rt.alloc();
+    // locked, purgeable, the routine moves, it purges, moved blocks, purged blocks: the epoch after it, and whether the block was purged
+    let cases = [
+        (false, false, true, true, [1, 1, 1], [1, 1, 1], 1, false),
+        (true, true, true, true, [1, 1, 0], [1, 0, 2], 0, false),
+        (false, true, true, true, [1, 0, 1], [1, 9, 1], 1, true),
+        (false, true, true, false, [1, 2, 1], [1, 1, 1], 1, false),
+        (false, true, false, true, [2, 1, 9], [2, 2, 0], 1, false),
+        (false, true, false, true, [2, 0, 3], [1, 1, 1], 1, true),
+        (false, true, true, true, [2, 0, 9], [2, 0, 9], 0, false),
+        (false, true, false, false, [1, 1, 1], [1, 1, 1], 0, false),
+    ];
+    for (locked, purgeable, moves, purges, moved, purged, epoch, is_purged) in cases {
+        let case = Case {
+            locked,
+            purgeable,
+            moves,
+            purges,
+            moved,
+            purged,
+        };
+        assert_eq!(rt; after(alloc, case, epoch).ok(), Some((true, is_purged)));
+    }
     Ok(())
 }

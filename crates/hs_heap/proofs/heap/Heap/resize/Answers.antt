@@ -2,31 +2,34 @@ use Rattle.std.proofs.Common.{arith}
 use Rattle.hs_heap.proofs.Counting.{within, part_of_live}
 use Rattle.hs_heap.proofs.Reshaping.{room_there, kept_within, reshapes}
 use Rattle.hs_heap.specs.Blocks.{always, resized}
+use Rattle.hs_heap.proofs.Marking.{marked_set}
 use Rattle.hs_heap.proofs.heap.Heap.resize.Goals as goal
 
 -- what the block takes counts
 pub overflow_sub-others : goal.overflow_sub-others
 overflow_sub-others c =
-    rw c.bytes.ensures (part_of_live _ _ _ _ _ c.self.invariant (within _ _ _ c.self.view_is c.requires.made) c.index_mut-row.ensures.value)
+    rw c.bytes.ensures (part_of_live _ _ _ _ _ c.self.invariant.0 (within _ _ _ _ c.self.view_is c.requires.made) c.index_mut-row.ensures.value)
 
 -- and it has room for that
 pub resize-done-requires : goal.resize-done-requires
 resize-done-requires c =
     record {
       has_room = (
-        rw c.bytes.ensures (room_there _ _ _ _ _ c.self.invariant (within _ _ _ c.self.view_is c.requires.made) c.index_mut-row.ensures.value),
+        rw c.bytes.ensures (room_there _ _ _ _ _ c.self.invariant.0 (within _ _ _ _ c.self.view_is c.requires.made) c.index_mut-row.ensures.value),
         omega (arith),
       );
     }
 
 pub invariant_of-self : goal.invariant_of-self
-invariant_of-self c =
-    rw (c.bytes.ensures, c.bytes-2.ensures)
-    (kept_within _ _ _ _ _ c.self.invariant (within _ _ _ c.self.view_is c.requires.made) c.index_mut-row.ensures.value c.resize-done.new.self
-    (rw (← c.bytes.ensures) c.resize-done.ensures.within))
+invariant_of-self c = (
+  rw (c.bytes.ensures, c.bytes-2.ensures)
+      (kept_within _ _ _ _ _ c.self.invariant.0 (within _ _ _ _ c.self.view_is c.requires.made) c.index_mut-row.ensures.value c.resize-done.new.self
+      (rw (← c.bytes.ensures) c.resize-done.ensures.within)),
+  marked_set _ _ _ _ _ _ _ c.self.invariant.1 c.index_mut-row.ensures.value c.resize-done.ensures.same_epoch,
+)
 
 -- the row acts as the role says
 pub returns-clause-acts : goal.returns-clause-acts
 returns-clause-acts c block there =
-    reshapes _ _ _ _ _ c.self.invariant (within _ _ _ c.self.view_is c.requires.made) c.index_mut-row.ensures.value always (resized c.args.size) _ _ _ _
+    reshapes _ _ _ _ _ c.self.invariant.0 (within _ _ _ _ c.self.view_is c.requires.made) c.index_mut-row.ensures.value _ always (resized c.args.size) _ _ _ _
     c.self.view_is (rw c.bytes.ensures at c.resize-done.ensures.reshapes) there

@@ -1,7 +1,15 @@
 use Rattle.hs_heap.proofs.Acting.{acts}
 use Rattle.hs_heap.specs.Blocks.{with_state}
+use Rattle.hs_heap.proofs.Counting.{within}
+use Rattle.hs_heap.proofs.Marking.{stays}
 use Rattle.hs_heap.proofs.heap.Heap.set_state.Goals as goal
+
+-- what the heap keeps
+pub invariant_of-self : goal.invariant_of-self
+invariant_of-self c =
+    stays _ _ _ _ _ _ _ _ c.self.invariant (within _ _ _ _ c.self.view_is c.requires.made) c.index_mut.ensures.value c.set_state.ensures.as_large
+    c.set_state.ensures.same_epoch
 
 -- the row acts as the role says
 pub returns-clause-acts : goal.returns-clause-acts
-returns-clause-acts c block there = acts (with_state c.args.s) _ _ _ _ _ _ _ _ c.self.view_is c.index_mut.ensures.value c.set_state.ensures there
+returns-clause-acts c block there = acts (with_state c.args.s) _ _ _ _ _ _ _ _ _ c.self.view_is c.index_mut.ensures.value c.set_state.ensures.acts there
