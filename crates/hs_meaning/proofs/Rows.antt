@@ -10,8 +10,8 @@ use Rattle.hs_tree.specs.declared.straight.tree.Step.TheVariants as step
 use Rattle.hs_tree.specs.Straight.Fine.{is_fine}
 use Rattle.hs_tree.specs.Straight.Names.{reserved}
 use Rattle.hs_meaning.specs.Straight.Run.{run_from, start}
-use Rattle.hs_meaning.specs.declared.decision.Decision.{Decision}
-use Rattle.hs_meaning.specs.declared.decision.Which.TheVariants.{All}
+use Rattle.hs_heap.specs.declared.decision.Decision.{Decision}
+use Rattle.hs_heap.specs.declared.decision.Which.TheVariants.{All}
 use Rattle.hs_meaning.specs.declared.input.Input.{Input}
 use Rattle.hs_meaning.specs.declared.outcome.Stop.TheVariants as stop
 use Rattle.hs_meaning.specs.declared.outcome.Outcome.TheVariants.{Finished, Stopped}

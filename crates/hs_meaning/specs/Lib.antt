@@ -1,4 +1,3 @@
 pub mod Heap
-pub mod Shift
 pub mod Straight
 pub mod Value

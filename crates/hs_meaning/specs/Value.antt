@@ -4,13 +4,7 @@
 --     char_of byte       the number that a char object of that byte has: char is signed
 use Rattle.std.specs.Prelude.{ℕ, ℤ}
 use Rattle.std.specs.Int.{w8, cast_signed, cast_unsigned}
-
--- a pointer into a relocatable block, as it stood when the pointer was taken from the master pointer
-pub record Spot : Type 0 where
-  pub block : ℕ
-  pub life : ℕ
-  pub epoch : ℕ
-  pub offset : ℕ
+use Rattle.hs_heap.specs.declared.cell.Spot.{Spot}
 
 -- what a variable holds
 pub data Value : Type 0 where

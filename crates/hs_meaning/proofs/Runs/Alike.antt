@@ -1,19 +1,21 @@
 -- Two results alike: the still one is the moving one stilled, and a stop is the same and no misuse. What a step asks of
 -- values and blocks gives results alike, if the blocks are plain and no pointer used has an old epoch.
-use Rattle.std.proofs.Common.{◌≡◌, ℕ, ◌==◌, Bool, true, false, not, List, map, length, nat_le, Option, Some, None, Result, Ok, Err, option_map, slice_get, slice_set, refl, sym, ap, ◌∙◌, subst, if◌then◌else◌, eq-eqb}
+use Rattle.std.proofs.Common.{◌≡◌, ℕ, ℤ, pos as integer, negsuc, ◌+◌, ◌==◌, Bool, true, false, not, List, [], ◌∷◌, ◌++◌, map, take, drop, nat_le, Option, Some, None, Result, Ok, Err, option_map, refl, sym, ap, ◌∙◌, subst, if◌then◌else◌, eq-eqb}
 use Rattle.hs_base.specs.declared.pos.Pos.{Pos}
 use Rattle.hs_tree.specs.declared.straight.tree.Expr.{Expr}
 use Rattle.hs_tree.specs.declared.straight.tree.Expr.TheVariants as expr
-use Rattle.hs_meaning.specs.Value.{Value, number, nil, handle, spot, Spot}
-use Rattle.hs_meaning.specs.Heap.{block_at, put_block, is_disposed, used_if, used, loaded_cell, loaded_from, stored_in, master_if, lock_set, lock_if}
+use Rattle.hs_heap.specs.Blocks.{Block, is_disposed, reach, range_at, place_for, loaded, loaded_at, with_cells, stored, stored_at}
+use Rattle.hs_heap.specs.Memory.{block_at, put_block}
+use Rattle.hs_heap.specs.declared.cell.Cell.{Cell}
+use Rattle.hs_heap.specs.declared.cell.Cell.TheVariants as cell
+use Rattle.hs_heap.specs.declared.cell.Spot.{Spot}
+use Rattle.hs_heap.specs.declared.stop.HeapStop.{HeapStop}
+use Rattle.hs_heap.specs.declared.stop.HeapStop.TheVariants as heap_stop
+use Rattle.hs_meaning.specs.Value.{Value, number, nil, handle, spot}
+use Rattle.hs_meaning.specs.Heap.{stop_of, char_in, loaded_char, load_if, put_result, store_if, master_if, lock_if}
 use Rattle.hs_meaning.specs.Straight.Run.{State, Halt, ◌>>=◌, at_place, lookup, defined, value_of, load_through, store_through, derive_through, lock_through, eval, IsMisuse}
 use Rattle.hs_meaning.specs.Straight.StaleUses.{expr_uses}
-use Rattle.hs_meaning.specs.declared.block.Block.{Block}
-use Rattle.hs_meaning.specs.declared.block.Cell.{Cell}
-use Rattle.hs_meaning.specs.declared.block.Cell.TheVariants.{Undefined as undefined, Byte}
-use Rattle.hs_meaning.specs.declared.block.Presence.{Presence}
 use Rattle.hs_meaning.specs.declared.outcome.Stop.{Stop}
-use Rattle.hs_meaning.specs.declared.outcome.Stop.TheVariants as stop
 use Rattle.hs_meaning.specs.declared.outcome.Outcome.TheVariants.{Stopped}
 use Rattle.hs_meaning.proofs.Runs.Still.{still_value, still_block, still, Each, IsPlain, lookup-still, block_at-still, put_block-still, block_at-plain}
 
@@ -71,47 +73,48 @@ IsFresh heap nil = Unit {0}
 IsFresh heap (handle named) = Unit {0}
 IsFresh heap (spot s) = IsFreshSpot heap s
 
--- what a fresh pointer reaches is reached in the still heap
-used-alike : (heap : List Block) (s : Spot) → IsFreshSpot heap s
-    → Alike IsHarmless still_block (λ block. block_at heap s.block ≡ Some block) (used heap s) (used (map still_block heap) (record s { epoch = 0 }))
-used-alike heap s fresh = rw (block_at-still heap s.block) (go (block_at heap s.block) fresh)
+-- a use through a fresh pointer begins at the same place in the still heap
+place_for-still : (s : Spot) (count : ℕ) (block : Block) → s.epoch ≡ block.epoch
+    → place_for (record s { epoch = 0 }) count (still_block block) ≡ place_for s count block
+place_for-still s count block fresh = rw (eq-eqb s.epoch block.epoch fresh) refl
+
+-- and if it stops, it is no misuse
+harmless_place : (s : Spot) (count : ℕ) (block : Block) (why : HeapStop) → s.epoch ≡ block.epoch → place_for s count block ≡ Err why
+    → IsHarmless (stop_of why)
+harmless_place s count block why fresh stops =
+    go (is_disposed block.presence) (not (s.life == block.life)) (range_at s.offset count (reach block.presence block.cells)) refl
+    (sym (rw (eq-eqb s.epoch block.epoch fresh) refl) ∙ stops)
   where
-    at_range : (block : Block) (is_short : Bool)
-        → Alike IsHarmless still_block (λ found. Some block ≡ Some found) (if is_short then Err stop.Range else Ok block)
-        (if is_short then Err stop.Range else Ok (still_block block))
-    at_range block true = (refl, λ pos misuse. misuse)
-    at_range block false = (refl, refl)
+    same_stop : (a b : HeapStop) → ◌≡◌ {A = Result ℕ HeapStop} (Err a) (Err b) → a ≡ b
+    same_stop a b same = cc
 
-    at_life : (block : Block) (is_same : Bool)
-        → Alike IsHarmless still_block (λ found. Some block ≡ Some found)
-        (if not is_same then Err stop.Old else if nat_le (length block.cells) s.offset then Err stop.Range else Ok block)
-        (if not is_same then Err stop.Old else if nat_le (length block.cells) s.offset then Err stop.Range else Ok (still_block block))
-    at_life block true = at_range block (nat_le (length block.cells) s.offset)
-    at_life block false = (refl, λ pos misuse. misuse)
+    at_range : (offset : ℤ) (size : ℕ) (is_short : Bool) → ◌≡◌ {A = Result ℕ HeapStop} (range_at offset count size) (Err why) → why ≡ heap_stop.Range
+    at_range (integer at) size is_short is = within at size (nat_le (at + count) size) is
+      where
+        within : (at size : ℕ) (fits : Bool) → ◌≡◌ {A = Result ℕ HeapStop} (if fits then Ok at else Err heap_stop.Range) (Err why) → why ≡ heap_stop.Range
+        within at size true is = absurd cc
+        within at size false is = sym (same_stop heap_stop.Range why is)
+    at_range (negsuc at) size is_short is = sym (same_stop heap_stop.Range why is)
 
-    at_block : (block : Block) (is_gone : Bool)
-        → Alike IsHarmless still_block (λ found. Some block ≡ Some found)
-        (if is_gone then Err stop.Disposed
-        else if not (s.life == block.life) then Err stop.Old
-        else if nat_le (length block.cells) s.offset then Err stop.Range
-        else Ok block)
-        (if is_gone then Err stop.Disposed
-        else if not (s.life == block.life) then Err stop.Old
-        else if nat_le (length block.cells) s.offset then Err stop.Range
-        else Ok (still_block block))
-    at_block block true = (refl, λ pos misuse. misuse)
-    at_block block false = at_life block (s.life == block.life)
-
-    go : (block : Option Block) → ((b : Block) → block ≡ Some b → s.epoch ≡ b.epoch)
-        → Alike IsHarmless still_block (λ found. block ≡ Some found) (used_if s block) (used_if (record s { epoch = 0 }) (option_map still_block block))
-    go None fresh_here = (refl, λ pos misuse. misuse)
-    go (Some block) fresh_here = rw (eq-eqb s.epoch block.epoch (fresh_here block refl)) (at_block block (is_disposed block.presence))
+    go : (gone old : Bool) (at : Result ℕ HeapStop) → range_at s.offset count (reach block.presence block.cells) ≡ at
+        → ◌≡◌ {A = Result ℕ HeapStop} (if gone then Err heap_stop.Disposed else if old then Err heap_stop.Old else at) (Err why)
+        → IsHarmless (stop_of why)
+    go true old at is same = subst (λ it. IsHarmless (stop_of it)) (same_stop heap_stop.Disposed why same) (λ pos misuse. misuse)
+    go false true at is same = subst (λ it. IsHarmless (stop_of it)) (same_stop heap_stop.Old why same) (λ pos misuse. misuse)
+    go false false at is same =
+        subst (λ it. IsHarmless (stop_of it)) (sym (at_range s.offset (reach block.presence block.cells) true (is ∙ same))) (λ pos misuse. misuse)
 
 -- no pointer comes from a cell
-loaded_cell-alike : (cell : Option Cell) → Alike IsHarmless still_value (λ value. Unit {0}) (loaded_cell cell) (loaded_cell cell)
-loaded_cell-alike (Some (Byte byte)) = (refl, tt)
-loaded_cell-alike (Some undefined) = (refl, λ pos misuse. misuse)
-loaded_cell-alike None = (refl, λ pos misuse. misuse)
+char_in-alike : (it : Cell) → Alike IsHarmless still_value (λ value. Unit {0}) (char_in it) (char_in it)
+char_in-alike (cell.Byte byte) = (refl, tt)
+char_in-alike cell.Undefined = (refl, λ pos misuse. misuse)
+char_in-alike (cell.State byte) = (refl, λ pos misuse. misuse)
+char_in-alike (cell.Part part pointer class) = (refl, λ pos misuse. misuse)
+
+-- nor from the cells that were loaded
+loaded_char-alike : (cells : List Cell) → Alike IsHarmless still_value (λ value. Unit {0}) (loaded_char (Ok cells)) (loaded_char (Ok cells))
+loaded_char-alike [] = (refl, λ pos misuse. misuse)
+loaded_char-alike (first ∷ cells) = char_in-alike first
 
 -- a load through a fresh value gives the same char
 pub load_through-alike : (heap : List Block) (value : Value) → IsFresh heap value
@@ -119,12 +122,22 @@ pub load_through-alike : (heap : List Block) (value : Value) → IsFresh heap va
 load_through-alike heap nil fresh = (refl, λ pos misuse. misuse)
 load_through-alike heap (handle named) fresh = (refl, λ pos misuse. misuse)
 load_through-alike heap (number n) fresh = (refl, λ pos misuse. misuse)
-load_through-alike heap (spot s) fresh = go (used heap s) (used (map still_block heap) (record s { epoch = 0 })) (used-alike heap s fresh)
+load_through-alike heap (spot s) fresh = rw (block_at-still heap s.block) (go (block_at heap s.block) fresh)
   where
-    go : (x y : Result Block Stop) → Alike IsHarmless still_block (λ block. block_at heap s.block ≡ Some block) x y
-        → Alike IsHarmless still_value (λ got. Unit {0}) (loaded_from s x) (loaded_from (record s { epoch = 0 }) y)
-    go (Ok block) y alike = rw (alike.0) (loaded_cell-alike (slice_get block.cells s.offset))
-    go (Err kind) y alike = (ap (loaded_from (record s { epoch = 0 })) alike.0, alike.1)
+    go : (found : Option Block) → ((block : Block) → found ≡ Some block → s.epoch ≡ block.epoch)
+        → Alike IsHarmless still_value (λ got. Unit {0}) (load_if s found) (load_if (record s { epoch = 0 }) (option_map still_block found))
+    go None fresh_here = (refl, λ pos misuse. misuse)
+    go (Some block) fresh_here =
+        subst
+        (λ (at : Result ℕ HeapStop). Alike IsHarmless still_value (λ got. Unit {0}) (loaded_char (loaded s 1 block))
+        (loaded_char (loaded_at 1 (still_block block) at)))
+        (sym (place_for-still s 1 block (fresh_here block refl)))
+        (at_place_of (place_for s 1 block) refl)
+      where
+        at_place_of : (at : Result ℕ HeapStop) → place_for s 1 block ≡ at
+            → Alike IsHarmless still_value (λ got. Unit {0}) (loaded_char (loaded_at 1 block at)) (loaded_char (loaded_at 1 (still_block block) at))
+        at_place_of (Ok at) is = loaded_char-alike (take 1 (drop at block.cells))
+        at_place_of (Err why) is = (refl, harmless_place s 1 block why (fresh_here block refl) is)
 
 -- the heap with other cells in one block
 pub record IsStored (heap after : List Block) : Type 0 where
@@ -140,16 +153,34 @@ pub store_through-alike : (heap : List Block) (value : Value) (byte : ℕ) → I
 store_through-alike heap nil byte fresh = (refl, λ pos misuse. misuse)
 store_through-alike heap (handle named) byte fresh = (refl, λ pos misuse. misuse)
 store_through-alike heap (number n) byte fresh = (refl, λ pos misuse. misuse)
-store_through-alike heap (spot s) byte fresh = go (used heap s) (used (map still_block heap) (record s { epoch = 0 })) (used-alike heap s fresh)
+store_through-alike heap (spot s) byte fresh = rw (block_at-still heap s.block) (go (block_at heap s.block) refl fresh)
   where
-    go : (x y : Result Block Stop) → Alike IsHarmless still_block (λ block. block_at heap s.block ≡ Some block) x y
-        → Alike IsHarmless (map still_block) (IsStored heap) (stored_in heap s byte x) (stored_in (map still_block heap) (record s { epoch = 0 }) byte y)
-    go (Ok block) y alike = (
-      ap (stored_in (map still_block heap) (record s { epoch = 0 }) byte) alike.0
-          ∙ ap Ok (put_block-still heap s.block (record block { cells = slice_set block.cells s.offset (Byte byte) })),
-      record { place = s.block; block = block; cells = slice_set block.cells s.offset (Byte byte); is_block = alike.1; is_after = refl },
-    )
-    go (Err kind) y alike = (ap (stored_in (map still_block heap) (record s { epoch = 0 }) byte) alike.0, alike.1)
+    go : (found : Option Block) → block_at heap s.block ≡ found → ((block : Block) → found ≡ Some block → s.epoch ≡ block.epoch)
+        → Alike IsHarmless (map still_block) (IsStored heap) (store_if heap s byte found)
+        (store_if (map still_block heap) (record s { epoch = 0 }) byte (option_map still_block found))
+    go None there fresh_here = (refl, λ pos misuse. misuse)
+    go (Some block) there fresh_here =
+        subst
+        (λ (at : Result ℕ HeapStop). Alike IsHarmless (map still_block) (IsStored heap)
+        (put_result heap s.block (stored s (cell.Byte byte ∷ []) block))
+        (put_result (map still_block heap) s.block (stored_at (cell.Byte byte ∷ []) (still_block block) at)))
+        (sym (place_for-still s 1 block (fresh_here block refl)))
+        (at_place_of (place_for s 1 block) refl)
+      where
+        at_place_of : (at : Result ℕ HeapStop) → place_for s 1 block ≡ at
+            → Alike IsHarmless (map still_block) (IsStored heap) (put_result heap s.block (stored_at (cell.Byte byte ∷ []) block at))
+            (put_result (map still_block heap) s.block (stored_at (cell.Byte byte ∷ []) (still_block block) at))
+        at_place_of (Ok at) is = (
+          ap Ok (put_block-still heap s.block (with_cells at (cell.Byte byte ∷ []) block)),
+          record {
+            place = s.block;
+            block = block;
+            cells = take at block.cells ++ (cell.Byte byte ∷ []) ++ drop (at + 1) block.cells;
+            is_block = there;
+            is_after = refl;
+          },
+        )
+        at_place_of (Err why) is = (refl, harmless_place s 1 block why (fresh_here block refl) is)
 
 -- the pointer that the handle's master pointer gives
 pub record IsMaster (heap : List Block) (value got : Value) : Type 0 where
@@ -179,7 +210,7 @@ derive_through-alike heap plain (handle named) = rw (block_at-still heap named) 
       record {
         named = named;
         block = block;
-        s = record { block = named; life = block.life; epoch = block.epoch; offset = 0 };
+        s = record { block = named; life = block.life; epoch = block.epoch; offset = integer 0 };
         is_handle = refl;
         is_block = found;
         is_spot = refl;
@@ -215,10 +246,7 @@ lock_through-alike on heap plain (handle named) = rw (block_at-still heap named)
         (lock_if on (map still_block heap) named (option_map still_block block))
     go None found = (refl, λ pos misuse. misuse)
     go (Some block) found =
-        subst
-        (λ (presence : Presence). Alike IsHarmless (map still_block) (IsLocked on heap named) (lock_set on heap named block presence)
-        (lock_set on (map still_block heap) named (still_block block) presence))
-        (sym (block_at-plain heap plain named block found).is_present)
+        rw ((block_at-plain heap plain named block found).is_present)
         (ap Ok (put_block-still heap named (record block { locked = on })), record { block = block; is_block = found; is_after = refl })
 
 -- the pointers that the expression uses are fresh

@@ -1,8 +1,9 @@
 -- Blocks of a heap by their numbers: after one is put instead of another, and after one is added.
-use Rattle.std.proofs.Common.{◌≡◌, ℕ, zero, suc, ◌+◌, ◌<◌, ◌≤◌, List, [], ◌∷◌, ◌++◌, length, ◌⊎◌, inl, inr, Option, Some, slice_get, slice_set, refl, sym, ap, ◌∙◌, subst, arith, add-one, suc-ne-zero}
+use Rattle.std.proofs.Common.{◌≡◌, ℕ, zero, suc, ◌+◌, ◌-◌, ◌<◌, ◌≤◌, List, [], ◌∷◌, ◌++◌, length, ◌⊎◌, inl, inr, Option, Some, slice_get, slice_set, refl, sym, ap, ◌∙◌, subst, arith, add-one, suc-ne-zero}
 use Rattle.std.proofs.lemmas.Option.{none-some, same_Some, slice_get_within}
-use Rattle.hs_meaning.specs.Heap.{block_at, put_block}
-use Rattle.hs_meaning.specs.declared.block.Block.{Block}
+use native.Mathlib.Numerals.{unary_clauses}
+use Rattle.hs_heap.specs.Blocks.{Block}
+use Rattle.hs_heap.specs.Memory.{block_at, put_block}
 use Rattle.hs_meaning.proofs.Runs.Still.{Each, IsPlain}
 
 -- a block that is found twice is one
@@ -34,12 +35,13 @@ slice_get-put (first ∷ blocks) (suc place) new (suc other) block found =
     found_after-suc place new other block (slice_get (slice_set blocks place new) other) (slice_get-put blocks place new other block found)
 
 -- a block that is put is found at its number, and the other blocks at theirs
-pub block_at-put : (heap : List Block) (place : ℕ) (new : Block) (named : ℕ) (block : Block) → block_at heap named ≡ Some block
-    → IsFoundAfter place new named block (block_at (put_block heap place new) named)
-block_at-put heap place new zero block found = absurd (none-some block found)
-block_at-put heap zero new (suc named) block found = inr (λ same. suc-ne-zero named same, found)
-block_at-put heap (suc place) new (suc named) block found =
-    found_after-suc place new named block (slice_get (slice_set heap place new) named) (slice_get-put heap place new named block found)
+pub block_at-put : (heap : List Block) (place : ℕ) (old new : Block) (named : ℕ) (block : Block) → block_at heap place ≡ Some old
+    → block_at heap named ≡ Some block → IsFoundAfter place new named block (block_at (put_block heap place new) named)
+block_at-put heap place old new zero block there found = absurd (none-some block found)
+block_at-put heap zero old new (suc named) block there found = absurd (none-some old there)
+block_at-put heap (suc place) old new (suc named) block there found =
+    simp unary_clauses
+    (found_after-suc place new named block (slice_get (slice_set heap place new) named) (slice_get-put heap place new named block found))
 
 -- a plain block put into a plain list leaves it plain
 slice_set-plain : (heap : List Block) (place : ℕ) (new : Block) → Each IsPlain heap → IsPlain new → Each IsPlain (slice_set heap place new)
@@ -49,8 +51,7 @@ slice_set-plain (first ∷ blocks) (suc place) new plain is_new = (plain.0, slic
 
 -- the same of a heap
 pub put_block-plain : (heap : List Block) (place : ℕ) (new : Block) → Each IsPlain heap → IsPlain new → Each IsPlain (put_block heap place new)
-put_block-plain heap zero new plain is_new = plain
-put_block-plain heap (suc place) new plain is_new = slice_set-plain heap place new plain is_new
+put_block-plain heap place new plain is_new = slice_set-plain heap (place - 1) new plain is_new
 
 -- a block that is in a list is in a longer one
 pub slice_get-append : (heap added : List Block) (place : ℕ) (block : Block) → slice_get heap place ≡ Some block → slice_get (heap ++ added) place ≡ Some block

@@ -14,14 +14,14 @@ use Rattle.hs_tree.specs.declared.straight.tree.Step.{Step}
 use Rattle.hs_tree.specs.declared.straight.tree.Step.TheVariants as form
 use Rattle.hs_tree.specs.declared.straight.tree.Straight.{Straight}
 use Rattle.hs_tree.specs.Straight.Fine.{is_declared, was_assigned, is_fine_expr, is_fine_step, are_fine_names, are_fine_steps}
+use Rattle.hs_heap.specs.Blocks.{Block, new_block}
+use Rattle.hs_heap.specs.Memory.{has_room}
+use Rattle.hs_heap.specs.declared.decision.Decision.{Decision}
 use Rattle.hs_meaning.specs.Value.{Value, handle, byte_of, char_of}
-use Rattle.hs_meaning.specs.Heap.{new_block, has_room}
 use Rattle.hs_meaning.specs.Straight.Run.{State, Halt, Ending, ◌>>=◌, at_place, assigned, store_through, next_decision, new_handle_powers, shifted_by, allocated, is_granted, locked_by, after, going_on, run_from, start, IsMisuse, IsSafe}
 use Rattle.hs_meaning.specs.Straight.StaleUses.{Use, IsStaleUse, IsCountOf, HasStaleUses, step_uses, expr_uses, uses_after}
 use Rattle.hs_meaning.specs.Straight.Along.{is_stale_after}
 use Rattle.hs_meaning.specs.Straight.AlongLaws.{IsStaleUse-from_along}
-use Rattle.hs_meaning.specs.declared.block.Block.{Block}
-use Rattle.hs_meaning.specs.declared.decision.Decision.{Decision}
 use Rattle.hs_meaning.specs.declared.input.Input.{Input}
 use Rattle.hs_meaning.proofs.Runs.Still.{still_value, still_block, still, Each, IsPlain, byte_of-still, live_bytes-still, shift_from-still, shift_from-nothing}
 use Rattle.hs_meaning.proofs.Runs.Alike.{IsHarmlessHalt, Alike, IsFresh, alike_at_place, alike_then, value_of-alike, IsFreshUse, store_through-alike, derive_through-alike, lock_through-alike, eval-alike}

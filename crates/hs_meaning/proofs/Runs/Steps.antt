@@ -10,13 +10,13 @@ use Rattle.hs_tree.specs.declared.straight.tree.Expr.{Expr}
 use Rattle.hs_tree.specs.declared.straight.tree.Step.{Step}
 use Rattle.hs_tree.specs.declared.straight.tree.Step.TheVariants as form
 use Rattle.hs_tree.specs.Straight.Fine.{assigns, kind_eq, is_declared}
+use Rattle.hs_heap.specs.Blocks.{Block, new_block}
+use Rattle.hs_heap.specs.Memory.{block_at, put_block}
+use Rattle.hs_heap.specs.Shift.{shift}
+use Rattle.hs_heap.specs.declared.decision.Decision.{Decision}
 use Rattle.hs_meaning.specs.Value.{Value, number, nil, handle, spot}
-use Rattle.hs_meaning.specs.Heap.{block_at, put_block, new_block}
-use Rattle.hs_meaning.specs.Shift.{shift}
 use Rattle.hs_meaning.specs.Straight.Run.{State, lookup, assigned, next_decision, new_handle_powers, shifted_by, is_granted, allocated, later_decisions}
 use Rattle.hs_meaning.specs.Straight.StaleUses.{concerns, is_locked_after}
-use Rattle.hs_meaning.specs.declared.block.Block.{Block}
-use Rattle.hs_meaning.specs.declared.decision.Decision.{Decision}
 use Rattle.hs_meaning.specs.declared.input.Input.{Input}
 use Rattle.hs_meaning.proofs.Runs.Still.{Each, IsPlain, IsShifted, shift_from-plain, length-shift_from, slice_get-shift_from, block_at-plain}
 use Rattle.hs_meaning.proofs.Runs.Alike.{IsStored, IsMaster, IsLockedThrough}
@@ -137,7 +137,7 @@ derive_next variables done state pos pointer from value got is_pointer is_handle
 -- a block put instead of one with the same epoch leaves all epochs
 blocks_put : (step : Step) (heap : List Block) (place : ℕ) (old new : Block) → block_at heap place ≡ Some old → new.epoch ≡ old.epoch
     → (named : ℕ) (block : Block) → block_at heap named ≡ Some block → IsBlockAfter step block (block_at (put_block heap place new) named)
-blocks_put step heap place old new is_old same named block found = go (block_at-put heap place new named block found)
+blocks_put step heap place old new is_old same named block found = go (block_at-put heap place old new named block is_old found)
   where
     go : IsFoundAfter place new named block (block_at (put_block heap place new) named) → IsBlockAfter step block (block_at (put_block heap place new) named)
     go (inl at) = record {
@@ -151,7 +151,7 @@ blocks_put step heap place old new is_old same named block found = go (block_at-
 locks_put : (heap : List Block) (place : ℕ) (old new : Block) → block_at heap place ≡ Some old → new.locked ≡ old.locked
     → (named : ℕ) (block later : Block) → block_at heap named ≡ Some block → block_at (put_block heap place new) named ≡ Some later
     → later.locked ≡ block.locked
-locks_put heap place old new is_old same named block later found is_later = go (block_at-put heap place new named block found)
+locks_put heap place old new is_old same named block later found is_later = go (block_at-put heap place old new named block is_old found)
   where
     go : IsFoundAfter place new named block (block_at (put_block heap place new) named) → later.locked ≡ block.locked
     go (inl at) =
@@ -224,7 +224,7 @@ lock_next on variables done state pos locked (handle held) heap declared found s
     (put_block-plain state.heap held new kept.is_plain (record { is_present = plain.is_present; is_kept = plain.is_kept }))
     (blocks_put (lock_form on pos locked) state.heap held set.block new set.is_block refl)
     (λ variable named block later is_handle is_held is_block is_later before now.
-    still_locked variable named block later is_handle is_held is_later before now (block_at-put state.heap held new named block is_block)))
+    still_locked variable named block later is_handle is_held is_later before now (block_at-put state.heap held set.block new named block set.is_block is_block)))
   where
     new : Block
     new = record set.block { locked = on }

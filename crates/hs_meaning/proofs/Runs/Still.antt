@@ -1,16 +1,15 @@
 -- The still state beside a moving one: the same values and blocks, with no epochs and no decisions to come. What a run
 -- reads of a state is in the still one as it is in the moving one, and a shift is not seen there.
-use Rattle.std.proofs.Common.{◌≡◌, ℕ, zero, suc, ◌+◌, ◌==◌, Bool, true, false, not, ◌&&◌, ◌||◌, List, [], ◌∷◌, map, length, fold, Some, option_map, slice_get, refl, sym, ap, ◌∙◌, subst, if◌then◌else◌, true≢false}
+use Rattle.std.proofs.Common.{◌≡◌, ℕ, zero, suc, ◌+◌, ◌-◌, ◌==◌, Bool, true, false, not, ◌&&◌, ◌||◌, List, [], ◌∷◌, map, length, fold, Some, Ok, option_map, slice_get, refl, sym, ap, ◌∙◌, subst, if◌then◌else◌, true≢false}
 use Rattle.std.proofs.lemmas.List.{map-set}
 use Rattle.std.proofs.lemmas.Bool.{and_right, not_from_true}
 use Rattle.std.proofs.lemmas.Option.{none-some, same_Some, slice_get-map}
 use Rattle.hs_meaning.specs.Value.{Value, number, nil, handle, spot, byte_of}
-use Rattle.hs_meaning.specs.Heap.{block_at, put_block, live_size, live_bytes}
-use Rattle.hs_meaning.specs.Shift.{Powers, is_moved, is_purged, is_named, is_present, is_loose, shifted, shift_from}
+use Rattle.hs_heap.specs.Blocks.{Block, standing}
+use Rattle.hs_heap.specs.Memory.{block_at, put_block, live_bytes}
+use Rattle.hs_heap.specs.Shift.{Powers, is_moved, is_purged, is_named, is_present, is_loose, shifted, shift_from}
 use Rattle.hs_meaning.specs.Straight.Run.{State, lookup, next_decision, new_handle_powers}
-use Rattle.hs_meaning.specs.declared.block.Block.{Block}
-use Rattle.hs_meaning.specs.declared.block.Presence.TheVariants.{Present}
-use Rattle.hs_meaning.specs.declared.decision.Decision.{Decision}
+use Rattle.hs_heap.specs.declared.decision.Decision.{Decision}
 
 -- the value on the heap that never moves
 abbrev pub still_value : Value → Value
@@ -38,7 +37,7 @@ Each P (x ∷ xs) = P x × Each P xs
 
 -- a block that a straight program can have: present, and not purgeable
 pub record IsPlain (block : Block) : Type 0 where
-  pub is_present : block.presence ≡ Present
+  pub is_present : standing block.presence ≡ Ok true
   pub is_kept : block.purgeable ≡ false
 
 -- no pointer has a byte, so the still value has the byte of the value
@@ -67,15 +66,14 @@ block_at-still heap (suc place) = slice_get-map still_block heap place
 -- to put a block and then to still the heap is to put the still block
 pub put_block-still : (heap : List Block) (n : ℕ) (block : Block)
     → put_block (map still_block heap) n (still_block block) ≡ map still_block (put_block heap n block)
-put_block-still heap zero block = refl
-put_block-still heap (suc place) block = sym (map-set still_block heap place block)
+put_block-still heap n block = sym (map-set still_block heap (n - 1) block)
 
 -- a sum of what stilling keeps is kept
 fold-still : (heap : List Block) (before : ℕ)
-    → fold (λ total block. total + live_size block.presence (length block.cells)) before (map still_block heap)
-    ≡ fold (λ total block. total + live_size block.presence (length block.cells)) before heap
+    → fold (λ total block. total + length block.cells) before (map still_block heap)
+    ≡ fold (λ total block. total + length block.cells) before heap
 fold-still [] before = refl
-fold-still (block ∷ blocks) before = fold-still blocks (before + live_size block.presence (length block.cells))
+fold-still (block ∷ blocks) before = fold-still blocks (before + length block.cells)
 
 -- the still heap has as many live bytes
 pub live_bytes-still : (heap : List Block) → live_bytes (map still_block heap) ≡ live_bytes heap
