@@ -11,6 +11,7 @@ use Rattle.hs_heap.proofs.Counting.{kept_same}
 abbrev pub AreBelow : List Block → ℕ → Type 0
 AreBelow blocks shifts = (place : ℕ) (block : Block) → slice_get blocks place ≡ Some block → block.epoch ≤ shifts
 
+-- one block that keeps its epoch
 below_set : (blocks : List Block) (place shifts : ℕ) (old other new : Block) → old ≡ get_or blocks place other → new.epoch ≡ old.epoch
     → AreBelow blocks shifts → AreBelow (slice_set blocks place new) shifts
 below_set [] place shifts old other new is same below at block found = absurd (none-some block found)
@@ -22,6 +23,7 @@ below_set (first ∷ blocks) (suc place) shifts old other new is same below zero
 below_set (first ∷ blocks) (suc place) shifts old other new is same below (suc at) block found =
     below_set blocks place shifts old other new is same (λ there. below (suc there)) at block found
 
+-- one block more
 below_push : (blocks : List Block) (shifts : ℕ) (new : Block) → new.epoch ≤ shifts → AreBelow blocks shifts → AreBelow (blocks ++ new ∷ []) shifts
 below_push [] shifts new low below zero block found = subst (λ (it : Block). it.epoch ≤ shifts) (same_Some new block found) low
 below_push [] shifts new low below (suc at) block found = absurd (none-some block found)
@@ -47,6 +49,7 @@ stays blocks marks live shifts place old other new kept there is as_large same =
   marked_set blocks marks shifts place old other new kept.1 is same,
 )
 
+-- zeros are marks of no shift
 no_mark : (count place shifts : ℕ) → get_or (replicate count 0) place 0 ≤ shifts
 no_mark zero place shifts = omega arith
 no_mark (suc count) zero shifts = omega arith

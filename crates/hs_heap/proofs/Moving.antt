@@ -91,7 +91,8 @@ module _ (from to : Spot) (count : ℕ) (first second : Block) where
 
 -- ---- in the heap
 
-module _ (blocks : List Block) (shifts : ℕ) (heap : Memory) (from to : Spot) (count : ℕ) (a b other another : Block) (view : record { blocks = blocks; shifts = shifts } ≡ heap)
+module _ (blocks : List Block) (shifts : ℕ) (heap : Memory) (from to : Spot) (count : ℕ) (a b other another : Block)
+    (view : record { blocks = blocks; shifts = shifts } ≡ heap)
     (is-a : a ≡ get_or blocks (from.block - 1) other) (is-b : b ≡ get_or blocks (to.block - 1) another) (first second : Block)
     (one : block_at heap.blocks from.block ≡ Some first) (two : block_at heap.blocks to.block ≡ Some second) where
   first_at : slice_get blocks (from.block - 1) ≡ Some first

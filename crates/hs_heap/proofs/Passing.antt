@@ -86,6 +86,7 @@ there_numbered f (block ∷ blocks) (suc place) number n is =
 
 -- ---- the place of a number
 
+-- a number from 1 on has the place before it
 place_in : (place made : ℕ) → place < made → place_of (suc place) made ≡ Some place
 place_in place made within = rw (both place made within) (ap Some (less place))
   where
@@ -95,6 +96,7 @@ place_in place made within = rw (both place made within) (ap Some (less place))
     less : (place : ℕ) → suc place - 1 ≡ place
     less place = omega arith
 
+-- and if that is past the last block, it has none
 place_out : (place made : ℕ) → made ≤ place → place_of (suc place) made ≡ None
 place_out place made past = rw (not_both place made past) refl
   where
@@ -145,6 +147,7 @@ abbrev IsOneMore : ℕ → List ℕ → List ℕ → Type 0
 IsOneMore number done more = (k : ℕ) → list_any (λ n. n == k) more ≡ (list_any (λ n. n == k) done || number == k)
 
 module _ (f : Block → Block) (done more : List ℕ) (number : ℕ) (is : IsOneMore number done more) (blocks : List Block) where
+  -- one block: it was changed if it was named, and it is changed if it is this one
   either : (block : Block) (named here : Bool) → ((named && here) ≡ true → f (f block) ≡ f block)
       → (if here then f (if named then f block else block) else (if named then f block else block))
       ≡ (if named || here then f block else block)
@@ -153,7 +156,7 @@ module _ (f : Block → Block) (done more : List ℕ) (number : ℕ) (is : IsOne
   either block false true again = refl
   either block false false again = refl
 
-  -- the block of the number was not changed yet, or to change it again does nothing
+  -- all blocks, if to change again the one that was named does nothing
   changed_more : ((place : ℕ) (block : Block) → place < length blocks → suc place ≡ number → list_any (λ n. n == number) done ≡ true
       → f (f block) ≡ f block)
       → changed_at f number (with_each true (These done) f blocks) ≡ with_each true (These more) f blocks
@@ -210,6 +213,7 @@ pub record AreMarked (made shift : ℕ) (done marks : List ℕ) : Type 0 where
   pub told : (place : ℕ) → place < made → (get_or marks place 0 == shift) ≡ list_any (λ n. n == suc place) done
 
 module _ (made shift : ℕ) (done more marks : List ℕ) (marked : AreMarked made shift done marks) where
+  -- a block that has the mark was named
   marked_done : (number : ℕ) → has_mark shift marks (place_of number made) ≡ true → list_any (λ n. n == number) done ≡ true
   marked_done zero has = absurd (true≢false (sym has))
   marked_done (suc place) has = go (below place made)
@@ -221,6 +225,7 @@ module _ (made shift : ℕ) (done more marks : List ℕ) (marked : AreMarked mad
       go (inl outside) = absurd (true≢false (sym has ∙ ap (has_mark shift marks) (place_out place made outside)))
       go (inr within) = sym (marked.told place within) ∙ ap (has_mark shift marks) (sym (place_in place made within)) ∙ has
 
+  -- and one that has it not was not
   unmarked_new : (number : ℕ) → has_mark shift marks (place_of number made) ≡ false → (place : ℕ) → place < made → suc place ≡ number
       → list_any (λ n. n == number) done ≡ false
   unmarked_new number not_marked place within at =

@@ -62,10 +62,12 @@ passes_shift powers decision shifts blocks left below =
 -- ---- what a shift keeps
 
 module _ (powers : Powers) (decision : Decision) where
+  -- as many blocks
   pub length_shift : (n : ℕ) (blocks : List Block) → length (shift_from powers decision n blocks) ≡ length blocks
   length_shift n [] = refl
   length_shift n (block ∷ blocks) = ap suc (length_shift (suc n) blocks)
 
+  -- a purged block keeps its cells
   same_cells : (n : ℕ) (block : Block) → length (shifted powers decision n block).cells ≡ length block.cells
   same_cells n block = go (is_purged powers decision n block) (is_moved powers decision n block)
     where
@@ -76,6 +78,7 @@ module _ (powers : Powers) (decision : Decision) where
       go false true = refl
       go false false = refl
 
+  -- so live bytes stay
   same_bytes : (n : ℕ) (blocks : List Block) → live_bytes (shift_from powers decision n blocks) ≡ live_bytes blocks
   same_bytes n [] = refl
   same_bytes n (block ∷ blocks) =
@@ -92,8 +95,8 @@ module _ (powers : Powers) (decision : Decision) where
       ap Some (ap (λ m. shifted powers decision m first) (sym (omega (arith, at))) ∙ ap (shifted powers decision k) (same_Some first block found))
   there_after n (first ∷ blocks) (suc place) k block at found = there_after (suc n) blocks place k block (omega (arith, at)) found
 
-  -- and each block after it was there before
-  pub epochs_rise : (n : ℕ) (block : Block)
+  -- its epoch rises by at most one
+  epochs_rise : (n : ℕ) (block : Block)
       → (block.epoch ≤ (shifted powers decision n block).epoch) × ((shifted powers decision n block).epoch ≤ block.epoch + 1)
   epochs_rise n block = go (is_purged powers decision n block) (is_moved powers decision n block)
     where
@@ -106,6 +109,7 @@ module _ (powers : Powers) (decision : Decision) where
       go false true = (omega arith, omega arith)
       go false false = (omega arith, omega arith)
 
+  -- by place: epochs rise by at most one
   pub EpochsRise-shift : (blocks : List Block) → EpochsRise blocks (shift powers decision blocks)
   EpochsRise-shift blocks place before after one two =
       subst (λ (it : Block). (before.epoch ≤ it.epoch) × (it.epoch ≤ before.epoch + 1))
@@ -113,6 +117,7 @@ module _ (powers : Powers) (decision : Decision) where
       (sym (there_after 1 blocks place (suc place) before (omega arith) one) ∙ two))
       (epochs_rise (suc place) before)
 
+  -- by place: a block that is neither moved nor purged stays
   pub OthersStay-shift : (blocks : List Block) → OthersStay powers decision blocks (shift powers decision blocks)
   OthersStay-shift blocks place block found other =
       there_after 1 blocks place (suc place) block (omega arith) found
@@ -122,6 +127,7 @@ module _ (powers : Powers) (decision : Decision) where
           → shifted powers decision (suc place) block ≡ block
       stays parts = rw (parts.1, parts.0) refl
 
+  -- a locked one is neither
   pub LockedStay-shift : (blocks : List Block) → LockedStay blocks (shift powers decision blocks)
   LockedStay-shift blocks place block found locked =
       OthersStay-shift blocks place block found
@@ -144,7 +150,7 @@ module _ (powers : Powers) (decision : Decision) where
   epochs_after n (first ∷ blocks) shifts (suc place) block below found =
       epochs_after (suc n) blocks shifts place block (λ at. below (suc at)) found
 
-  -- the heap keeps what it keeps
+  -- bytes stay within their limits
   pub kept_shift : (blocks : List Block) (live : ℕ) → IsKept blocks live → IsKept (shift powers decision blocks) live
   kept_shift blocks live kept =
       record {
@@ -153,6 +159,7 @@ module _ (powers : Powers) (decision : Decision) where
         numbers = subst (λ n. n ≤ 4294967295) (sym (length_shift 1 blocks)) kept.numbers;
       }
 
+  -- and marks and epochs within the number of shifts
   pub marked_shift : (blocks : List Block) (marks after : List ℕ) (shifts : ℕ) → IsMarked blocks marks shifts
       → length (shift powers decision blocks) ≤ length after → ((place : ℕ) → get_or after place 0 ≤ shifts + 1)
       → IsMarked (shift powers decision blocks) after (shifts + 1)

@@ -2,14 +2,14 @@
 --     purged, relocated                        a block after it was purged or moved, if it permits that
 --     with_each may which change blocks        the blocks, with a change of those that are named, if the routine may
 --     changed_at change number blocks          the blocks, with a change of the one of that number, if it was made
---     moved_at shift marks number blocks       the same of a move, if the block has another mark; marked_at has the marks after it
+--     moved_at shift marks number blocks       the same of a move, if the block has another mark; marked_by has the marks after it
 use Rattle.std.specs.Prelude.{ℕ, suc, ◌+◌, ◌-◌, ◌==◌, nat_le, min, Bool, ◌&&◌, List, [], ◌∷◌, length, slice_get, slice_set, get_or, Option, Some, None, false, if◌then◌else◌}
 use Rattle.hs_heap.specs.Blocks.{Block}
 use Rattle.hs_heap.specs.Shift.{is_loose, is_named}
 use Rattle.hs_heap.specs.declared.decision.Which.{Which}
 use Rattle.hs_heap.specs.declared.presence.Presence.TheVariants.{Purged}
 
--- The next epoch. There is none after the last one, which no heap reaches.
+-- The next epoch, up to the last one. No heap makes so many shifts that it matters.
 abbrev pub raised : ℕ → ℕ
 raised epoch = min (epoch + 1) 4294967295
 
@@ -65,6 +65,10 @@ mark_place shift marks (Some place) = slice_set marks place shift
 -- the marks of so many blocks after the one of that number was moved
 abbrev pub marked_at : ℕ → ℕ → ℕ → List ℕ → List ℕ
 marked_at shift made number marks = mark_place shift marks (place_of number made)
+
+-- the same of the blocks themselves
+abbrev pub marked_by : ℕ → ℕ → List Block → List ℕ → List ℕ
+marked_by shift number blocks marks = marked_at shift (length blocks) number marks
 
 -- the blocks after the one of that number was moved, if it has another mark
 abbrev pub moved_at : ℕ → List ℕ → ℕ → List Block → List Block

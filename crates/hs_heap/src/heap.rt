@@ -25,7 +25,7 @@ const MOST_BLOCKS: usize = 4_294_967_295;
 pub struct Heap {
     alloc: Global,
     rows: Vec<Row>,
-    /// For each block, the number of the last shift that moved it by a list.
+    /// For each block, the number of the last shift that moved it by a list. There may be one more.
     marks: Vec<u32>,
     /// The bytes of all blocks.
     live: usize,

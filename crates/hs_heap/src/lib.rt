@@ -1,5 +1,5 @@
-//! The heap of relocatable blocks. `specs/Blocks.antt` has what each role does to a block, and `specs/Memory.antt` what a call does to the
-//! heap.
+//! The heap of relocatable blocks. `specs/Blocks.antt` has what each role does to a block, `specs/Memory.antt` what a call does to the heap, and
+//! `specs/Shift.antt` what a schedule does to it.
 #![tactic(auto)]
 
 mod cell;

@@ -1,7 +1,7 @@
 //! The passes of a shift: blocks are purged first, and those that are left are moved.
 
 ghost use Rattle.std.specs.Prelude.{◌≡◌, ◌≤◌, ◌<◌, ℕ, true, length, map, get_or, IfSome};
-ghost use Rattle.hs_heap.specs.Passes.{purged, relocated, with_each, place_of, changed_at, marked_at, moved_at};
+ghost use Rattle.hs_heap.specs.Passes.{purged, relocated, with_each, place_of, changed_at, marked_by, moved_at};
 ghost use Rattle.hs_heap.specs.declared.decision.Which.TheVariants.{These};
 
 use crate::decision::Which;
@@ -61,7 +61,7 @@ pub(crate) fn purge(rows: &mut Vec<Row>, purges: bool, which: &Which)
 fn relocate_at(rows: &mut Vec<Row>, marks: &mut Vec<u32>, number: u32, shift: u32)
     requires long { length rows.old.items ≤ length marks.old.items }
     ensures rows { rows.new.items ≡ moved_at shift marks.old.items number rows.old.items }
-    ensures marks { marks.new.items ≡ marked_at shift (length rows.old.items) number marks.old.items }
+    ensures marks { marks.new.items ≡ marked_by shift number rows.old.items marks.old.items }
 {
     if let Some(place) = place_of(number, rows.len()) {
         if marks[place] != shift {

@@ -255,7 +255,7 @@ fn a_moved_block_has_a_new_epoch(rt: HostRuntime) -> Result<(), Fail> {
     Ok(())
 }
 
-/// Why a block that was purged has no size, and cannot be locked; and why one more byte has no room beside it.
+/// Why a block that was purged has no size, and cannot be locked; and why there is no room for a block that would fit if its bytes did not count.
 fn purged(alloc: Global) -> Result<(Option<HeapStop>, Option<HeapStop>, Option<HeapEnd>), HeapEnd> {
     let mut heap = Heap::new(alloc);
     let b = heap.new_block(4)?;

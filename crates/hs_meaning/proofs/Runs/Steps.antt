@@ -224,7 +224,8 @@ lock_next on variables done state pos locked (handle held) heap declared found s
     (put_block-plain state.heap held new kept.is_plain (record { is_present = plain.is_present; is_kept = plain.is_kept }))
     (blocks_put (lock_form on pos locked) state.heap held set.block new set.is_block refl)
     (λ variable named block later is_handle is_held is_block is_later before now.
-    still_locked variable named block later is_handle is_held is_later before now (block_at-put state.heap held set.block new named block set.is_block is_block)))
+    still_locked variable named block later is_handle is_held is_later before now
+    (block_at-put state.heap held set.block new named block set.is_block is_block)))
   where
     new : Block
     new = record set.block { locked = on }

@@ -12,4 +12,5 @@ invariant_of-self c =
 
 -- the row acts as the role says
 pub returns-clause-acts : goal.returns-clause-acts
-returns-clause-acts c block there = acts (with_purge_bit c.args.on) _ _ _ _ _ _ _ _ _ c.self.view_is c.index_mut.ensures.value c.set_purge_bit.ensures.acts there
+returns-clause-acts c block there =
+    acts (with_purge_bit c.args.on) _ _ _ _ _ _ _ _ _ c.self.view_is c.index_mut.ensures.value c.set_purge_bit.ensures.acts there

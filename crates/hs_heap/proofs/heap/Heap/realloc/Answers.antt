@@ -31,5 +31,5 @@ invariant_of-self c = (
 -- the row acts as the role says
 pub returns-clause-acts : goal.returns-clause-acts
 returns-clause-acts c block there =
-    reshapes _ _ _ _ _ c.self.invariant.0 (within _ _ _ _ c.self.view_is c.requires.made) c.index_mut-row.ensures.value _ has_life (reallocated c.args.size) _ _ _ _
-    c.self.view_is (rw c.bytes.ensures at c.reallocate-done.ensures.reshapes) there
+    reshapes _ _ _ _ _ c.self.invariant.0 (within _ _ _ _ c.self.view_is c.requires.made) c.index_mut-row.ensures.value _ has_life
+    (reallocated c.args.size) _ _ _ _ c.self.view_is (rw c.bytes.ensures at c.reallocate-done.ensures.reshapes) there
