@@ -1,3 +1,4 @@
 pub mod Heap
+pub mod InputTexts
 pub mod Straight
 pub mod Value

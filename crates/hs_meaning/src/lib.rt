@@ -3,8 +3,10 @@
 #![tactic(auto)]
 
 mod input;
+mod input_text;
 mod outcome;
 pub mod straight;
 
 pub use input::{Input, Words};
+pub use input_text::{InputError, read_input};
 pub use outcome::{Outcome, Stop};

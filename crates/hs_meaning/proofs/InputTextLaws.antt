@@ -1,0 +1,75 @@
+-- What the readers of an input's text need of its definitions.
+use Rattle.std.proofs.Common.{◌≡◌, ℕ, ◌==◌, ◌+◌, ◌-◌, ◌*◌, ◌<◌, ◌≤◌, length, take, drop, get_or, Bool, true, false, List, [], ◌∷◌, ◌++◌, Option, Some, None, refl, arith, append_assoc, take_all, ap, sym, ◌∙◌}
+use Rattle.std.specs.Prelude.{count_by, option_map, nat_lt, if◌then◌else◌}
+use Rattle.std.specs.Char.{digit_value}
+use Rattle.std.proofs.lemmas.Bool.Decides.{nat_tests}
+use Rattle.std.proofs.lemmas.List.{drop_more}
+use Rattle.std.proofs.lemmas.List.Sums.{count_by-le-length}
+use Rattle.std.proofs.lemmas.Iterator.Consumers.{YieldsList-at, YieldsList-turn, YieldsList-end}
+use Rattle.std.proofs.lemmas.Iterator.Splits.{YieldsList-from_slice_split}
+use Rattle.std.specs.Fn.{CalledAt}
+use Rattle.std.specs.Iterator.{Yields}
+use Rattle.std.specs.Slice.Iter.{split_rest, split_done, split_callee, split_steps}
+use Rattle.std.specs.declared.slice.Split.{Split}
+use denote.Param.Members.{Mut}
+use denote.Ref.{Bor}
+use Rattle.hs_meaning.specs.declared.input.Input.{Input}
+use Rattle.hs_meaning.specs.InputTexts.{◌>>=◌, hex_byte, hex_bytes, value_after, within, item_of, then_line, read_from, lines}
+
+-- a value only grows with more digits: if it is too large, the number is
+pub too_large : (least most value : ℕ) (rest : List ℕ) → most < value → within least most (value_after value rest) ≡ None
+too_large least most value [] large = grind (arith, nat_tests)
+too_large least most value (byte ∷ rest) large = by_test (nat_lt (digit_value byte) 10) (too_large least most (value * 10 + digit_value byte) rest (omega arith))
+  where
+    by_test : (test : Bool) → within least most (value_after (value * 10 + digit_value byte) rest) ≡ None
+        → within least most ((if test then Some (digit_value byte) else None) >>= (λ ones. value_after (value * 10 + ones) rest)) ≡ None
+    by_test true later = later
+    by_test false later = refl
+
+-- one byte more is read
+pub hex_bytes-more : (bytes : List ℕ) (high low byte : ℕ) (rest : List ℕ) → hex_byte high low ≡ Some byte
+    → option_map (λ more. bytes ++ more) (hex_bytes (high ∷ low ∷ rest)) ≡ option_map (λ more. (bytes ++ byte ∷ []) ++ more) (hex_bytes rest)
+hex_bytes-more bytes high low byte rest is = rw is (by_cases (hex_bytes rest))
+  where
+    by_cases : (read : Option (List ℕ))
+        → option_map (λ more. bytes ++ more) (read >>= (λ more. Some (byte ∷ more))) ≡ option_map (λ more. (bytes ++ byte ∷ []) ++ more) read
+    by_cases None = refl
+    by_cases (Some more) = simp append_assoc
+
+-- the same of a text that has a pair of digits
+pub hex_bytes-pair : (bytes text : List ℕ) (byte : ℕ) → 2 ≤ length text → hex_byte (get_or text 0 0) (get_or text 1 0) ≡ Some byte
+    → option_map (λ more. bytes ++ more) (hex_bytes text) ≡ option_map (λ more. (bytes ++ byte ∷ []) ++ more) (hex_bytes (take (length text - 2) (drop 2 text)))
+hex_bytes-pair bytes [] byte pair is = absurd (omega arith)
+hex_bytes-pair bytes (odd ∷ []) byte pair is = absurd (omega arith)
+hex_bytes-pair bytes (high ∷ low ∷ rest) byte pair is =
+    hex_bytes-more bytes high low byte rest is
+    ∙ ap (λ left. option_map (λ more. (bytes ++ byte ∷ []) ++ more) (hex_bytes left)) (sym (take_all (length (high ∷ low ∷ rest) - 2) rest (omega arith)))
+
+-- one line more is read
+pub read_from-more : (number : ℕ) (input : Input) (pieces : List (List ℕ)) (at : ℕ) (line : List ℕ) → at < length pieces → line ≡ get_or pieces at line
+    → read_from number input (drop at pieces) ≡ then_line number input (item_of line) (λ more. read_from (number + 1) more (drop (at + 1) pieces))
+read_from-more number input pieces at line below is =
+    ap (read_from number input) (drop_more pieces at line below)
+    ∙ ap (λ piece. then_line number input (item_of piece) (λ more. read_from (number + 1) more (drop (at + 1) pieces))) (sym is)
+
+-- a `for` over the pieces between line feeds, made by that `split`, is at the line that follows those before
+pub line_turn : {F : Type 0} {g : Mut F (Bor ℕ × Unit {0}) Bool} {f : F} {r : Option (Bor (List ℕ))} {line : Bor (List ℕ)} (text : List ℕ)
+    (split s t u : Split ℕ F) (before : List (Bor (List ℕ))) → split_rest split ≡ text → split_done split ≡ false → split_callee split ≡ f → s ≡ split
+    → Yields (split_steps g) s before t → r ≡ Some line → split_steps g t r u
+    → ((x : ℕ) (b : Bool) (q : F) → CalledAt g f x b q → (q ≡ f) × (b ≡ (x == 10)))
+    → (length before < length (lines text)) × (line.now ≡ get_or (lines text) (length before) line.now)
+line_turn {g = g} {r = r} {line = line} text split s t u before rest done callee same yielded is step tells =
+    YieldsList-turn (YieldsList-at same (YieldsList-from_slice_split g (λ byte. byte == 10) text rest done callee tells)) before t yielded r u line is step
+
+-- at its end, it was at each
+pub line_end : {F : Type 0} {g : Mut F (Bor ℕ × Unit {0}) Bool} {f : F} {r : Option (Bor (List ℕ))} (text : List ℕ)
+    (split s t u : Split ℕ F) (before : List (Bor (List ℕ))) → split_rest split ≡ text → split_done split ≡ false → split_callee split ≡ f → s ≡ split
+    → Yields (split_steps g) s before t → r ≡ None → split_steps g t r u
+    → ((x : ℕ) (b : Bool) (q : F) → CalledAt g f x b q → (q ≡ f) × (b ≡ (x == 10)))
+    → length before ≡ length (lines text)
+line_end {g = g} {r = r} text split s t u before rest done callee same yielded is step tells =
+    (YieldsList-end (YieldsList-at same (YieldsList-from_slice_split g (λ byte. byte == 10) text rest done callee tells)) before t yielded r u is step).1
+
+-- a text has no more line feeds than bytes
+pub few_line_feeds : (text : List ℕ) → count_by (λ byte. byte == 10) text ≤ length text
+few_line_feeds text = count_by-le-length (λ byte. byte == 10) text
