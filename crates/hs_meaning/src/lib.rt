@@ -3,6 +3,8 @@
 #![tactic(auto)]
 
 mod input;
+#[cfg(test)]
+mod input_tests;
 mod input_text;
 mod outcome;
 pub mod straight;
