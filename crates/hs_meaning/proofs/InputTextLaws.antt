@@ -5,6 +5,7 @@ use Rattle.std.specs.Char.{digit_value}
 use Rattle.std.proofs.lemmas.Bool.Decides.{nat_tests}
 use Rattle.std.proofs.lemmas.List.{drop_more}
 use Rattle.std.proofs.lemmas.List.Sums.{count_by-le-length}
+use Rattle.std.proofs.lemmas.Iterator.{YieldsList}
 use Rattle.std.proofs.lemmas.Iterator.Consumers.{YieldsList-at, YieldsList-turn, YieldsList-end}
 use Rattle.std.proofs.lemmas.Iterator.Splits.{YieldsList-from_slice_split}
 use Rattle.std.specs.Fn.{CalledAt}
@@ -19,7 +20,8 @@ use Rattle.hs_meaning.specs.InputTexts.{◌>>=◌, hex_byte, hex_bytes, value_af
 -- a value only grows with more digits: if it is too large, the number is
 pub too_large : (least most value : ℕ) (rest : List ℕ) → most < value → within least most (value_after value rest) ≡ None
 too_large least most value [] large = grind (arith, nat_tests)
-too_large least most value (byte ∷ rest) large = by_test (nat_lt (digit_value byte) 10) (too_large least most (value * 10 + digit_value byte) rest (omega arith))
+too_large least most value (byte ∷ rest) large =
+    by_test (nat_lt (digit_value byte) 10) (too_large least most (value * 10 + digit_value byte) rest (omega arith))
   where
     by_test : (test : Bool) → within least most (value_after (value * 10 + digit_value byte) rest) ≡ None
         → within least most ((if test then Some (digit_value byte) else None) >>= (λ ones. value_after (value * 10 + ones) rest)) ≡ None
@@ -52,23 +54,22 @@ read_from-more number input pieces at line below is =
     ap (read_from number input) (drop_more pieces at line below)
     ∙ ap (λ piece. then_line number input (item_of piece) (λ more. read_from (number + 1) more (drop (at + 1) pieces))) (sym is)
 
--- a `for` over the pieces between line feeds, made by that `split`, is at the line that follows those before
-pub line_turn : {F : Type 0} {g : Mut F (Bor ℕ × Unit {0}) Bool} {f : F} {r : Option (Bor (List ℕ))} {line : Bor (List ℕ)} (text : List ℕ)
-    (split s t u : Split ℕ F) (before : List (Bor (List ℕ))) → split_rest split ≡ text → split_done split ≡ false → split_callee split ≡ f → s ≡ split
-    → Yields (split_steps g) s before t → r ≡ Some line → split_steps g t r u
-    → ((x : ℕ) (b : Bool) (q : F) → CalledAt g f x b q → (q ≡ f) × (b ≡ (x == 10)))
-    → (length before < length (lines text)) × (line.now ≡ get_or (lines text) (length before) line.now)
-line_turn {g = g} {r = r} {line = line} text split s t u before rest done callee same yielded is step tells =
-    YieldsList-turn (YieldsList-at same (YieldsList-from_slice_split g (λ byte. byte == 10) text rest done callee tells)) before t yielded r u line is step
+-- a `for` over the pieces of the text between line feeds, which `split` made, after those lines
+module _ {F : Type 0} {g : Mut F (Bor ℕ × Unit {0}) Bool} {f : F} (text : List ℕ) (split s t u : Split ℕ F) (before : List (Bor (List ℕ)))
+    (yielded : Yields (split_steps g) s before t) (same : s ≡ split) (rest : split_rest split ≡ text) (done : split_done split ≡ false)
+    (closure : split_callee split ≡ f) (tells : (x : ℕ) (b : Bool) (q : F) → CalledAt g f x b q → (q ≡ f) × (b ≡ (x == 10))) where
+  -- it gives the lines
+  gives_lines : YieldsList (split_steps g) (λ line. line.now) s (lines text)
+  gives_lines = YieldsList-at same (YieldsList-from_slice_split g (λ byte. byte == 10) text rest done closure tells)
 
--- at its end, it was at each
-pub line_end : {F : Type 0} {g : Mut F (Bor ℕ × Unit {0}) Bool} {f : F} {r : Option (Bor (List ℕ))} (text : List ℕ)
-    (split s t u : Split ℕ F) (before : List (Bor (List ℕ))) → split_rest split ≡ text → split_done split ≡ false → split_callee split ≡ f → s ≡ split
-    → Yields (split_steps g) s before t → r ≡ None → split_steps g t r u
-    → ((x : ℕ) (b : Bool) (q : F) → CalledAt g f x b q → (q ≡ f) × (b ≡ (x == 10)))
-    → length before ≡ length (lines text)
-line_end {g = g} {r = r} text split s t u before rest done callee same yielded is step tells =
-    (YieldsList-end (YieldsList-at same (YieldsList-from_slice_split g (λ byte. byte == 10) text rest done callee tells)) before t yielded r u is step).1
+  -- it is at the next line
+  pub line_turn : {r : Option (Bor (List ℕ))} {line : Bor (List ℕ)} → r ≡ Some line → split_steps g t r u
+      → (length before < length (lines text)) × (line.now ≡ get_or (lines text) (length before) line.now)
+  line_turn {r = r} {line = line} is step = YieldsList-turn gives_lines before t yielded r u line is step
+
+  -- at its end, it was at each line
+  pub line_end : {r : Option (Bor (List ℕ))} → r ≡ None → split_steps g t r u → length before ≡ length (lines text)
+  line_end {r = r} is step = (YieldsList-end gives_lines before t yielded r u is step).1
 
 -- a text has no more line feeds than bytes
 pub few_line_feeds : (text : List ℕ) → count_by (λ byte. byte == 10) text ≤ length text

@@ -80,7 +80,7 @@ signed None text = option_map pos (number_in 0 4294967295 text)
 abbrev pub word_of : List ℕ → Option ℕ
 word_of text = option_map (cast_unsigned w32) (signed (after (codes "-") text) text)
 
--- what a line says that is not empty, by what follows each of the three words; no line begins with two of them
+-- what a line that is not empty says, by what follows each of the three words at its front; no line begins with two of them
 abbrev pub said : Option (List ℕ) → Option (List ℕ) → Option (List ℕ) → Option Item
 said (Some digits) word refuse = option_map Bytes (hex_bytes digits)
 said None (Some number) refuse = option_map Word (word_of number)
@@ -104,12 +104,12 @@ added input (Refused number) = record input { refused = input.refused ++ number 
 abbrev pub nothing : Input
 nothing = record { bytes = []; words = []; refused = [] }
 
--- what follows from a line; the first line that has no form refuses the text
+-- what the text is after a line; the first line that has no form refuses it
 abbrev pub then_line : ℕ → Input → Option Item → (Input → Result Input ℕ) → Result Input ℕ
 then_line number input None next = Err number
 then_line number input (Some item) next = next (added input item)
 
--- what the lines from that number on come to, after lines that came to that input
+-- what the text is that has these lines from that number on, after lines that came to that input
 abbrev pub read_from : ℕ → Input → List (List ℕ) → Result Input ℕ
 read_from number input [] = Ok input
 read_from number input (line ∷ rest) = then_line number input (item_of line) (λ more. read_from (number + 1) more rest)

@@ -17,7 +17,7 @@ use line::{Item, item_of};
 /// Why a text is no input.
 #[derive(Clone, Copy, Debug, PartialEq, Eq)]
 pub enum InputError {
-    /// The first line, counted from 1, that has no form of a line.
+    /// The number, from 1, of the first line that has none of the forms.
     BadInput(u32),
     /// Memory ran out.
     NoMemory,
@@ -84,7 +84,8 @@ impl Gathered {
     }
 }
 
-/// Reads the text of an input: lines with `bytes` and hexadecimal digits, `word` and a number, or `refuse` and a number.
+/// Reads the text of an input: lines with `bytes` and hexadecimal digits, `word` and a number, or `refuse` and a
+/// number.
 ///
 /// Example: `word -1`, a line feed and `bytes 4142` are an input with the one word 4294967295 and the bytes 65 and 66.
 ///
