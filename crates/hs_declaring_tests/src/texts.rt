@@ -71,8 +71,8 @@ fn with_item<T: Drop>(list: Vec<T>, next: Result<T, Refusal>) -> Result<Vec<T>, 
 }
 
 /// An answer of typing, with its refusal as one of the tests.
-pub(crate) fn answer<T: Drop>(result: Result<T, TypeError>) -> Result<T, Refusal> {
-    Ok(result?)
+pub(crate) fn answer<T: Drop>(typed: Result<T, TypeError>) -> Result<T, Refusal> {
+    Ok(typed?)
 }
 
 /// Tokens that no macro made.

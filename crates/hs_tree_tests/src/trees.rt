@@ -60,21 +60,51 @@ fn same(alloc: Global, structs: &[u32]) -> Result<Representatives, NoMemory> {
     })
 }
 
-/// The class of a member of that type of struct 3, before and after the address of a member is taken.
-fn classes(
+/// A class before and after an address is taken.
+type Classes = (Option<Class>, Option<Class>);
+
+/// The class of the object, before and after the address of that field is taken.
+fn classes_of(
     alloc: Global,
+    types: &Types,
+    same: &Representatives,
+    object: &Lvalue,
+    field: FieldId,
+) -> Result<Classes, NoMemory> {
+    let mut taken = TakenFields::new(alloc);
+    let before = Class::of(types, same, &taken, object);
+    taken.add(field)?;
+    Ok((before, Class::of(types, same, &taken, object)))
+}
+
+/// The same of a member of that type of struct 3.
+fn member_classes(
+    alloc: Global,
+    types: &Types,
+    same: &Representatives,
+    type_id: TypeId,
+    of: u32,
+) -> Result<Classes, NoMemory> {
+    let object = member(alloc, type_id, FieldId { of: 3, place: 1 })?;
+    classes_of(alloc, types, same, &object, FieldId { of, place: 1 })
+}
+
+/// The same, where these structs stand for others.
+fn classes_with(
+    alloc: Global,
+    types: &Types,
     structs: &[u32],
     type_id: TypeId,
     of: u32,
-) -> Result<(Option<Class>, Option<Class>), NoMemory> {
-    let types = Types::new(alloc)?;
+) -> Result<Classes, NoMemory> {
     let same = same(alloc, structs)?;
-    let mut taken = TakenFields::new(alloc);
-    let object = member(alloc, type_id, FieldId { of: 3, place: 1 })?;
-    let before = Class::of(&types, &same, &taken, &object);
-    taken.add(FieldId { of, place: 1 })?;
-    let after = Class::of(&types, &same, &taken, &object);
-    Ok((before, after))
+    member_classes(alloc, types, &same, type_id, of)
+}
+
+/// The same with a new table of types.
+fn classes(alloc: Global, structs: &[u32], type_id: TypeId, of: u32) -> Result<Classes, NoMemory> {
+    let types = Types::new(alloc)?;
+    classes_with(alloc, &types, structs, type_id, of)
 }
 
 // A field is a class of its own until its address is taken; then its pointers are of the class of their type. A number has none.

@@ -74,12 +74,15 @@ fn edit(alloc: Global, types: &mut Types) -> Result<bool, TypeEnd> {
 }
 
 /// All of these structs, in one table.
+fn all_lie_in(alloc: Global, types: &mut Types) -> Result<bool, TypeEnd> {
+    let small = mixed(alloc, types)? && characters(alloc, types)? && aligned(alloc, types)?;
+    Ok(small && event(alloc, types)? && edit(alloc, types)?)
+}
+
+/// The same of a new table.
 fn all_lie(alloc: Global) -> Result<bool, TypeEnd> {
     let mut types = Types::new(alloc)?;
-    let small = mixed(alloc, &mut types)?
-        && characters(alloc, &mut types)?
-        && aligned(alloc, &mut types)?;
-    Ok(small && event(alloc, &mut types)? && edit(alloc, &mut types)?)
+    all_lie_in(alloc, &mut types)
 }
 
 // Each member lies at the first place that its alignment allows, and the whole is rounded up to 2 unless it holds characters
@@ -113,11 +116,16 @@ fn too_large(alloc: Global) -> Result<u32, TypeEnd> {
 }
 
 /// A struct with a member that is an incomplete struct.
-fn incomplete(alloc: Global) -> Result<u32, TypeEnd> {
-    let mut types = Types::new(alloc)?;
+fn incomplete_in(alloc: Global, types: &mut Types) -> Result<u32, TypeEnd> {
     let later = types.declare_struct()?;
     let member = types.add(Row::Struct(later))?;
-    struct_of(alloc, &mut types, &[member])
+    struct_of(alloc, types, &[member])
+}
+
+/// The same in a new table.
+fn incomplete(alloc: Global) -> Result<u32, TypeEnd> {
+    let mut types = Types::new(alloc)?;
+    incomplete_in(alloc, &mut types)
 }
 
 /// A struct that is given a body twice.
@@ -127,18 +135,27 @@ fn redefined(alloc: Global) -> Result<(), TypeEnd> {
     types.complete_struct(alloc, number, Vec::new(alloc))
 }
 
-/// The size of an enumeration of one constant.
-fn enumeration_size(alloc: Global) -> Result<Option<u32>, TypeEnd> {
-    let mut types = Types::new(alloc)?;
-    let number = types.declare_enumeration()?;
-    let id = types.add(Row::Enumeration(number))?;
+/// The list of one constant.
+fn one_constant(alloc: Global) -> Result<Constants, NoMemory> {
     let constant = Enumerator {
         name: Bytes::from_vec(Vec::new(alloc)),
         bits: 0,
     };
-    let constants = Constants::from_vec(vec![in alloc; constant]?);
-    types.complete_enumeration(number, constants)?;
+    Ok(Constants::from_vec(vec![in alloc; constant]?))
+}
+
+/// The size of an enumeration of one constant.
+fn enumeration_size_in(alloc: Global, types: &mut Types) -> Result<Option<u32>, TypeEnd> {
+    let number = types.declare_enumeration()?;
+    let id = types.add(Row::Enumeration(number))?;
+    types.complete_enumeration(number, one_constant(alloc)?)?;
     Ok(types.layout(id).map(|layout| layout.size))
+}
+
+/// The same in a new table.
+fn enumeration_size(alloc: Global) -> Result<Option<u32>, TypeEnd> {
+    let mut types = Types::new(alloc)?;
+    enumeration_size_in(alloc, &mut types)
 }
 
 /// The list of one parameter of type `long`.
@@ -149,9 +166,14 @@ fn one_long(types: &mut Types) -> Result<ListId, NoMemory> {
 }
 
 /// Whether a list of parameters has one number.
+fn list_is_once_in(types: &mut Types) -> Result<bool, NoMemory> {
+    Ok(one_long(types)? == one_long(types)?)
+}
+
+/// The same in a new table.
 fn list_is_once(alloc: Global) -> Result<bool, NoMemory> {
     let mut types = Types::new(alloc)?;
-    Ok(one_long(&mut types)? == one_long(&mut types)?)
+    list_is_once_in(&mut types)
 }
 
 // A type has one number. What is incomplete or too large is refused, and a body comes once.
