@@ -78,19 +78,39 @@ fn parsed(alloc: Global, text: &str) -> Result<Unit, Why> {
     }
 }
 
+/// The list with one item more. What is held is of a type that this function does not know, so its proof is short.
+fn with_item<T: Drop>(list: Vec<T>, next: Result<T, Why>) -> Result<Vec<T>, Why> {
+    let mut items = list;
+    items.push(next?)?;
+    Ok(items)
+}
+
 /// The units that texts are.
 fn units_of(alloc: Global, texts: &[&str]) -> Result<Vec<Unit>, Why> {
     let mut units = Vec::new(alloc);
     for text in texts {
-        units.push(parsed(alloc, text)?)?;
+        units = with_item(units, parsed(alloc, text))?;
     }
     Ok(units)
 }
 
+/// The program that these units are.
+fn program_in(alloc: Global, units: &[Unit]) -> Result<Program, Why> {
+    match program_of(alloc, built_in(alloc)?, units) {
+        Ok(it) => Ok(it),
+        Err(why) => Err(Why::from(why)),
+    }
+}
+
+/// The program that texts are, each of which is a unit.
+fn program_of_texts(alloc: Global, texts: &[&str]) -> Result<Program, Why> {
+    let units = units_of(alloc, texts)?;
+    program_in(alloc, &units)
+}
+
 /// The program that a text is.
 fn program(alloc: Global, text: &str) -> Result<Program, Why> {
-    let units = units_of(alloc, &[text])?;
-    Ok(program_of(alloc, built_in(alloc)?, &units)?)
+    program_of_texts(alloc, &[text])
 }
 
 /// How many functions the program has, and the number of its `main`.
@@ -178,8 +198,7 @@ fn the_bytes_of_a_program_are_limited(rt: HostRuntime) -> Result<(), Fail> {
 
 /// Whether two texts, each of which is a unit, are a program.
 fn both(alloc: Global, first: &str, second: &str) -> Result<(), Why> {
-    let units = units_of(alloc, &[first, second])?;
-    let _ = program_of(alloc, built_in(alloc)?, &units)?;
+    let _ = program_of_texts(alloc, &[first, second])?;
     Ok(())
 }
 
@@ -255,15 +274,9 @@ fn fields_are_marked(rt: HostRuntime) -> Result<(), Fail> {
     Ok(())
 }
 
-/// The program that the units of these texts are.
-fn of_two(alloc: Global, first: &str, second: &str) -> Result<Program, Why> {
-    let units = units_of(alloc, &[first, second])?;
-    Ok(program_of(alloc, built_in(alloc)?, &units)?)
-}
-
 /// What stands for the first three structs of the units of these texts, and whether the second field of the second one is taken.
 fn structs(alloc: Global, first: &str, second: &str) -> Result<([u32; 3], bool), Why> {
-    let it = of_two(alloc, first, second)?;
+    let it = program_of_texts(alloc, &[first, second])?;
     let same = &it.same;
     let field = same.field_for(FieldId { of: 1, place: 1 });
     let numbers = [same.struct_for(0), same.struct_for(1), same.struct_for(2)];
