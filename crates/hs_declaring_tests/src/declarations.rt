@@ -1,6 +1,6 @@
 //! Declarations: the objects that they make, or the first refusal and its column.
 
-use crate::texts::{Refusal, Why, answer, placeless, units_of};
+use crate::texts::{Refusal, Why, answer, boxed, placeless, units_of};
 use hs_declarations::{block_declaration, file_declaration};
 use hs_linkage::{Definitions, Translator};
 use hs_syntax::{Block, Decl, External, Unit, first_of_specifiers};
@@ -82,9 +82,9 @@ fn last_size(m: &Translator) -> u32 {
 }
 
 /// What is known before the first declaration of a unit.
-pub(crate) fn beginning(alloc: Global, units: &[Unit]) -> Result<Translator, Refusal> {
+pub(crate) fn beginning(alloc: Global, units: &[Unit]) -> Result<Box<Translator>, Refusal> {
     let definitions = Definitions::of(alloc, units)?;
-    Ok(Translator::new(alloc, built_in(alloc)?, definitions)?)
+    boxed(alloc, Translator::new(alloc, built_in(alloc)?, definitions))
 }
 
 /// Declares what units declare, and returns what they make.

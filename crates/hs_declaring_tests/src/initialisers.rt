@@ -1,7 +1,7 @@
 //! Initialisers: the size of the object and the constants that it starts with, or the first refusal and its column.
 
 use crate::declarations::{place_of, size_of};
-use crate::texts::{Refusal, Why, answer, parsed, placeless};
+use crate::texts::{Refusal, Why, answer, boxed, parsed, placeless};
 use hs_expressions::{derivations, specifiers};
 use hs_initialisers::{initialised, inline_words, starting};
 use hs_syntax::{Decl, External, Initialiser, Item, Unit};
@@ -57,8 +57,8 @@ fn declared(alloc: Global, typer: &mut Typer, at: Place, it: &Decl) -> Result<Ty
 }
 
 /// What is known before the first declaration.
-fn beginning(alloc: Global) -> Result<Typer, Refusal> {
-    Ok(Typer::new(alloc, built_in(alloc)?)?)
+fn beginning(alloc: Global) -> Result<Box<Typer>, Refusal> {
+    boxed(alloc, Typer::new(alloc, built_in(alloc)?))
 }
 
 /// Whether the parts are these constants at these bytes.

@@ -70,6 +70,11 @@ fn with_item<T: Drop>(list: Vec<T>, next: Result<T, Refusal>) -> Result<Vec<T>, 
     Ok(items)
 }
 
+/// What was made, in a box: a function that holds a box pays little for the type of what is in it.
+pub(crate) fn boxed<T: Drop>(alloc: Global, made: Result<T, NoMemory>) -> Result<Box<T>, Refusal> {
+    Ok(Box::new(alloc, made?)?)
+}
+
 /// An answer of typing, with its refusal as one of the tests.
 pub(crate) fn answer<T: Drop>(typed: Result<T, TypeError>) -> Result<T, Refusal> {
     Ok(typed?)
