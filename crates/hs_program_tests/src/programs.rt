@@ -94,22 +94,24 @@ fn units_of(alloc: Global, texts: &[&str]) -> Result<Vec<Unit>, Why> {
     Ok(units)
 }
 
+/// What was made, in a box: a function that holds a box pays little for the type of what is in it.
+fn boxed<T: Drop>(alloc: Global, made: Result<T, ProgramError>) -> Result<Box<T>, Why> {
+    Ok(Box::new(alloc, made?)?)
+}
+
 /// The program that these units are.
-fn program_in(alloc: Global, units: &[Unit]) -> Result<Program, Why> {
-    match program_of(alloc, built_in(alloc)?, units) {
-        Ok(it) => Ok(it),
-        Err(why) => Err(Why::from(why)),
-    }
+fn program_in(alloc: Global, units: &[Unit]) -> Result<Box<Program>, Why> {
+    boxed(alloc, program_of(alloc, built_in(alloc)?, units))
 }
 
 /// The program that texts are, each of which is a unit.
-fn program_of_texts(alloc: Global, texts: &[&str]) -> Result<Program, Why> {
+fn program_of_texts(alloc: Global, texts: &[&str]) -> Result<Box<Program>, Why> {
     let units = units_of(alloc, texts)?;
     program_in(alloc, &units)
 }
 
 /// The program that a text is.
-fn program(alloc: Global, text: &str) -> Result<Program, Why> {
+fn program(alloc: Global, text: &str) -> Result<Box<Program>, Why> {
     program_of_texts(alloc, &[text])
 }
 

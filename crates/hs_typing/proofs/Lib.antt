@@ -1,2 +1,3 @@
+mod Completed
 mod Refused
 mod Turns

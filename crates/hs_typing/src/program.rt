@@ -19,7 +19,7 @@ use hs_base::{Limit, LimitKind, NoMemory};
 use hs_functions::functions_of;
 use hs_linkage::{Definitions, Objects, Translator};
 use hs_same_types::representatives;
-use hs_syntax::Unit;
+use hs_syntax::{Unit, with};
 use hs_table::Table;
 use hs_tree::{
     Function, Global as Object, Globals, Literals, Program, Representatives, Routines, TakenFields,
@@ -112,17 +112,32 @@ fn ends_of(alloc: Global, m: &mut Translator) -> Result<Ends, NoMemory>
     })
 }
 
-/// A program of these parts.
-fn assembled(m: Translator, ends: Ends, functions: Vec<Function>, main: u32) -> Typed
-    ensures { view_typed result
-        ≡ assembled (m.typer.types, ends.globals, m.typer.literals, ends.routines, ends.same, ends.taken) (map view_function functions.items) main }
+/// What is known of types, names and strings.
+fn typer_of(m: Translator) -> Typer
+    ensures { result ≡ m.typer }
 {
     let Translator { typer, .. } = m;
+    typer
+}
+
+/// The types and the strings.
+fn tables_of(typer: Typer) -> (Types, Literals)
+    ensures { result ≡ (typer.types, typer.literals) }
+{
     let Typer {
         types,
         literals,
         ..
     } = typer;
+    (types, literals)
+}
+
+/// A program of these parts.
+fn assembled(m: Translator, ends: Ends, functions: Vec<Function>, main: u32) -> Typed
+    ensures { view_typed result
+        ≡ assembled (m.typer.types, ends.globals, m.typer.literals, ends.routines, ends.same, ends.taken) (map view_function functions.items) main }
+{
+    let (types, literals) = tables_of(typer_of(m));
     let Ends {
         globals,
         routines,
@@ -176,8 +191,9 @@ fn completed(
     ensures { IsTyped (within (assembled (parts_of m) (map view_function functions.items) number)) result }
 {
     let mut all = m;
-    match ends_of(alloc, &mut all) {
-        Ok(ends) => within(assembled(all, ends, functions, number)),
+    let ends = ends_of(alloc, &mut all);
+    match with((all, functions), ends) {
+        Ok(((all, functions), ends)) => within(assembled(all, ends, functions, number)),
         Err(NoMemory) => Err(ProgramError::NoMemory),
     }
 }
