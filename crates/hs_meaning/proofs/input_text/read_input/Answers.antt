@@ -9,15 +9,15 @@ use Rattle.hs_meaning.proofs.input_text.read_input.Goals as goal
 pub overflow_add-number : goal.overflow_add-number
 overflow_add-number c =
     let made = c.split-line-items.ensures in
-    let turn = line_turn c.args.text.now _ _ _ _ c.lines.yielded c.lines.yielded_by c.into_iter-line-iterator.ensures.into_iter_gives made.rest made.done made.closure
-    (λ x b q called. search (rules, tests, called)) c.in-Some.is c.next.ensures.steps in
+    let turn = line_turn c.args.text.now _ _ _ _ c.lines.yielded c.lines.yielded_by c.into_iter-line-iterator.ensures.into_iter_gives made.rest made.done
+    made.closure (λ x b q called. search (rules, tests, called)) c.in-Some.is c.next.ensures.steps in
     omega (arith, turn.0, length-slice_split (λ byte. byte == 10) c.args.text.now)
 
 pub returns-in_default : goal.returns-in_default
 returns-in_default c =
     let made = c.split-line-items.ensures in
-    let turn = line_turn c.args.text.now _ _ _ _ c.lines.yielded c.lines.yielded_by c.into_iter-line-iterator.ensures.into_iter_gives made.rest made.done made.closure
-    (λ x b q called. search (rules, tests, called)) c.in-Some.is c.next.ensures.steps in
+    let turn = line_turn c.args.text.now _ _ _ _ c.lines.yielded c.lines.yielded_by c.into_iter-line-iterator.ensures.into_iter_gives made.rest made.done
+    made.closure (λ x b q called. search (rules, tests, called)) c.in-Some.is c.next.ensures.steps in
     let next = read_from-more (c.lines.number + 1) c.lines.gathered (lines c.args.text.now) (length c.lines.yielded) c.in-Some.line.now turn.0 turn.1 in
     let none : item_of c.in-Some.line.now ≡ None = sym c.in_ok-item.ensures ∙ c.in_default.is in
     sym c.lines.invariant.read ∙ next ∙ rw none refl
@@ -25,8 +25,8 @@ returns-in_default c =
 pub lines-preserved : goal.lines-preserved
 lines-preserved c =
     let made = c.split-line-items.ensures in
-    let turn = line_turn c.args.text.now _ _ _ _ c.lines.yielded c.lines.yielded_by c.into_iter-line-iterator.ensures.into_iter_gives made.rest made.done made.closure
-    (λ x b q called. search (rules, tests, called)) c.in-Some.is c.next.ensures.steps in
+    let turn = line_turn c.args.text.now _ _ _ _ c.lines.yielded c.lines.yielded_by c.into_iter-line-iterator.ensures.into_iter_gives made.rest made.done
+    made.closure (λ x b q called. search (rules, tests, called)) c.in-Some.is c.next.ensures.steps in
     let next = read_from-more (c.lines.number + 1) c.lines.gathered (lines c.args.text.now) (length c.lines.yielded) c.in-Some.line.now turn.0 turn.1 in
     let item : item_of c.in-Some.line.now ≡ Some c.in-Some-2.item = sym c.in_ok-item.ensures ∙ c.in-Some-2.is in
     let one_more : length (c.lines.yielded ++ c.in-Some.line ∷ []) ≡ length c.lines.yielded + 1 = length-append c.lines.yielded (c.in-Some.line ∷ []) in
@@ -38,7 +38,7 @@ lines-preserved c =
 pub returns : goal.returns
 returns c =
     let made = c.split-line-items.ensures in
-    let all = line_end c.args.text.now _ _ _ _ c.lines.yielded c.lines.yielded_by c.into_iter-line-iterator.ensures.into_iter_gives made.rest made.done made.closure
-    (λ x b q called. search (rules, tests, called)) c.in-None.is c.next.ensures.steps in
+    let all = line_end c.args.text.now _ _ _ _ c.lines.yielded c.lines.yielded_by c.into_iter-line-iterator.ensures.into_iter_gives made.rest made.done
+    made.closure (λ x b q called. search (rules, tests, called)) c.in-None.is c.next.ensures.steps in
     let left : drop (length c.lines.yielded) (lines c.args.text.now) ≡ [] = drop_all (length c.lines.yielded) (lines c.args.text.now) (omega arith) in
     sym (rw left at c.lines.invariant.read) ∙ ap Ok (sym c.into_input.ensures)
