@@ -1,13 +1,11 @@
 //! Expressions: how they are read, where they end, and how deep they may nest.
-ghost use Rattle.std.specs.Prelude.{IfOk, IfSome};
-ghost use Rattle.hs_syntax.specs.Nesting.{IsShallow};
-
-use crate::texts::{around, tokens_of};
+use crate::texts::{around, present, tokens_of, with_item};
 use hs_base::{Bytes, NoMemory, Pos};
 use hs_expr_parser::{ParseEnd, TypeNames, expr};
 use hs_syntax::{Expr, Left, shallow};
 use hs_tokens::{Origin, SourceToken, Token, TokenKind};
 use std::alloc::{AllocError, Global};
+use std::process::Abort;
 use std::test::Fail;
 
 /// The typedef name T alone.
@@ -15,28 +13,33 @@ fn type_t(alloc: Global) -> Result<TypeNames, NoMemory> {
     TypeNames::new(alloc).with(alloc, b"T")
 }
 
+/// Writes a text. If there is no memory for it, it is not in what the test compares, so that the test fails.
+fn put(out: &mut Vec<u8>, text: &[u8]) {
+    let _ = out.extend_from_slice(text);
+}
+
 /// Writes an expression with parentheses around each operation, and brackets for the parentheses that were read.
 #[cycle(show)]
-fn show(alloc: Global, out: &mut Vec<u8>, e: &Expr) -> Result<(), AllocError> {
+fn show(out: &mut Vec<u8>, e: &Expr) {
     match e {
-        Expr::Name(it) => out.extend_from_slice(it.text.items()),
-        Expr::Number(it) => out.extend_from_slice(it.text.items()),
-        Expr::Character(it) => out.extend_from_slice(it.text.items()),
-        Expr::Strings(first, _) => out.extend_from_slice(first.text.items()),
+        Expr::Name(it) => put(out, it.text.items()),
+        Expr::Number(it) => put(out, it.text.items()),
+        Expr::Character(it) => put(out, it.text.items()),
+        Expr::Strings(first, _) => put(out, first.text.items()),
         Expr::Parens { inner, .. } => {
-            out.extend_from_slice(b"{")?;
-            show(alloc, out, inner)?;
-            out.extend_from_slice(b"}")
+            put(out, b"{");
+            show(out, inner);
+            put(out, b"}")
         }
         Expr::Index { base, index, .. } => {
-            show(alloc, out, base)?;
-            out.extend_from_slice(b"[")?;
-            show(alloc, out, index)?;
-            out.extend_from_slice(b"]")
+            show(out, base);
+            put(out, b"[");
+            show(out, index);
+            put(out, b"]")
         }
         Expr::Call { callee, arguments } => {
-            show(alloc, out, callee)?;
-            show_all(alloc, out, arguments)
+            show(out, callee);
+            show_all(out, arguments)
         }
         Expr::Member {
             base,
@@ -44,40 +47,40 @@ fn show(alloc: Global, out: &mut Vec<u8>, e: &Expr) -> Result<(), AllocError> {
             name,
             ..
         } => {
-            show(alloc, out, base)?;
-            out.extend_from_slice(access.text().as_bytes())?;
-            out.extend_from_slice(name.text.items())
+            show(out, base);
+            put(out, access.text().as_bytes());
+            put(out, name.text.items())
         }
         Expr::Postfix {
             operand,
             operator,
             ..
         } => {
-            out.extend_from_slice(b"(")?;
-            show(alloc, out, operand)?;
-            out.extend_from_slice(operator.text().as_bytes())?;
-            out.extend_from_slice(b")")
+            put(out, b"(");
+            show(out, operand);
+            put(out, operator.text().as_bytes());
+            put(out, b")")
         }
         Expr::Prefix {
             operator,
             operand,
             ..
         } => {
-            out.extend_from_slice(b"(")?;
-            out.extend_from_slice(operator.text().as_bytes())?;
-            show(alloc, out, operand)?;
-            out.extend_from_slice(b")")
+            put(out, b"(");
+            put(out, operator.text().as_bytes());
+            show(out, operand);
+            put(out, b")")
         }
         Expr::SizeofValue { operand, .. } => {
-            out.extend_from_slice(b"(sizeof ")?;
-            show(alloc, out, operand)?;
-            out.extend_from_slice(b")")
+            put(out, b"(sizeof ");
+            show(out, operand);
+            put(out, b")")
         }
-        Expr::SizeofType { .. } => out.extend_from_slice(b"(sizeof type)"),
+        Expr::SizeofType { .. } => put(out, b"(sizeof type)"),
         Expr::Cast { operand, .. } => {
-            out.extend_from_slice(b"(type ")?;
-            show(alloc, out, operand)?;
-            out.extend_from_slice(b")")
+            put(out, b"(type ");
+            show(out, operand);
+            put(out, b")")
         }
         Expr::Binary {
             left,
@@ -85,11 +88,11 @@ fn show(alloc: Global, out: &mut Vec<u8>, e: &Expr) -> Result<(), AllocError> {
             right,
             ..
         } => {
-            out.extend_from_slice(b"(")?;
-            show(alloc, out, left)?;
-            out.extend_from_slice(operator.text().as_bytes())?;
-            show(alloc, out, right)?;
-            out.extend_from_slice(b")")
+            put(out, b"(");
+            show(out, left);
+            put(out, operator.text().as_bytes());
+            show(out, right);
+            put(out, b")")
         }
         Expr::Conditional {
             test,
@@ -97,13 +100,13 @@ fn show(alloc: Global, out: &mut Vec<u8>, e: &Expr) -> Result<(), AllocError> {
             otherwise,
             ..
         } => {
-            out.extend_from_slice(b"(")?;
-            show(alloc, out, test)?;
-            out.extend_from_slice(b"?")?;
-            show(alloc, out, then)?;
-            out.extend_from_slice(b":")?;
-            show(alloc, out, otherwise)?;
-            out.extend_from_slice(b")")
+            put(out, b"(");
+            show(out, test);
+            put(out, b"?");
+            show(out, then);
+            put(out, b":");
+            show(out, otherwise);
+            put(out, b")")
         }
         Expr::Assign {
             target,
@@ -111,66 +114,74 @@ fn show(alloc: Global, out: &mut Vec<u8>, e: &Expr) -> Result<(), AllocError> {
             value,
             ..
         } => {
-            out.extend_from_slice(b"(")?;
-            show(alloc, out, target)?;
-            out.extend_from_slice(operator.text().as_bytes())?;
-            show(alloc, out, value)?;
-            out.extend_from_slice(b")")
+            put(out, b"(");
+            show(out, target);
+            put(out, operator.text().as_bytes());
+            show(out, value);
+            put(out, b")")
         }
         Expr::Comma { lefts, right } => {
-            out.extend_from_slice(b"(")?;
-            show_lefts(alloc, out, lefts)?;
-            show(alloc, out, right)?;
-            out.extend_from_slice(b")")
+            put(out, b"(");
+            show_lefts(out, lefts);
+            show(out, right);
+            put(out, b")")
         }
     }
 }
 
 /// Writes arguments.
 #[cycle(show)]
-fn show_all(alloc: Global, out: &mut Vec<u8>, its: &[Expr]) -> Result<(), AllocError> {
-    out.extend_from_slice(b"(")?;
+fn show_all(out: &mut Vec<u8>, its: &[Expr]) {
+    put(out, b"(");
     for it in its {
-        show(alloc, out, it)?;
-        out.extend_from_slice(b";")?;
+        show(out, it);
+        put(out, b";");
     }
-    out.extend_from_slice(b")")
+    put(out, b")")
 }
 
 /// Writes the left operands of commas.
 #[cycle(show)]
-fn show_lefts(alloc: Global, out: &mut Vec<u8>, its: &[Left]) -> Result<(), AllocError> {
+fn show_lefts(out: &mut Vec<u8>, its: &[Left]) {
     for it in its {
-        show(alloc, out, &it.operand)?;
-        out.extend_from_slice(b",")?;
+        show(out, &it.operand);
+        put(out, b",");
     }
-    Ok(())
 }
 
-/// The tokens of a text whose nesting is within its limit, or nothing for any other text.
-fn shallow_tokens(alloc: Global, text: &[u8]) -> Result<Option<Vec<SourceToken>>, Fail>
-    ensures { IfOk result (λ found. IfSome found (λ tokens. IsShallow tokens.items)) }
-{
-    match tokens_of(alloc, text)? {
-        Some(tokens) if shallow(&tokens) => Ok(Some(tokens)),
-        _ => Ok(None),
+/// What an expression is written as, and that number.
+fn shown(alloc: Global, e: &Expr, left: usize) -> Result<(Vec<u8>, usize), Fail> {
+    let mut out = Vec::new(alloc);
+    show(&mut out, e);
+    Ok((out, left))
+}
+
+/// What is read of tokens, and the number of tokens after it.
+fn read_with(
+    alloc: Global,
+    names: &TypeNames,
+    tokens: &[SourceToken],
+) -> Result<(Vec<u8>, usize), Fail> {
+    if !shallow(tokens) {
+        return Err(Fail::new("the text is shallow"));
     }
+    match expr(alloc, tokens, 0, names) {
+        Ok((e, end)) => shown(alloc, &e, tokens.len() - end),
+        Err(ParseEnd::NotExpr) => Ok((Vec::new(alloc), tokens.len())),
+        Err(ParseEnd::NoMemory) => Err(Fail::new("there is memory")),
+    }
+}
+
+/// The same if `T` is a typedef name.
+fn read_of(alloc: Global, tokens: &[SourceToken]) -> Result<(Vec<u8>, usize), Fail> {
+    let names = type_t(alloc)?;
+    read_with(alloc, &names, tokens)
 }
 
 /// What is read of a text, and the number of tokens after it.
 fn read(alloc: Global, text: &[u8]) -> Result<(Vec<u8>, usize), Fail> {
-    let Some(tokens) = shallow_tokens(alloc, text)? else {
-        return Err(Fail::new("the text has tokens and is shallow"));
-    };
-    let mut shown = Vec::new(alloc);
-    match expr(alloc, &tokens, 0, &type_t(alloc)?) {
-        Ok((e, end)) => {
-            show(alloc, &mut shown, &e)?;
-            Ok((shown, tokens.len() - end))
-        }
-        Err(ParseEnd::NotExpr) => Ok((shown, tokens.len())),
-        Err(ParseEnd::NoMemory) => Err(Fail::new("there is memory")),
-    }
+    let tokens = present(tokens_of(alloc, text)?)?;
+    read_of(alloc, &tokens)
 }
 
 /// The first text of the rows that is not read so, if any. A row has a text, what is read of it if `T` is a typedef name,
@@ -180,6 +191,19 @@ fn misread<'a>(alloc: Global, rows: &[(&'a str, &str, usize)]) -> Result<Option<
         let (shown, left) = read(alloc, text.as_bytes())?;
         if shown.as_slice() != expected.as_bytes() || left != *after {
             return Ok(Some(*text));
+        }
+    }
+    Ok(None)
+}
+
+/// The same of several tables.
+fn misread_in<'a>(
+    alloc: Global,
+    tables: &[&[(&'a str, &str, usize)]],
+) -> Result<Option<&'a str>, Fail> {
+    for rows in tables {
+        if let Some(text) = misread(alloc, rows)? {
+            return Ok(Some(text));
         }
     }
     Ok(None)
@@ -238,23 +262,36 @@ const ENDS: [(&str, &str, usize); 8] = [
 // X3.159-1989 3.3: how operators group, what a parenthesis is, and where an expression ends.
 #[test]
 fn expressions_are_read(rt: HostRuntime) -> Result<(), Fail> {
-    let alloc = rt.alloc();
-    assert_eq!(rt; misread(alloc, &PRECEDENCE)?, None);
-    assert_eq!(rt; misread(alloc, &GROUPING)?, None);
-    assert_eq!(rt; misread(alloc, &PARENTHESES)?, None);
-    assert_eq!(rt; misread(alloc, &ENDS)?, None);
+    let found = misread_in(rt.alloc(), &[&PRECEDENCE, &GROUPING, &PARENTHESES, &ENDS])?;
+    assert_eq!(rt; found, None);
     Ok(())
 }
 
-/// The columns of the position and of the first token of the expression that a text is.
-fn columns(alloc: Global, text: &[u8]) -> Result<(u32, u32), Fail> {
-    let Some(tokens) = shallow_tokens(alloc, text)? else {
-        return Err(Fail::new("the text has tokens and is shallow"));
-    };
-    match expr(alloc, &tokens, 0, &type_t(alloc)?) {
+/// The columns of the position and of the first token of the expression that tokens are.
+fn columns_with(
+    alloc: Global,
+    names: &TypeNames,
+    tokens: &[SourceToken],
+) -> Result<(u32, u32), Fail> {
+    if !shallow(tokens) {
+        return Err(Fail::new("the text is shallow"));
+    }
+    match expr(alloc, tokens, 0, names) {
         Ok((e, _)) => Ok((e.position().pos.col, e.first().pos.col)),
         Err(_) => Err(Fail::new("the text is an expression")),
     }
+}
+
+/// The same if `T` is a typedef name.
+fn columns_of(alloc: Global, tokens: &[SourceToken]) -> Result<(u32, u32), Fail> {
+    let names = type_t(alloc)?;
+    columns_with(alloc, &names, tokens)
+}
+
+/// The same of the expression that a text is.
+fn columns(alloc: Global, text: &[u8]) -> Result<(u32, u32), Fail> {
+    let tokens = present(tokens_of(alloc, text)?)?;
+    columns_of(alloc, &tokens)
 }
 
 /// The first text of the rows whose columns are others, if any.
@@ -265,6 +302,18 @@ fn misplaced<'a>(alloc: Global, rows: &[(&'a str, u32, u32)]) -> Result<Option<&
         }
     }
     Ok(None)
+}
+
+/// The same of two tables.
+fn misplaced_in<'a>(
+    alloc: Global,
+    one: &[(&'a str, u32, u32)],
+    other: &[(&'a str, u32, u32)],
+) -> Result<Option<&'a str>, Fail> {
+    match misplaced(alloc, one)? {
+        Some(text) => Ok(Some(text)),
+        None => misplaced(alloc, other),
+    }
 }
 
 /// Expressions with the columns of their positions and of their first tokens.
@@ -296,58 +345,114 @@ const POSITIONS_INSIDE: [(&str, u32, u32); 9] = [
 // Own: where an expression is. C has no positions.
 #[test]
 fn expressions_have_these_positions(rt: HostRuntime) -> Result<(), Fail> {
-    let alloc = rt.alloc();
-    assert_eq!(rt; misplaced(alloc, &POSITIONS)?, None);
-    assert_eq!(rt; misplaced(alloc, &POSITIONS_INSIDE)?, None);
+    let found = misplaced_in(rt.alloc(), &POSITIONS, &POSITIONS_INSIDE)?;
+    assert_eq!(rt; found, None);
     Ok(())
 }
 
-/// The number of tokens after the expression that is read of tokens of these kinds and texts; all if none is read.
-fn left_of(alloc: Global, rows: &[(TokenKind, &[u8])]) -> Result<usize, Fail> {
+/// How many tokens follow what is read of tokens, or nothing if they nest too deep.
+fn left_with(
+    alloc: Global,
+    names: &TypeNames,
+    tokens: &[SourceToken],
+) -> Result<Option<usize>, Fail> {
+    if !shallow(tokens) {
+        return Ok(None);
+    }
+    match expr(alloc, tokens, 0, names) {
+        Ok((_, end)) => Ok(Some(tokens.len() - end)),
+        Err(ParseEnd::NotExpr) => Ok(Some(tokens.len())),
+        Err(ParseEnd::NoMemory) => Err(Fail::new("there is memory")),
+    }
+}
+
+/// The same if `T` is a typedef name.
+fn left_in(alloc: Global, tokens: &[SourceToken]) -> Result<Option<usize>, Fail> {
+    let names = type_t(alloc)?;
+    left_with(alloc, &names, tokens)
+}
+
+/// A token of that kind and text.
+fn token_of(alloc: Global, kind: TokenKind, text: &[u8]) -> Result<SourceToken, AllocError> {
+    let token = Token {
+        kind,
+        text: Bytes::from_vec(text.to_vec(alloc)?),
+        pos: Pos {
+            file: 0,
+            line: 1,
+            col: 1,
+        },
+        first: false,
+        spaced: true,
+    };
+    Ok(SourceToken {
+        token,
+        origin: Origin::Plain,
+    })
+}
+
+/// Tokens of these kinds and texts.
+fn made_of(alloc: Global, rows: &[(TokenKind, &[u8])]) -> Result<Vec<SourceToken>, AllocError> {
     let mut tokens = Vec::new(alloc);
     for (kind, text) in rows {
-        let token = Token {
-            kind: *kind,
-            text: Bytes::from_vec(text.to_vec(alloc)?),
-            pos: Pos {
-                file: 0,
-                line: 1,
-                col: 1,
-            },
-            first: false,
-            spaced: true,
-        };
-        tokens.push(SourceToken {
-            token,
-            origin: Origin::Plain,
-        })?;
+        tokens = with_item(tokens, token_of(alloc, *kind, text))?;
     }
-    if !shallow(&tokens) {
-        return Err(Fail::new("the tokens are shallow"));
-    }
-    match expr(alloc, &tokens, 0, &type_t(alloc)?) {
-        Ok((_, end)) => Ok(tokens.len() - end),
-        Err(_) => Ok(tokens.len()),
-    }
+    Ok(tokens)
+}
+
+/// The number of tokens after the expression that is read of tokens of these kinds and texts; all if none is read.
+fn left_of(alloc: Global, rows: &[(TokenKind, &[u8])]) -> Result<Option<usize>, Fail> {
+    let tokens = made_of(alloc, rows)?;
+    left_in(alloc, &tokens)
+}
+
+/// A literal.
+const A: (TokenKind, &[u8]) = (TokenKind::Literal, b"\"a\"");
+
+/// The number of tokens after the expression that is read of a character constant.
+fn left_of_character(alloc: Global, text: &[u8]) -> Result<Option<usize>, Fail> {
+    left_of(alloc, &[(TokenKind::Character, text)])
+}
+
+/// The same of a literal and one more.
+fn left_of_literals(alloc: Global, text: &[u8]) -> Result<Option<usize>, Fail> {
+    left_of(alloc, &[(TokenKind::Literal, text), A])
+}
+
+/// The same after two literals.
+fn left_of_inner(alloc: Global, text: &[u8]) -> Result<Option<usize>, Fail> {
+    left_of(alloc, &[A, A, (TokenKind::Literal, text), A])
+}
+
+/// So many tokens are left after character constants.
+fn characters_leave(rt: &impl Abort, alloc: Global) -> Result<(), Fail> {
+    assert_eq!(rt; left_of_character(alloc, b"'a'")?, Some(0));
+    assert_eq!(rt; left_of_character(alloc, b"''")?, Some(1));
+    assert_eq!(rt; left_of_character(alloc, b"'abcde'")?, Some(1));
+    Ok(())
+}
+
+/// So many tokens are left after the longest literal, and after a longer one.
+fn literals_leave(
+    rt: &impl Abort,
+    alloc: Global,
+    longest: &[u8],
+    longer: &[u8],
+) -> Result<(), Fail> {
+    assert_eq!(rt; left_of_literals(alloc, longest)?, Some(0));
+    assert_eq!(rt; left_of_literals(alloc, longer)?, Some(2));
+    assert_eq!(rt; left_of_inner(alloc, longer)?, Some(2));
+    Ok(())
 }
 
 // X3.159-1989 3.3.1: constants and literals are expressions. Own: those without a value are not, as the scanner refuses them.
 #[test]
 fn literals_without_a_value_are_not_read(rt: HostRuntime) -> Result<(), Fail> {
     let alloc = rt.alloc();
-    let longer = around(alloc, b"\"\\p", b"a", 256, b"\"")?;
+    characters_leave(&rt, alloc)?;
     let longest = around(alloc, b"\"\\p", b"a", 255, b"\"")?;
-    let a: (TokenKind, &[u8]) = (TokenKind::Literal, b"\"a\"");
-    assert_eq!(rt; left_of(alloc, &[(TokenKind::Character, b"'a'")])?, 0);
-    assert_eq!(rt; left_of(alloc, &[(TokenKind::Character, b"''")])?, 1);
-    assert_eq!(rt; left_of(alloc, &[(TokenKind::Character, b"'abcde'")])?, 1);
-    assert_eq!(rt; left_of(alloc, &[(TokenKind::Literal, &longest), a])?, 0);
-    assert_eq!(rt; left_of(alloc, &[(TokenKind::Literal, &longer), a])?, 2);
-    assert_eq!(rt;
-        left_of(alloc, &[a, a, (TokenKind::Literal, &longer), a])?,
-        2
-    );
-    Ok(())
+    let longer = around(alloc, b"\"\\p", b"a", 256, b"\"")?;
+    literals_leave(&rt, alloc, &longest, &longer)
 }
 
 /// A text that is opened so many times, what is inside, and what closes it, between a front and a back.
@@ -366,14 +471,14 @@ fn nested(alloc: Global, row: (&str, &str, &str), depth: u32) -> Result<Vec<u8>,
 
 /// How many tokens follow what is read of a text, or nothing if it nests too deep.
 fn left_after(alloc: Global, text: &[u8]) -> Result<Option<usize>, Fail> {
-    let Some(tokens) = shallow_tokens(alloc, text)? else {
-        return Ok(None);
-    };
-    match expr(alloc, &tokens, 0, &type_t(alloc)?) {
-        Ok((_, end)) => Ok(Some(tokens.len() - end)),
-        Err(ParseEnd::NotExpr) => Ok(Some(tokens.len())),
-        Err(ParseEnd::NoMemory) => Err(Fail::new("there is memory")),
-    }
+    let tokens = present(tokens_of(alloc, text)?)?;
+    left_in(alloc, &tokens)
+}
+
+/// The same of a text that is opened so many times.
+fn left_at(alloc: Global, row: (&str, &str, &str), depth: u32) -> Result<Option<usize>, Fail> {
+    let text = nested(alloc, row, depth)?;
+    left_after(alloc, &text)
 }
 
 /// The opening of the first row whose depth is not the deepest, if any. A row has what is opened, what is inside, what closes
@@ -384,10 +489,22 @@ fn misjudged<'a>(
 ) -> Result<Option<&'a str>, Fail> {
     for (opening, inside, closing, depth) in rows {
         let depth = u32::from(*depth);
-        let deepest = nested(alloc, (*opening, *inside, *closing), depth)?;
-        let deeper = nested(alloc, (*opening, *inside, *closing), depth + 1)?;
-        if left_after(alloc, &deepest)? != Some(0) || left_after(alloc, &deeper)?.is_some() {
+        let row = (*opening, *inside, *closing);
+        if left_at(alloc, row, depth)? != Some(0) || left_at(alloc, row, depth + 1)?.is_some() {
             return Ok(Some(*opening));
+        }
+    }
+    Ok(None)
+}
+
+/// The same of several tables.
+fn misjudged_in<'a>(
+    alloc: Global,
+    tables: &[&[(&'a str, &str, &str, u16)]],
+) -> Result<Option<&'a str>, Fail> {
+    for rows in tables {
+        if let Some(opening) = misjudged(alloc, rows)? {
+            return Ok(Some(opening));
         }
     }
     Ok(None)
@@ -433,10 +550,12 @@ const DEEPEST_IN_TYPES: [(&str, &str, &str, u16); 7] = [
 // Own: 256 is the deepest nesting. The stack is deep enough for it wherever a parenthesis may stand.
 #[test]
 fn the_deepest_expressions_are_read(rt: HostRuntime) -> Result<(), Fail> {
-    let alloc = rt.alloc();
-    assert_eq!(rt; misjudged(alloc, &DEEPEST_PREFIXES)?, None);
-    assert_eq!(rt; misjudged(alloc, &DEEPEST_OPERATIONS)?, None);
-    assert_eq!(rt; misjudged(alloc, &DEEPEST_IN_TYPES)?, None);
+    let tables: [&[(&str, &str, &str, u16)]; 3] = [
+        &DEEPEST_PREFIXES,
+        &DEEPEST_OPERATIONS,
+        &DEEPEST_IN_TYPES,
+    ];
+    assert_eq!(rt; misjudged_in(rt.alloc(), &tables)?, None);
     Ok(())
 }
 
@@ -448,6 +567,17 @@ const DEEPEST_TYPES: [(&str, &str, &str, u16); 4] = [
     ("(*)(T", "", ")", 127),
 ];
 
+/// How many tokens follow a `sizeof` of `T` and what is opened so many times, or nothing if that nests too deep.
+fn left_in_sizeof(
+    alloc: Global,
+    row: (&str, &str, &str),
+    depth: u32,
+) -> Result<Option<usize>, Fail> {
+    let inside = nested(alloc, row, depth)?;
+    let text = around(alloc, b"sizeof(T", &inside, 1, b")")?;
+    left_after(alloc, &text)
+}
+
 // The same of types: lists of parameters, and declarators in parentheses.
 #[test]
 fn the_deepest_types_are_read(rt: HostRuntime) -> Result<(), Fail> {
@@ -455,11 +585,8 @@ fn the_deepest_types_are_read(rt: HostRuntime) -> Result<(), Fail> {
     for (opening, inside, closing, depth) in DEEPEST_TYPES.iter() {
         let depth = u32::from(*depth);
         for (depth, expected) in [(depth, Some(0)), (depth + 1, None)] {
-            let mut text = b"sizeof(T".to_vec(alloc)?;
-            let nested = nested(alloc, (*opening, *inside, *closing), depth)?;
-            text.extend_from_slice(&nested)?;
-            text.push(b')')?;
-            assert!(rt; left_after(alloc, &text)? == expected, "{opening}");
+            let row = (*opening, *inside, *closing);
+            assert!(rt; left_in_sizeof(alloc, row, depth)? == expected, "{opening}");
         }
     }
     Ok(())

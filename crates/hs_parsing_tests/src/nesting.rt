@@ -41,6 +41,12 @@ fn punctuators_count_by_one(rt: HostRuntime) -> Result<(), Fail> {
     Ok(())
 }
 
+/// Whether the piece may be repeated so often before the end, and no more often.
+fn is_counted_so(alloc: Global, piece: &str, end: &str, most: usize) -> Result<bool, Fail> {
+    let more = most.saturating_add(1);
+    Ok(is_shallow(alloc, piece, most, end)? && !is_shallow(alloc, piece, more, end)?)
+}
+
 // Own: keywords and `?` stay counted at a `,`. At a `;`, and at a `}` for the level around it, keywords stay counted before
 // `else`, and before `while` if a `do` is open. Other levels do not change. The number is how often the piece may be repeated.
 #[test]
@@ -56,8 +62,7 @@ fn keywords_stay_counted_so_long(rt: HostRuntime) -> Result<(), Fail> {
         ("do ", "{ a; } while (b);", 254),
         ("if ", "a; while (b);", 256),
     ] {
-        assert!(rt; is_shallow(rt.alloc(), piece, most, end)?, "{piece}");
-        assert!(rt; !is_shallow(rt.alloc(), piece, most + 1, end)?, "{piece}");
+        assert!(rt; is_counted_so(rt.alloc(), piece, end, most)?, "{piece}");
     }
     Ok(())
 }

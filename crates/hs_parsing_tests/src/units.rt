@@ -1,18 +1,31 @@
 //! Units: what is read, where it is refused, and how deep and long it may be.
-use crate::texts::{around, tokens_of};
+use crate::texts::{answer, around, present, tokens_of};
 use hs_base::LimitKind;
 use hs_decl_parser::{ParseError, unit};
 use hs_spell::spell;
 use hs_syntax::{External, Stmt, Unit, first_of_specifiers};
+use hs_tokens::{SourceToken, Token};
 use std::alloc::{AllocError, Global};
+use std::process::Abort;
 use std::test::Fail;
 
 /// What is read of a text that has tokens.
-pub(crate) fn read(alloc: Global, text: &[u8]) -> Result<Result<Unit, ParseError>, Fail> {
-    match tokens_of(alloc, text)? {
-        Some(tokens) => Ok(unit(alloc, &tokens)),
-        None => Err(Fail::new("the text has tokens")),
+fn read(alloc: Global, text: &[u8]) -> Result<Result<Unit, ParseError>, Fail> {
+    let tokens = present(tokens_of(alloc, text)?)?;
+    Ok(unit(alloc, &tokens))
+}
+
+/// What was read, if it is a unit.
+fn accepted<T: Drop>(read: Result<T, ParseError>) -> Result<T, Fail> {
+    match read {
+        Ok(it) => Ok(it),
+        Err(_) => Err(Fail::new("the text is a unit")),
     }
+}
+
+/// The unit that a text is.
+pub(crate) fn unit_of(alloc: Global, text: &[u8]) -> Result<Unit, Fail> {
+    accepted(read(alloc, text)?)
 }
 
 /// The line and the column of the refusal; both are 0 if the text is a unit.
@@ -24,12 +37,31 @@ fn refusal(read: &Result<Unit, ParseError>) -> Option<(u32, u32)> {
     }
 }
 
+/// The same of what is read of a text.
+fn refusal_of(alloc: Global, text: &[u8]) -> Result<Option<(u32, u32)>, Fail> {
+    let read = read(alloc, text)?;
+    Ok(refusal(&read))
+}
+
 /// The first text of the rows that is not read so, if any. A row has a text, and the line and the column of its refusal; both
 /// are 0 if it is a unit.
 fn misread<'a>(alloc: Global, rows: &[(&'a str, u32, u32)]) -> Result<Option<&'a str>, Fail> {
     for (text, line, col) in rows {
-        if refusal(&read(alloc, text.as_bytes())?) != Some((*line, *col)) {
+        if refusal_of(alloc, text.as_bytes())? != Some((*line, *col)) {
             return Ok(Some(*text));
+        }
+    }
+    Ok(None)
+}
+
+/// The same of several tables.
+fn misread_in<'a>(
+    alloc: Global,
+    tables: &[&[(&'a str, u32, u32)]],
+) -> Result<Option<&'a str>, Fail> {
+    for rows in tables {
+        if let Some(text) = misread(alloc, rows)? {
+            return Ok(Some(text));
         }
     }
     Ok(None)
@@ -124,14 +156,16 @@ const FUNCTIONS: [(&str, u32, u32); 9] = [
 // X3.159-1989 3.5, 3.7: each production of declarations, and damaged ones.
 #[test]
 fn declarations_are_read(rt: HostRuntime) -> Result<(), Fail> {
-    let alloc = rt.alloc();
-    assert_eq!(rt; misread(alloc, &DECLARATORS)?, None);
-    assert_eq!(rt; misread(alloc, &INITIALISERS)?, None);
-    assert_eq!(rt; misread(alloc, &STRUCTS)?, None);
-    assert_eq!(rt; misread(alloc, &ENUMERATIONS)?, None);
-    assert_eq!(rt; misread(alloc, &TYPEDEFS)?, None);
-    assert_eq!(rt; misread(alloc, &PARAMETERS)?, None);
-    assert_eq!(rt; misread(alloc, &FUNCTIONS)?, None);
+    let tables: [&[(&str, u32, u32)]; 7] = [
+        &DECLARATORS,
+        &INITIALISERS,
+        &STRUCTS,
+        &ENUMERATIONS,
+        &TYPEDEFS,
+        &PARAMETERS,
+        &FUNCTIONS,
+    ];
+    assert_eq!(rt; misread_in(rt.alloc(), &tables)?, None);
     Ok(())
 }
 
@@ -143,12 +177,31 @@ fn function(alloc: Global, body: &str) -> Result<Vec<u8>, AllocError> {
     Ok(text)
 }
 
+/// The refusal of a function with that body.
+fn refusal_in(alloc: Global, body: &str) -> Result<Option<(u32, u32)>, Fail> {
+    let text = function(alloc, body)?;
+    refusal_of(alloc, &text)
+}
+
 /// The first body of the rows that is not read so, if any. A row has the body of a function, and whether it is accepted.
 fn misread_body<'a>(alloc: Global, rows: &[(&'a str, bool)]) -> Result<Option<&'a str>, Fail> {
     for (body, accepted) in rows {
         let expected = if *accepted { (0, 0) } else { (2, 1) };
-        if refusal(&read(alloc, &function(alloc, body)?)?) != Some(expected) {
+        if refusal_in(alloc, body)? != Some(expected) {
             return Ok(Some(*body));
+        }
+    }
+    Ok(None)
+}
+
+/// The same of several tables.
+fn misread_bodies<'a>(
+    alloc: Global,
+    tables: &[&[(&'a str, bool)]],
+) -> Result<Option<&'a str>, Fail> {
+    for rows in tables {
+        if let Some(body) = misread_body(alloc, rows)? {
+            return Ok(Some(body));
         }
     }
     Ok(None)
@@ -248,16 +301,18 @@ const LEFT_OUT: [(&str, bool); 3] = [("goto x;", false), ("x: a;", false), ("a ?
 // X3.159-1989 3.6: each production of statements, and damaged ones.
 #[test]
 fn statements_are_read(rt: HostRuntime) -> Result<(), Fail> {
-    let alloc = rt.alloc();
-    assert_eq!(rt; misread_body(alloc, &BLOCKS)?, None);
-    assert_eq!(rt; misread_body(alloc, &DECLARATIONS_FIRST)?, None);
-    assert_eq!(rt; misread_body(alloc, &IFS)?, None);
-    assert_eq!(rt; misread_body(alloc, &LOOPS)?, None);
-    assert_eq!(rt; misread_body(alloc, &FORS)?, None);
-    assert_eq!(rt; misread_body(alloc, &SWITCHES)?, None);
-    assert_eq!(rt; misread_body(alloc, &LABELS)?, None);
-    assert_eq!(rt; misread_body(alloc, &JUMPS)?, None);
-    assert_eq!(rt; misread_body(alloc, &LEFT_OUT)?, None);
+    let tables: [&[(&str, bool)]; 9] = [
+        &BLOCKS,
+        &DECLARATIONS_FIRST,
+        &IFS,
+        &LOOPS,
+        &FORS,
+        &SWITCHES,
+        &LABELS,
+        &JUMPS,
+        &LEFT_OUT,
+    ];
+    assert_eq!(rt; misread_bodies(rt.alloc(), &tables)?, None);
     Ok(())
 }
 
@@ -275,19 +330,22 @@ fn dangles(it: &Unit) -> bool {
     }
 }
 
+/// The same of a function with that body.
+fn dangles_in(alloc: Global, body: &str) -> Result<bool, Fail> {
+    let text = function(alloc, body)?;
+    let it = unit_of(alloc, &text)?;
+    Ok(dangles(&it))
+}
+
 // X3.159-1989 3.6.4.1: an `else` belongs to the nearest `if`.
 #[test]
 fn an_else_belongs_to_the_nearest_if(rt: HostRuntime) -> Result<(), Fail> {
-    let text = function(rt.alloc(), "if (a) if (b) c; else d;")?;
-    let Ok(it) = read(rt.alloc(), &text)? else {
-        return Err(Fail::new("the text is a unit"));
-    };
-    assert!(rt; dangles(&it));
+    assert!(rt; dangles_in(rt.alloc(), "if (a) if (b) c; else d;")?);
     Ok(())
 }
 
 /// The columns of the first tokens of the statements in a unit's last function.
-fn statement_columns(alloc: Global, it: &Unit) -> Result<Vec<u32>, AllocError> {
+fn statement_columns(alloc: Global, it: &Unit) -> Result<Vec<u32>, Fail> {
     let mut columns = Vec::new(alloc);
     if let Some(External::Function { body, .. }) = it.externals.last() {
         for labelled in &body.statements {
@@ -297,40 +355,60 @@ fn statement_columns(alloc: Global, it: &Unit) -> Result<Vec<u32>, AllocError> {
     Ok(columns)
 }
 
+/// The same of a function with that body.
+fn columns_in(alloc: Global, body: &str) -> Result<Vec<u32>, Fail> {
+    let text = function(alloc, body)?;
+    let it = unit_of(alloc, &text)?;
+    statement_columns(alloc, &it)
+}
+
 // Own: where a statement is. C has no positions.
 #[test]
 fn statements_begin_at_their_first_tokens(rt: HostRuntime) -> Result<(), Fail> {
     let alloc = rt.alloc();
-    let text = function(alloc, "a = 1; if (b) c; (d)++; { } ; return 1;")?;
-    let Ok(it) = read(alloc, &text)? else {
-        return Err(Fail::new("the text is a unit"));
-    };
-    let columns = statement_columns(alloc, &it)?;
+    let columns = columns_in(alloc, "a = 1; if (b) c; (d)++; { } ; return 1;")?;
     assert!(rt; columns.as_slice() == [15, 22, 32, 39, 43, 45].as_slice());
     Ok(())
 }
 
 /// The column of the first specifier of a unit's first declaration or function; 0 if it has none.
-fn specifier_column(alloc: Global, text: &[u8]) -> Result<u32, Fail> {
-    let Ok(it) = read(alloc, text)? else {
-        return Err(Fail::new("the text is a unit"));
-    };
+fn first_column(it: &Unit) -> u32 {
     let place = match it.externals.first() {
         Some(External::Function { specifiers, .. }) => first_of_specifiers(specifiers),
         Some(External::Declaration(it)) => first_of_specifiers(&it.specifiers),
         None => None,
     };
-    Ok(place.map_or(0, |place| place.pos.col))
+    place.map_or(0, |place| place.pos.col)
 }
+
+/// The same of the unit that a text is.
+fn specifier_column(alloc: Global, text: &[u8]) -> Result<u32, Fail> {
+    let it = unit_of(alloc, text)?;
+    Ok(first_column(&it))
+}
+
+/// The first text of the rows whose first specifier is in another column, if any.
+fn misplaced<'a>(alloc: Global, rows: &[(&'a str, u32)]) -> Result<Option<&'a str>, Fail> {
+    for (text, column) in rows {
+        if specifier_column(alloc, text.as_bytes())? != *column {
+            return Ok(Some(*text));
+        }
+    }
+    Ok(None)
+}
+
+/// Texts with the columns of their first specifiers.
+const SPECIFIERS: [(&str, u32); 4] = [
+    ("  unsigned static x;", 3),
+    (" struct { int a; } x;", 2),
+    ("int f(void) { }", 1),
+    ("f(void) { }", 0),
+];
 
 // Own: where specifiers are. X3.159-1989 3.7.1: a function may have none.
 #[test]
 fn specifiers_begin_at_their_first_tokens(rt: HostRuntime) -> Result<(), Fail> {
-    let alloc = rt.alloc();
-    assert_eq!(rt; specifier_column(alloc, b"  unsigned static x;")?, 3);
-    assert_eq!(rt; specifier_column(alloc, b" struct { int a; } x;")?, 2);
-    assert_eq!(rt; specifier_column(alloc, b"int f(void) { }")?, 1);
-    assert_eq!(rt; specifier_column(alloc, b"f(void) { }")?, 0);
+    assert_eq!(rt; misplaced(rt.alloc(), &SPECIFIERS)?, None);
     Ok(())
 }
 
@@ -354,22 +432,63 @@ int twice(int n) {
     return (int)((struct Node *)*h)->where.v;
 }";
 
+/// Whether the texts of these tokens are the same.
+fn have_same_texts(spelled: &[Token], tokens: &[SourceToken]) -> bool {
+    if spelled.len() != tokens.len() {
+        return false;
+    }
+    for (one, other) in spelled.iter().zip(tokens.iter()) {
+        if one.text.items() != other.token.text.items() {
+            return false;
+        }
+    }
+    true
+}
+
+/// Whether a unit is spelled by the texts of these tokens.
+fn is_spelled_so(alloc: Global, it: &Unit, tokens: &[SourceToken]) -> Result<bool, Fail> {
+    let spelled = answer(spell(alloc, it))?;
+    Ok(have_same_texts(&spelled, tokens))
+}
+
+/// How many external declarations a unit has, and whether it is spelled so.
+fn spelled_so(alloc: Global, it: &Unit, tokens: &[SourceToken]) -> Result<(usize, bool), Fail> {
+    Ok((it.externals.len(), is_spelled_so(alloc, it, tokens)?))
+}
+
+/// The same of the unit that these tokens are.
+fn spelled_again(alloc: Global, tokens: &[SourceToken]) -> Result<(usize, bool), Fail> {
+    let it = accepted(unit(alloc, tokens))?;
+    spelled_so(alloc, &it, tokens)
+}
+
+/// The same of the unit that a text is.
+fn text_spelled_again(alloc: Global, text: &[u8]) -> Result<(usize, bool), Fail> {
+    let tokens = present(tokens_of(alloc, text)?)?;
+    spelled_again(alloc, &tokens)
+}
+
 // X3.159-1989 3.7: what is spelled of the tree is what was read.
 #[test]
 fn a_source_is_spelled_as_it_was_read(rt: HostRuntime) -> Result<(), Fail> {
-    let Some(tokens) = tokens_of(rt.alloc(), SOURCE)? else {
-        return Err(Fail::new("the text has tokens"));
-    };
-    let Ok(it) = unit(rt.alloc(), &tokens) else {
-        return Err(Fail::new("the text is a unit"));
-    };
-    assert!(rt; it.externals.len() == 9);
-    let spelled = spell(rt.alloc(), &it)?;
-    assert!(rt; spelled.len() == tokens.len());
-    for (one, other) in spelled.iter().zip(tokens.iter()) {
-        assert!(rt; one.text.items() == other.token.text.items());
-    }
+    let (externals, is_same) = text_spelled_again(rt.alloc(), SOURCE)?;
+    assert!(rt; externals == 9);
+    assert!(rt; is_same);
     Ok(())
+}
+
+/// Whether tokens are refused at the function in that text.
+fn are_refused_there(alloc: Global, tokens: &[SourceToken]) -> bool {
+    let read = unit(alloc, tokens);
+    refusal(&read) == Some((9, 1))
+}
+
+/// The same of a text, if it has tokens.
+fn is_refused_there(alloc: Global, text: &[u8]) -> Result<bool, Fail> {
+    match tokens_of(alloc, text)? {
+        Some(tokens) => Ok(are_refused_there(alloc, &tokens)),
+        None => Ok(true),
+    }
 }
 
 // X3.159-1989 3.7: no front of a function's tokens is a unit; each is refused at the function.
@@ -377,13 +496,7 @@ fn a_source_is_spelled_as_it_was_read(rt: HostRuntime) -> Result<(), Fail> {
 fn no_front_of_a_function_is_a_unit(rt: HostRuntime) -> Result<(), Fail> {
     let begins = 328;
     for end in begins + 1..SOURCE.len() {
-        match tokens_of(rt.alloc(), &SOURCE[..end])? {
-            Some(tokens) => {
-                let it = unit(rt.alloc(), &tokens);
-                assert!(rt; refusal(&it) == Some((9, 1)));
-            }
-            None => {}
-        }
+        assert!(rt; is_refused_there(rt.alloc(), &SOURCE[..end])?);
     }
     Ok(())
 }
@@ -396,43 +509,60 @@ fn is_too_deep(read: &Result<Unit, ParseError>) -> bool {
     }
 }
 
+/// A front, a part that is repeated so many times, and a back.
+type Repeated<'a> = (&'a [u8], &'a [u8], usize, &'a [u8]);
+
+/// Whether such a text is a unit.
+fn is_unit(alloc: Global, (front, part, times, back): Repeated<'_>) -> Result<bool, Fail> {
+    let text = around(alloc, front, part, times, back)?;
+    Ok(refusal_of(alloc, &text)? == Some((0, 0)))
+}
+
+/// Whether such a text is refused for its nesting.
+fn nests_too_deep(alloc: Global, (front, part, times, back): Repeated<'_>) -> Result<bool, Fail> {
+    let text = around(alloc, front, part, times, back)?;
+    let read = read(alloc, &text)?;
+    Ok(is_too_deep(&read))
+}
+
+/// Each of these texts is a unit.
+fn are_units(rt: &impl Abort, alloc: Global, rows: &[Repeated<'_>]) -> Result<(), Fail> {
+    for row in rows {
+        assert!(rt; is_unit(alloc, *row)?);
+    }
+    Ok(())
+}
+
+/// Whether blocks that nest so deep are a unit.
+fn blocks_are_unit(alloc: Global, depth: usize) -> Result<bool, Fail> {
+    let blocks = around(alloc, b"void f(void) ", b"{", depth, b"")?;
+    is_unit(alloc, (&blocks, b"}", depth, b""))
+}
+
 // Own: the nesting is at most 256, which is tried before the grammar.
 #[test]
 fn units_nest_256_deep(rt: HostRuntime) -> Result<(), Fail> {
-    let blocks = around(rt.alloc(), b"void f(void) ", b"{", 255, b"")?;
-    let whole = around(rt.alloc(), &blocks, b"}", 255, b"")?;
-    assert!(rt; refusal(&read(rt.alloc(), &whole)?) == Some((0, 0)));
-    let more = around(rt.alloc(), b"void f(void) ", b"{", 256, b"")?;
-    assert!(rt; is_too_deep(&read(rt.alloc(), &more)?));
-    let chain = around(
-        rt.alloc(),
-        b"void f(void) { ",
-        b"if (a) b; else ",
-        10_000,
-        b"c; }",
-    )?;
-    assert!(rt; is_too_deep(&read(rt.alloc(), &chain)?));
-    let short = around(
-        rt.alloc(),
-        b"void f(void) { ",
-        b"if (a) b; else ",
-        250,
-        b"c; }",
-    )?;
-    assert!(rt; refusal(&read(rt.alloc(), &short)?) == Some((0, 0)));
+    let alloc = rt.alloc();
+    let front = b"void f(void) { ";
+    let part = b"if (a) b; else ";
+    assert!(rt; blocks_are_unit(alloc, 255)?);
+    assert!(rt; nests_too_deep(alloc, (b"void f(void) ", b"{", 256, b""))?);
+    assert!(rt; nests_too_deep(alloc, (front, part, 10_000, b"c; }"))?);
+    assert!(rt; is_unit(alloc, (front, part, 250, b"c; }"))?);
     Ok(())
 }
 
 // Long lists take no deep stack.
 #[test]
 fn lists_may_be_long(rt: HostRuntime) -> Result<(), Fail> {
-    let values = around(rt.alloc(), b"int a[] = {", b"1, ", 20_000, b"};")?;
-    assert!(rt; refusal(&read(rt.alloc(), &values)?) == Some((0, 0)));
-    let names = around(rt.alloc(), b"int a", b", *b", 20_000, b";")?;
-    assert!(rt; refusal(&read(rt.alloc(), &names)?) == Some((0, 0)));
-    let statements = around(rt.alloc(), b"void f(void) {", b"a; ", 20_000, b"}")?;
-    assert!(rt; refusal(&read(rt.alloc(), &statements)?) == Some((0, 0)));
-    let labels = around(rt.alloc(), b"void f(void) {", b"case 1: ", 20_000, b"a; }")?;
-    assert!(rt; refusal(&read(rt.alloc(), &labels)?) == Some((0, 0)));
-    Ok(())
+    are_units(
+        &rt,
+        rt.alloc(),
+        &[
+            (b"int a[] = {", b"1, ", 20_000, b"};"),
+            (b"int a", b", *b", 20_000, b";"),
+            (b"void f(void) {", b"a; ", 20_000, b"}"),
+            (b"void f(void) {", b"case 1: ", 20_000, b"a; }"),
+        ],
+    )
 }
