@@ -4,21 +4,32 @@ use crate::texts::{counted_literal, tokens_of};
 use hs_constants::{
     Number, Value, character_value, condition_value, has_string_value, number_value, string_value,
 };
-use hs_tokens::{Origin, SourceToken};
-use std::alloc::Global;
+use hs_tokens::{Origin, SourceToken, Token};
+use std::alloc::{AllocError, Global};
 use std::process::Abort;
 use std::test::Fail;
 
-/// The value of the condition that a text is, if it is one.
-fn value_of(alloc: Global, text: &[u8]) -> Result<Option<Value>, Fail> {
-    let mut tokens = Vec::new(alloc);
-    for token in tokens_of(alloc, text)? {
-        tokens.push(SourceToken {
+/// Tokens that no macro made.
+fn with_origins(alloc: Global, tokens: Vec<Token>) -> Result<Vec<SourceToken>, AllocError> {
+    let mut sources = Vec::new(alloc);
+    for token in tokens {
+        sources.push(SourceToken {
             token,
             origin: Origin::Plain,
         })?;
     }
-    Ok(condition_value(alloc, tokens.as_slice())?)
+    Ok(sources)
+}
+
+/// An answer, with its refusal as one of the tests.
+fn answer<T: Drop>(found: Result<T, AllocError>) -> Result<T, Fail> {
+    Ok(found?)
+}
+
+/// The value of the condition that a text is, if it is one.
+fn value_of(alloc: Global, text: &[u8]) -> Result<Option<Value>, Fail> {
+    let tokens = with_origins(alloc, tokens_of(alloc, text)?)?;
+    answer(condition_value(alloc, &tokens))
 }
 
 /// Each text is a condition of type long with the value next to it.
@@ -281,11 +292,18 @@ fn branches_have_one_type(rt: HostRuntime) -> Result<(), Fail> {
     )
 }
 
+/// Whether the evaluation of the condition that a text is divides by 0, if it is one.
+fn divides_by_0(alloc: Global, text: &[u8]) -> Result<Option<bool>, Fail> {
+    match value_of(alloc, text)? {
+        Some(value) => Ok(Some(value.fails)),
+        None => Ok(None),
+    }
+}
+
 /// Each text is a condition, and its evaluation divides by 0 if it says so.
 fn divide_by_0(rt: &impl Abort, alloc: Global, rows: &[(&[u8], bool)]) -> Result<(), Fail> {
     for (text, fails) in rows {
-        let value = value_of(alloc, text)?;
-        assert_eq!(rt; value.map(|value| value.fails), Some(*fails), "in {text:?}");
+        assert_eq!(rt; divides_by_0(alloc, text)?, Some(*fails), "in {text:?}");
     }
     Ok(())
 }
@@ -542,26 +560,49 @@ fn bytes_of_a_constant_are_a_number(rt: HostRuntime) {
     );
 }
 
+/// Appends a part a hundred thousand times.
+fn append_often(text: &mut Vec<u8>, part: &[u8]) -> Result<(), AllocError> {
+    for _ in 0..100_000 {
+        text.extend_from_slice(part)?;
+    }
+    Ok(())
+}
+
+/// A text with a front and a back that are repeated as often.
+fn nested(alloc: Global, front: &[u8], middle: &[u8], back: &[u8]) -> Result<Vec<u8>, AllocError> {
+    let mut text = Vec::new(alloc);
+    append_often(&mut text, front)?;
+    text.extend_from_slice(middle)?;
+    append_often(&mut text, back)?;
+    Ok(text)
+}
+
+/// Whether the value of that text is unsigned, if the text is a condition.
+fn is_unsigned(
+    alloc: Global,
+    front: &[u8],
+    middle: &[u8],
+    back: &[u8],
+) -> Result<Option<bool>, Fail> {
+    let text = nested(alloc, front, middle, back)?;
+    match value_of(alloc, &text)? {
+        Some(value) => Ok(Some(value.unsigned)),
+        None => Ok(None),
+    }
+}
+
 // No nesting is too deep: what waits stands on the heap.
 #[test]
 fn nesting_has_no_limit(rt: HostRuntime) -> Result<(), Fail> {
+    let alloc = rt.alloc();
     let parts: [(&[u8], &[u8], &[u8]); 4] = [
         (b"(", b"1", b")"),
         (b"-~", b"1", b""),
         (b"0?2:", b"1", b""),
         (b"1?", b"1", b":0"),
     ];
-    for (front, middle, behind) in parts {
-        let mut text = Vec::new(rt.alloc());
-        for _ in 0..100_000 {
-            text.extend_from_slice(front)?;
-        }
-        text.extend_from_slice(middle)?;
-        for _ in 0..100_000 {
-            text.extend_from_slice(behind)?;
-        }
-        let value = value_of(rt.alloc(), text.as_slice())?;
-        assert_eq!(rt; value.map(|value| value.unsigned), Some(false));
+    for (front, middle, back) in parts {
+        assert_eq!(rt; is_unsigned(alloc, front, middle, back)?, Some(false));
     }
     Ok(())
 }
@@ -599,19 +640,28 @@ fn strings_have_these_bytes(rt: HostRuntime) -> Result<(), Fail> {
     )
 }
 
+/// How many bytes a counted string of a line's end and so many letters has, and whether they begin so, if it has a value.
+fn counted_bytes(alloc: Global, letters: usize) -> Result<Option<(usize, bool)>, Fail> {
+    let text = counted_literal(alloc, b"\\n", letters, b"")?;
+    match string_value(alloc, &text)? {
+        Some(bytes) => Ok(Some((bytes.items().len(), bytes.items().starts_with(b"\xff\naa")))),
+        None => Ok(None),
+    }
+}
+
+/// Whether such a string is said to have a value.
+fn can_be_counted(alloc: Global, letters: usize) -> Result<bool, AllocError> {
+    let text = counted_literal(alloc, b"\\n", letters, b"")?;
+    Ok(has_string_value(&text))
+}
+
 // Own: the count of a string that begins with `\p` is a byte, so that it has no value if the others are more than 255.
 #[test]
 fn a_count_of_256_is_no_byte(rt: HostRuntime) -> Result<(), Fail> {
     let alloc = rt.alloc();
-    let longest = counted_literal(alloc, b"\\n", 254, b"")?;
-    let Some(bytes) = string_value(alloc, longest.as_slice())? else {
-        return Err(Fail::new("255 bytes can be counted"));
-    };
-    assert_eq!(rt; bytes.items().len(), 256);
-    assert!(rt; bytes.items().starts_with(b"\xff\naa"));
-    assert!(rt; has_string_value(longest.as_slice()));
-    let longer = counted_literal(alloc, b"\\n", 255, b"")?;
-    assert!(rt; string_value(alloc, longer.as_slice())?.is_none());
-    assert!(rt; !has_string_value(longer.as_slice()));
+    assert_eq!(rt; counted_bytes(alloc, 254)?, Some((256, true)));
+    assert!(rt; can_be_counted(alloc, 254)?);
+    assert_eq!(rt; counted_bytes(alloc, 255)?, None);
+    assert!(rt; !can_be_counted(alloc, 255)?);
     Ok(())
 }

@@ -1,7 +1,8 @@
 //! Directives: files as units, their limits and refusals.
 
+use crate::texts::with_item;
 use hs_base::{Bytes, MemFiles, Pos};
-use hs_directives::{MacroKind, ReadError, ScanKind, Source, preprocess};
+use hs_directives::{MacroChange, MacroKind, ReadError, ScanKind, Source, preprocess};
 use hs_tokens::{Origin, SourceToken};
 use std::alloc::{AllocError, Global};
 use std::process::Abort;
@@ -10,13 +11,35 @@ use std::test::Fail;
 /// Names, and the text of each.
 type Texts<'a> = &'a [(&'a str, &'a str)];
 
-/// Files in memory, whose reads of these numbers fail.
-fn files_of(alloc: Global, texts: Texts<'_>, failing: Vec<u64>) -> Result<MemFiles, AllocError> {
+/// The name of a file, and its bytes.
+type File = (String, Vec<u8>);
+
+/// A file with that name and that text.
+fn file_of(alloc: Global, name: &str, text: &str) -> Result<File, AllocError> {
+    Ok((name.to_string(alloc)?, text.as_bytes().to_vec(alloc)?))
+}
+
+/// Files with these names and texts.
+fn listing_of(alloc: Global, texts: Texts<'_>) -> Result<Vec<File>, AllocError> {
     let mut listing = Vec::new(alloc);
     for (name, text) in texts {
-        listing.push((name.to_string(alloc)?, text.as_bytes().to_vec(alloc)?))?;
+        listing = with_item(listing, file_of(alloc, name, text))?;
     }
-    Ok(MemFiles::new(listing, failing))
+    Ok(listing)
+}
+
+/// Files in memory, of which no read fails.
+fn files_of(alloc: Global, texts: Texts<'_>) -> Result<MemFiles, AllocError> {
+    Ok(MemFiles::new(listing_of(alloc, texts)?, Vec::new(alloc)))
+}
+
+/// The names of the roots.
+fn names_of(alloc: Global, roots: &[&str]) -> Result<Vec<String>, AllocError> {
+    let mut names = Vec::new(alloc);
+    for root in roots {
+        names.push(root.to_string(alloc)?)?;
+    }
+    Ok(names)
 }
 
 /// What the roots are read as.
@@ -25,11 +48,8 @@ fn read(
     files: &mut MemFiles,
     roots: &[&str],
 ) -> Result<Result<Source, ReadError>, AllocError> {
-    let mut names = Vec::new(alloc);
-    for root in roots {
-        names.push(root.to_string(alloc)?)?;
-    }
-    Ok(preprocess(alloc, files, names.as_slice()))
+    let names = names_of(alloc, roots)?;
+    Ok(preprocess(alloc, files, &names))
 }
 
 /// A place in words.
@@ -103,7 +123,8 @@ fn answer(alloc: Global, files: &mut MemFiles, roots: &[&str]) -> Result<String,
 
 /// The same of these files.
 fn said(alloc: Global, texts: Texts<'_>, roots: &[&str]) -> Result<String, AllocError> {
-    answer(alloc, &mut files_of(alloc, texts, Vec::new(alloc))?, roots)
+    let mut files = files_of(alloc, texts)?;
+    answer(alloc, &mut files, roots)
 }
 
 /// What the text says as the one file, `m.c`.
@@ -281,13 +302,19 @@ fn definitions_have_their_forms(rt: HostRuntime) -> Result<(), Fail> {
     )
 }
 
+/// What a group says that has that condition, under four macros.
+fn under_condition(alloc: Global, condition: &str) -> Result<String, AllocError> {
+    let text = format!(in alloc;
+        "#define X 2\n#define f(x) x+x\n#define Z W\n#define D defined\n#if {condition}\na\n#else\nb\n#endif"
+    )?;
+    alone(alloc, text.as_str())
+}
+
 /// Each condition holds under four macros.
 fn hold(rt: &impl Abort, alloc: Global, conditions: &[&str]) -> Result<(), Fail> {
     for condition in conditions {
-        let text = format!(in alloc;
-            "#define X 2\n#define f(x) x+x\n#define Z W\n#define D defined\n#if {condition}\na\n#else\nb\n#endif"
-        )?;
-        assert_eq!(rt; alone(alloc, text.as_str())?.as_str(), "a", "{condition}");
+        let found = under_condition(alloc, condition)?;
+        assert_eq!(rt; found.as_str(), "a", "{condition}");
     }
     Ok(())
 }
@@ -335,15 +362,31 @@ fn defined_asks_for_a_name(rt: HostRuntime) -> Result<(), Fail> {
     )
 }
 
+/// What a text says that has the line as the condition of an `#if`.
+fn as_if(alloc: Global, line: &str) -> Result<String, AllocError> {
+    let text = format!(in alloc; "#define D defined\n#define E\n #if {line}\n#endif")?;
+    alone(alloc, text.as_str())
+}
+
+/// What a text says that has the line as the condition of an `#elif`, after a group that is skipped.
+fn as_elif(alloc: Global, line: &str) -> Result<String, AllocError> {
+    let text = format!(in alloc; "#define D defined\n#define E\n#if 0\n #elif {line}\n#endif")?;
+    alone(alloc, text.as_str())
+}
+
 /// Each line is refused as the condition of an `#if`, and of an `#elif` after a group that is skipped.
 fn are_no_conditions(rt: &impl Abort, alloc: Global, lines: &[&str]) -> Result<(), Fail> {
     for line in lines {
-        let text = format!(in alloc; "#define D defined\n#define E\n #if {line}\n#endif")?;
-        let found = alone(alloc, text.as_str())?;
-        assert_eq!(rt; found.as_str(), "!BadCondition 0:3:2", "{line}");
-        let text = format!(in alloc; "#define D defined\n#define E\n#if 0\n #elif {line}\n#endif")?;
-        let found = alone(alloc, text.as_str())?;
-        assert_eq!(rt; found.as_str(), "!BadCondition 0:4:2", "{line}");
+        assert_eq!(rt;
+            as_if(alloc, line)?.as_str(),
+            "!BadCondition 0:3:2",
+            "{line}"
+        );
+        assert_eq!(rt;
+            as_elif(alloc, line)?.as_str(),
+            "!BadCondition 0:4:2",
+            "{line}"
+        );
     }
     Ok(())
 }
@@ -481,34 +524,77 @@ fn a_refusal_is_in_its_header(rt: HostRuntime) -> Result<(), Fail> {
     )
 }
 
+/// The name of a header that has a number.
+fn numbered_name(alloc: Global, number: u32) -> Result<String, AllocError> {
+    format!(in alloc; "{number}.h")
+}
+
+/// A header that has a number.
+fn numbered(alloc: Global, number: u32, text: &str) -> Result<File, AllocError> {
+    let name = numbered_name(alloc, number)?;
+    file_of(alloc, name.as_str(), text)
+}
+
+/// A line that includes the header with that number.
+fn include_line(alloc: Global, number: u32) -> Result<String, AllocError> {
+    format!(in alloc; "#include \"{number}.h\"")
+}
+
+/// A header that includes the one with the next number.
+fn including(alloc: Global, level: u32, next: u32) -> Result<File, AllocError> {
+    let text = include_line(alloc, next)?;
+    numbered(alloc, level, text.as_str())
+}
+
+/// 32 headers, each of which includes the next one, and a last one with that text.
+fn chain_of(alloc: Global, last: &str) -> Result<Vec<File>, AllocError> {
+    let mut listing = Vec::new(alloc);
+    for level in 0_u32..32 {
+        let next = level + 1;
+        listing = with_item(listing, including(alloc, level, next))?;
+    }
+    with_item(listing, numbered(alloc, 32, last))
+}
+
+/// What the first of these headers says.
+fn chained(alloc: Global, last: &str) -> Result<String, AllocError> {
+    let mut files = MemFiles::new(chain_of(alloc, last)?, Vec::new(alloc));
+    answer(alloc, &mut files, &["0.h"])
+}
+
+/// With each of these texts as the last header, the first one says the words next to it.
+fn say_in_chains(rt: &impl Abort, alloc: Global, rows: &[(&str, &str)]) -> Result<(), Fail> {
+    for (last, words) in rows {
+        assert_eq!(rt; chained(alloc, last)?.as_str(), *words, "{last}");
+    }
+    Ok(())
+}
+
 // Own: 32 levels of inclusion may be open. The name has its form before the depth is looked at, and the depth before the file.
 #[test]
 fn files_include_one_another_32_deep(rt: HostRuntime) -> Result<(), Fail> {
     let alloc = rt.alloc();
-    let found = alone(alloc, "a\n #include \"m.c\"")?;
-    assert_eq!(rt; found.as_str(), "!IncludeDepth 0:2:2");
-    let guarded = "#ifndef G\n#define G\n#include \"m.c\"\na\n#endif\nb";
-    assert_eq!(rt; alone(alloc, guarded)?.as_str(), "b a b");
-    let rows = [
-        ("a", "a"),
-        ("a\n #include \"no.h\"", "!IncludeDepth 32:2:2"),
-        (" #include", "!BadDirective 32:1:2"),
-        ("#if 0\n#include \"no.h\"\n#endif\nb", "b"),
-    ];
-    for (last, words) in rows {
-        let mut listing = Vec::new(alloc);
-        for level in 0_u32..32 {
-            let next = level + 1;
-            let text = format!(in alloc; "#include \"{next}.h\"")?;
-            let name = format!(in alloc; "{level}.h")?;
-            listing.push((name, text.as_bytes().to_vec(alloc)?))?;
-        }
-        listing.push(("32.h".to_string(alloc)?, last.as_bytes().to_vec(alloc)?))?;
-        let mut files = MemFiles::new(listing, Vec::new(alloc));
-        let found = answer(alloc, &mut files, &["0.h"])?;
-        assert_eq!(rt; found.as_str(), words, "{last}");
-    }
-    Ok(())
+    say(
+        &rt,
+        alloc,
+        &[
+            ("a\n #include \"m.c\"", "!IncludeDepth 0:2:2"),
+            (
+                "#ifndef G\n#define G\n#include \"m.c\"\na\n#endif\nb",
+                "b a b",
+            ),
+        ],
+    )?;
+    say_in_chains(
+        &rt,
+        alloc,
+        &[
+            ("a", "a"),
+            ("a\n #include \"no.h\"", "!IncludeDepth 32:2:2"),
+            (" #include", "!BadDirective 32:1:2"),
+            ("#if 0\n#include \"no.h\"\n#endif\nb", "b"),
+        ],
+    )
 }
 
 /// Names, a space between two.
@@ -539,6 +625,36 @@ fn summary(alloc: Global, source: &Source) -> Result<String, AllocError> {
     format!(in alloc; "{words}; {names}; {roots}; {included}")
 }
 
+/// The source, if the roots are read.
+fn accepted<T: Drop, E: Drop>(found: Result<T, E>) -> Result<T, Fail> {
+    match found {
+        Ok(it) => Ok(it),
+        Err(_) => Err(Fail::from("the roots are read")),
+    }
+}
+
+/// The source that the roots are read as.
+fn source_in(alloc: Global, files: &mut MemFiles, roots: &[&str]) -> Result<Source, Fail> {
+    accepted(read(alloc, files, roots)?)
+}
+
+/// The source that the roots, among these files, are read as.
+fn source_of(alloc: Global, texts: Texts<'_>, roots: &[&str]) -> Result<Source, Fail> {
+    let mut files = files_of(alloc, texts)?;
+    source_in(alloc, &mut files, roots)
+}
+
+/// The summary of a source, and how many units it has.
+fn with_units(alloc: Global, source: &Source) -> Result<(String, usize), Fail> {
+    Ok((summary(alloc, source)?, source.units.items().len()))
+}
+
+/// The same of what the roots are read as.
+fn summary_of(alloc: Global, texts: Texts<'_>, roots: &[&str]) -> Result<(String, usize), Fail> {
+    let source = source_of(alloc, texts, roots)?;
+    with_units(alloc, &source)
+}
+
 /// The roots, among these files, have the summary next to them, and as many units as there are roots.
 fn have_summaries(
     rt: &impl Abort,
@@ -547,12 +663,9 @@ fn have_summaries(
     rows: &[(&[&str], &str)],
 ) -> Result<(), Fail> {
     for (roots, words) in rows {
-        let mut files = files_of(alloc, texts, Vec::new(alloc))?;
-        let Ok(source) = read(alloc, &mut files, roots)? else {
-            return Err(Fail::from("the roots are read"));
-        };
-        assert_eq!(rt; summary(alloc, &source)?.as_str(), *words);
-        assert_eq!(rt; source.units.items().len(), roots.len());
+        let (found, units) = summary_of(alloc, texts, roots)?;
+        assert_eq!(rt; found.as_str(), *words);
+        assert_eq!(rt; units, roots.len());
     }
     Ok(())
 }
@@ -583,8 +696,16 @@ fn units_share_files_and_no_macros(rt: HostRuntime) -> Result<(), Fail> {
     )
 }
 
+/// A change of a macro in words.
+fn changed(alloc: Global, change: &MacroChange) -> Result<String, AllocError> {
+    let name = String::from_utf8_lossy(alloc, change.name.items())?;
+    let pos = place(alloc, change.pos)?;
+    let word = if change.on { "on" } else { "off" };
+    format!(in alloc; "{word} {name} {pos}")
+}
+
 /// The changes of macros in a unit in words, a bar after each unit but the last.
-fn changes_of(alloc: Global, source: &Source) -> Result<String, AllocError> {
+fn changes(alloc: Global, source: &Source) -> Result<String, Fail> {
     let mut words = String::new(alloc);
     let mut later = false;
     for unit in source.changes.items() {
@@ -593,13 +714,16 @@ fn changes_of(alloc: Global, source: &Source) -> Result<String, AllocError> {
         }
         later = true;
         for change in unit.items() {
-            let name = String::from_utf8_lossy(alloc, change.name.items())?;
-            add(&mut words, if change.on { "on" } else { "off" })?;
-            add(&mut words, name.as_str())?;
-            add(&mut words, place(alloc, change.pos)?.as_str())?;
+            add(&mut words, changed(alloc, change)?.as_str())?;
         }
     }
     Ok(words)
+}
+
+/// The same of what the roots are read as.
+fn changes_of(alloc: Global, texts: Texts<'_>, roots: &[&str]) -> Result<String, Fail> {
+    let source = source_of(alloc, texts, roots)?;
+    changes(alloc, &source)
 }
 
 // Own: each `#define` and `#undef` that is reached is a change, also one that changes nothing. In an included file it stands at the
@@ -625,11 +749,7 @@ fn changes_of_macros_are_in_their_order(rt: HostRuntime) -> Result<(), Fail> {
         (&["b.c", "b.c"], "on f 0:2:7 | on f 0:2:7"),
     ];
     for (roots, words) in rows {
-        let mut files = files_of(alloc, &texts, Vec::new(alloc))?;
-        let Ok(source) = read(alloc, &mut files, roots)? else {
-            return Err(Fail::from("the roots are read"));
-        };
-        assert_eq!(rt; changes_of(alloc, &source)?.as_str(), words);
+        assert_eq!(rt; changes_of(alloc, &texts, roots)?.as_str(), words);
     }
     Ok(())
 }
@@ -644,6 +764,29 @@ fn told(alloc: Global, source: &SourceToken) -> Result<String, AllocError> {
     }
 }
 
+/// The same of all tokens.
+fn told_all(alloc: Global, source: &Source) -> Result<String, AllocError> {
+    let mut words = String::new(alloc);
+    for unit in source.units.items() {
+        for token in unit.items() {
+            add(&mut words, told(alloc, token)?.as_str())?;
+        }
+    }
+    Ok(words)
+}
+
+/// The same of a source, and the texts of its files.
+fn with_texts(alloc: Global, source: &Source) -> Result<(String, String), Fail> {
+    let words = told_all(alloc, source)?;
+    Ok((words, listed(alloc, source.texts.items())?))
+}
+
+/// The same of what the roots are read as.
+fn told_of(alloc: Global, texts: Texts<'_>, roots: &[&str]) -> Result<(String, String), Fail> {
+    let source = source_of(alloc, texts, roots)?;
+    with_texts(alloc, &source)
+}
+
 // Own: a token is at its own place in the file that has it, and one that a macro put there at the outermost name. A source has the
 // bytes of the files as they are.
 #[test]
@@ -653,21 +796,11 @@ fn tokens_are_in_the_file_that_has_them(rt: HostRuntime) -> Result<(), Fail> {
         ("m.c", "a\n #include \"h.h\"\r\nX\n b"),
         ("h.h", "#define X c 1\n d\\\ne /* */ X"),
     ];
-    let mut files = files_of(alloc, &texts, Vec::new(alloc))?;
-    let Ok(source) = read(alloc, &mut files, &["m.c"])? else {
-        return Err(Fail::from("the root is read"));
-    };
-    let mut words = String::new(alloc);
-    for unit in source.units.items() {
-        for token in unit.items() {
-            add(&mut words, told(alloc, token)?.as_str())?;
-        }
-    }
+    let (words, found) = told_of(alloc, &texts, &["m.c"])?;
     assert_eq!(rt;
         words.as_str(),
         "a 0:1:1 de 1:2:2 c 1:3:9 macro 1 1:3:9 macro c 0:3:1 macro 1 0:3:1 macro b 0:4:2"
     );
-    let found = listed(alloc, source.texts.items())?;
     assert_eq!(rt;
         found.as_str(),
         "a\n #include \"h.h\"\r\nX\n b #define X c 1\n d\\\ne /* */ X"
@@ -685,33 +818,104 @@ fn lengths(alloc: Global, source: &Source) -> Result<String, AllocError> {
     Ok(words)
 }
 
-// Own: a file is read once, at its first mention. Each row is the number of the read that fails, counted from 1.
-#[test]
-fn a_file_is_read_once(rt: HostRuntime) -> Result<(), Fail> {
-    let alloc = rt.alloc();
+/// How many tokens each unit of four roots has, or the refusal in words.
+fn lengths_in(alloc: Global, files: &mut MemFiles) -> Result<String, AllocError> {
+    match read(alloc, files, &["m.c", "n.c", "h.h", "m.c"])? {
+        Ok(source) => lengths(alloc, &source),
+        Err(error) => refusal(alloc, &error),
+    }
+}
+
+/// The same of files of which the read with that number fails.
+fn lengths_of(alloc: Global, texts: Texts<'_>, failing: u64) -> Result<String, AllocError> {
+    let failing = vec![in alloc; failing]?;
+    let mut files = MemFiles::new(listing_of(alloc, texts)?, failing);
+    lengths_in(alloc, &mut files)
+}
+
+/// The same `#include` a thousand times.
+fn thousand_includes(alloc: Global) -> Result<String, AllocError> {
     let mut many = String::new(alloc);
     for _turn in 0_u32..1000 {
         many.push_str("#include \"h.h\"\n")?;
     }
-    let rows = [
-        (1, "!ReadFault m.c"),
-        (2, "!ReadFault h.h"),
-        (3, "!ReadFault n.c"),
-        (4, "1000 1000 1 1000"),
-    ];
+    Ok(many)
+}
+
+/// The same of `m.c` and `n.c`, which include `h.h` a thousand times.
+fn lengths_of_includes(alloc: Global, failing: u64) -> Result<String, AllocError> {
+    let many = thousand_includes(alloc)?;
+    let texts = [("m.c", many.as_str()), ("h.h", "a"), ("n.c", many.as_str())];
+    lengths_of(alloc, &texts, failing)
+}
+
+/// If the read with the number fails, these files are read so.
+fn are_read_so(rt: &impl Abort, alloc: Global, rows: &[(u64, &str)]) -> Result<(), Fail> {
     for (failing, words) in rows {
-        let texts = [("m.c", many.as_str()), ("h.h", "a"), ("n.c", many.as_str())];
-        let mut files = files_of(alloc, &texts, vec![in alloc; failing]?)?;
-        let found = match read(alloc, &mut files, &["m.c", "n.c", "h.h", "m.c"])? {
-            Ok(source) => lengths(alloc, &source)?,
-            Err(error) => refusal(alloc, &error)?,
-        };
-        assert_eq!(rt; found.as_str(), words);
+        assert_eq!(rt; lengths_of_includes(alloc, *failing)?.as_str(), *words);
     }
+    Ok(())
+}
+
+// Own: a file is read once, at its first mention. Each row is the number of the read that fails, counted from 1.
+#[test]
+fn a_file_is_read_once(rt: HostRuntime) -> Result<(), Fail> {
+    let alloc = rt.alloc();
+    are_read_so(
+        &rt,
+        alloc,
+        &[
+            (1, "!ReadFault m.c"),
+            (2, "!ReadFault h.h"),
+            (3, "!ReadFault n.c"),
+            (4, "1000 1000 1 1000"),
+        ],
+    )?;
     assert_eq!(rt; said(alloc, &[], &["m.c"])?.as_str(), "!Missing m.c");
     let found = said(alloc, &[("m.c", "a")], &["m.c", ""])?;
     assert_eq!(rt; found.as_str(), "!Missing ");
     Ok(())
+}
+
+/// So many empty headers.
+fn empty_headers(alloc: Global, count: u32) -> Result<Vec<File>, AllocError> {
+    let mut listing = Vec::new(alloc);
+    for number in 0..count {
+        listing = with_item(listing, numbered(alloc, number, ""))?;
+    }
+    Ok(listing)
+}
+
+/// A text that includes all of these headers.
+fn including_all(alloc: Global, count: u32) -> Result<String, AllocError> {
+    let mut text = String::new(alloc);
+    for number in 0..count {
+        text.push_str(format!(in alloc; "#include \"{number}.h\"\n")?.as_str())?;
+    }
+    text.push_str("a")?;
+    Ok(text)
+}
+
+/// The file of that text.
+fn main_of(alloc: Global, count: u32) -> Result<File, AllocError> {
+    let text = including_all(alloc, count)?;
+    file_of(alloc, "m.c", text.as_str())
+}
+
+/// What that file says. Read 257 fails.
+fn said_with_headers(alloc: Global, count: u32) -> Result<String, AllocError> {
+    let failing = vec![in alloc; 257]?;
+    let listing = with_item(empty_headers(alloc, count)?, main_of(alloc, count))?;
+    let mut files = MemFiles::new(listing, failing);
+    answer(alloc, &mut files, &["m.c"])
+}
+
+/// What a file of so many spaces says.
+fn said_of_spaces(alloc: Global, count: usize) -> Result<String, AllocError> {
+    let spaces = vec![in alloc; b' '; count]?;
+    let listing = vec![in alloc; ("m.c".to_string(alloc)?, spaces)]?;
+    let mut files = MemFiles::new(listing, Vec::new(alloc));
+    answer(alloc, &mut files, &["m.c"])
 }
 
 // Own: the limits of the architecture's table: 256 files, each of 4194304 bytes. A file that is one too many is not read.
@@ -719,22 +923,47 @@ fn a_file_is_read_once(rt: HostRuntime) -> Result<(), Fail> {
 fn files_are_limited(rt: HostRuntime) -> Result<(), Fail> {
     let alloc = rt.alloc();
     for (headers, words) in [(255_u32, "a"), (256, "!Limit Files 256")] {
-        let mut text = String::new(alloc);
-        let mut listing = Vec::new(alloc);
-        for number in 0..headers {
-            text.push_str(format!(in alloc; "#include \"{number}.h\"\n")?.as_str())?;
-            listing.push((format!(in alloc; "{number}.h")?, Vec::new(alloc)))?;
-        }
-        text.push_str("a")?;
-        listing.push(("m.c".to_string(alloc)?, text.as_bytes().to_vec(alloc)?))?;
-        let mut files = MemFiles::new(listing, vec![in alloc; 257]?);
-        assert_eq!(rt; answer(alloc, &mut files, &["m.c"])?.as_str(), words);
+        let found = said_with_headers(alloc, headers)?;
+        assert_eq!(rt; found.as_str(), words);
     }
-    let long = vec![in alloc; b' '; 4_194_305]?;
-    let listing = vec![in alloc; ("m.c".to_string(alloc)?, long)]?;
-    let mut files = MemFiles::new(listing, Vec::new(alloc));
-    let found = answer(alloc, &mut files, &["m.c"])?;
+    let found = said_of_spaces(alloc, 4_194_305)?;
     assert_eq!(rt; found.as_str(), "!Limit FileBytes 4194304");
+    Ok(())
+}
+
+/// The definition of a macro as twice the one before it.
+fn twice_line(alloc: Global, level: u32, next: u32) -> Result<String, AllocError> {
+    format!(in alloc; "#define A{next} A{level} A{level}\n")
+}
+
+/// The definitions of `A0` to `A18`.
+fn levels(alloc: Global) -> Result<String, AllocError> {
+    let mut lines = "#define A0\n".to_string(alloc)?;
+    for level in 0_u32..18 {
+        let next = level + 1;
+        lines.push_str(twice_line(alloc, level, next)?.as_str())?;
+    }
+    Ok(lines)
+}
+
+/// A text after these definitions.
+fn after_levels(alloc: Global, text: &str) -> Result<String, AllocError> {
+    let mut lines = levels(alloc)?;
+    lines.push_str(text)?;
+    Ok(lines)
+}
+
+/// What the roots say, if that is the text of `m.c`.
+fn said_after_levels(alloc: Global, text: &str, roots: &[&str]) -> Result<String, AllocError> {
+    let text = after_levels(alloc, text)?;
+    said(alloc, &[("m.c", text.as_str()), ("n.c", "n")], roots)
+}
+
+/// Each text, as the first file, says the words next to it after these definitions.
+fn say_after_levels(rt: &impl Abort, alloc: Global, rows: &[(&str, &str)]) -> Result<(), Fail> {
+    for (text, words) in rows {
+        assert_eq!(rt; said_after_levels(alloc, text, &["m.c"])?.as_str(), *words);
+    }
     Ok(())
 }
 
@@ -743,24 +972,16 @@ fn files_are_limited(rt: HostRuntime) -> Result<(), Fail> {
 #[test]
 fn units_share_the_replacements(rt: HostRuntime) -> Result<(), Fail> {
     let alloc = rt.alloc();
-    let mut levels = "#define A0\n".to_string(alloc)?;
-    for level in 0_u32..18 {
-        let next = level + 1;
-        levels.push_str(format!(in alloc; "#define A{next} A{level} A{level}\n")?.as_str())?;
-    }
-    let rows = [
-        ("#if 1 A18\na\n#elif A18\nA18\n#endif", "a"),
-        ("#if 1 A18\nA18\n#endif", "!Limit Replacements 1000000"),
-        ("#include A18 <n.c>\nA18", "!Limit Replacements 1000000"),
-    ];
-    for (text, words) in rows {
-        let text = format!(in alloc; "{levels}{text}")?;
-        let texts = [("m.c", text.as_str()), ("n.c", "n")];
-        assert_eq!(rt; said(alloc, &texts, &["m.c"])?.as_str(), words);
-    }
-    let text = format!(in alloc; "{levels}A18")?;
-    let texts = [("m.c", text.as_str()), ("n.c", "n")];
-    let found = said(alloc, &texts, &["m.c", "n.c", "m.c"])?;
+    say_after_levels(
+        &rt,
+        alloc,
+        &[
+            ("#if 1 A18\na\n#elif A18\nA18\n#endif", "a"),
+            ("#if 1 A18\nA18\n#endif", "!Limit Replacements 1000000"),
+            ("#include A18 <n.c>\nA18", "!Limit Replacements 1000000"),
+        ],
+    )?;
+    let found = said_after_levels(alloc, "A18", &["m.c", "n.c", "m.c"])?;
     assert_eq!(rt; found.as_str(), "!Limit Replacements 1000000");
     Ok(())
 }

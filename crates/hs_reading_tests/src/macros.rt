@@ -1,10 +1,10 @@
 //! Macros: definitions, replacement, limits and refusals.
 
-use crate::texts::tokens_of;
+use crate::texts::{if_done, tokens_of};
 use hs_base::{Limit, LimitKind, Pos};
 use hs_macros::{Budget, MacroError, Macros};
 use hs_tokens::{Origin, SourceToken};
-use std::alloc::{AllocError, Global};
+use std::alloc::Global;
 use std::process::Abort;
 use std::test::Fail;
 
@@ -14,14 +14,23 @@ fn define(alloc: Global, macros: &mut Macros, line: &[u8]) -> Result<Result<(), 
     Ok(macros.define(tokens.as_slice()))
 }
 
+/// Defines what each of these lines defines, without its `#define`.
+fn define_all(alloc: Global, macros: &mut Macros, lines: &[&[u8]]) -> Result<(), Fail> {
+    for line in lines {
+        define(alloc, macros, line)??;
+    }
+    Ok(())
+}
+
 /// The macros that these lines define, each without its `#define`.
 fn macros_of(alloc: Global, lines: &[&[u8]]) -> Result<Macros, Fail> {
     let mut macros = Macros::new(alloc)?;
-    for line in lines {
-        define(alloc, &mut macros, line)??;
-    }
-    Ok(macros)
+    let done = define_all(alloc, &mut macros, lines);
+    if_done(macros, done)
 }
+
+/// What a line that is no definition is refused as.
+const BAD: Result<(), MacroError> = Err(MacroError::BadMacro);
 
 /// More than any text here needs.
 fn ample() -> Budget {
@@ -43,7 +52,7 @@ fn expanded(
 }
 
 /// The tokens, with a space between two.
-fn spelled(alloc: Global, tokens: &[SourceToken]) -> Result<Vec<u8>, AllocError> {
+fn spelled(alloc: Global, tokens: &[SourceToken]) -> Result<Vec<u8>, Fail> {
     let mut spelling = Vec::new(alloc);
     for source in tokens {
         if !spelling.is_empty() {
@@ -54,18 +63,51 @@ fn spelled(alloc: Global, tokens: &[SourceToken]) -> Result<Vec<u8>, AllocError>
     Ok(spelling)
 }
 
-/// The text, replaced and spelled.
-fn replaced(alloc: Global, macros: &Macros, text: &[u8]) -> Result<Vec<u8>, Fail> {
-    let tokens = expanded(alloc, macros, text, &mut ample())??;
-    Ok(spelled(alloc, tokens.as_slice())?)
+/// The text, replaced from a budget, and spelled.
+fn replaced_from(
+    alloc: Global,
+    macros: &Macros,
+    text: &[u8],
+    left: &mut Budget,
+) -> Result<Vec<u8>, Fail> {
+    let tokens = expanded(alloc, macros, text, left)??;
+    spelled(alloc, &tokens)
 }
 
-// X3.159-1989 3.8.3.5: the examples that use no `#` and no `##`, and what they result in. Own: the call of `max`.
-#[test]
-fn the_standards_examples_are_replaced_so(rt: HostRuntime) -> Result<(), Fail> {
-    let alloc = rt.alloc();
-    let mut macros = macros_of(
+/// The text, replaced and spelled.
+fn replaced(alloc: Global, macros: &Macros, text: &[u8]) -> Result<Vec<u8>, Fail> {
+    replaced_from(alloc, macros, text, &mut ample())
+}
+
+/// Why the text is not replaced from a budget, or nothing if it is.
+fn refusal(
+    alloc: Global,
+    macros: &Macros,
+    text: &[u8],
+    left: &mut Budget,
+) -> Result<Option<MacroError>, Fail> {
+    Ok(expanded(alloc, macros, text, left)?.err())
+}
+
+/// With these macros, each text is replaced by the tokens that are spelled next to it.
+fn are_replaced_with(
+    rt: &impl Abort,
+    alloc: Global,
+    macros: &Macros,
+    rows: &[(&[u8], &[u8])],
+) -> Result<(), Fail> {
+    for (text, spelling) in rows {
+        let found = replaced(alloc, macros, text)?;
+        assert_eq!(rt; found.as_slice(), *spelling);
+    }
+    Ok(())
+}
+
+/// Defines the macros of the standard's examples. `x` is first 3, and then 2.
+fn define_examples(alloc: Global, macros: &mut Macros) -> Result<(), Fail> {
+    define_all(
         alloc,
+        macros,
         &[
             b"TABSIZE 100",
             b"max(a, b) ((a) > (b) ? (a) : (b))",
@@ -74,18 +116,32 @@ fn the_standards_examples_are_replaced_so(rt: HostRuntime) -> Result<(), Fail> {
         ],
     )?;
     macros.undef(b"x");
-    let lines: [&[u8]; 7] = [
-        b"x    2",
-        b"g    f",
-        b"z    z[0]",
-        b"h    g(~",
-        b"m(a) a(w)",
-        b"w    0,1",
-        b"t(a) a",
-    ];
-    for line in lines {
-        define(alloc, &mut macros, line)??;
-    }
+    define_all(
+        alloc,
+        macros,
+        &[
+            b"x    2",
+            b"g    f",
+            b"z    z[0]",
+            b"h    g(~",
+            b"m(a) a(w)",
+            b"w    0,1",
+            b"t(a) a",
+        ],
+    )
+}
+
+/// The macros of the standard's examples.
+fn macros_of_examples(alloc: Global) -> Result<Macros, Fail> {
+    let mut macros = Macros::new(alloc)?;
+    let done = define_examples(alloc, &mut macros);
+    if_done(macros, done)
+}
+
+// X3.159-1989 3.8.3.5: the examples that use no `#` and no `##`, and what they result in. Own: the call of `max`.
+#[test]
+fn the_standards_examples_are_replaced_so(rt: HostRuntime) -> Result<(), Fail> {
+    let alloc = rt.alloc();
     let expected: [(&[u8], &[u8]); 4] = [
         (b"int table[TABSIZE];", b"int table [ 100 ] ;"),
         (b"max(i++, j)", b"( ( i ++ ) > ( j ) ? ( i ++ ) : ( j ) )"),
@@ -98,9 +154,19 @@ fn the_standards_examples_are_replaced_so(rt: HostRuntime) -> Result<(), Fail> {
             b"f ( 2 * ( 2 + ( 3 , 4 ) - 0 , 1 ) ) | f ( 2 * ( ~ 5 ) ) & f ( 2 * ( 0 , 1 ) ) ^ m ( 0 , 1 ) ;",
         ),
     ];
-    for (text, spelling) in expected {
-        let found = replaced(alloc, &macros, text)?;
-        assert_eq!(rt; found.as_slice(), spelling);
+    let macros = macros_of_examples(alloc)?;
+    are_replaced_with(&rt, alloc, &macros, &expected)
+}
+
+/// The lines, one after the other, have the answers next to them.
+fn have_answers(
+    rt: &impl Abort,
+    alloc: Global,
+    macros: &mut Macros,
+    rows: &[(&[u8], Result<(), MacroError>)],
+) -> Result<(), Fail> {
+    for (line, answer) in rows {
+        assert_eq!(rt; define(alloc, macros, line)?, *answer);
     }
     Ok(())
 }
@@ -110,7 +176,6 @@ fn the_standards_examples_are_replaced_so(rt: HostRuntime) -> Result<(), Fail> {
 #[test]
 fn the_standards_redefinitions_are_taken_or_refused(rt: HostRuntime) -> Result<(), Fail> {
     let alloc = rt.alloc();
-    let mut macros = Macros::new(alloc)?;
     let expected: [(&[u8], Result<(), MacroError>); 8] = [
         (b"OBJ_LIKE      (1-1)", Ok(())),
         (
@@ -127,10 +192,14 @@ fn the_standards_redefinitions_are_taken_or_refused(rt: HostRuntime) -> Result<(
         (b"FTN_LIKE(b) ( a )", Err(MacroError::BadMacro)),
         (b"FTN_LIKE(b) ( b )", Err(MacroError::BadMacro)),
     ];
-    for (line, answer) in expected {
-        assert_eq!(rt; define(alloc, &mut macros, line)?, answer);
-    }
-    Ok(())
+    let mut macros = Macros::new(alloc)?;
+    have_answers(&rt, alloc, &mut macros, &expected)
+}
+
+/// The text, replaced under the macros of the lines, and spelled.
+fn replaced_under(alloc: Global, lines: &[&[u8]], text: &[u8]) -> Result<Vec<u8>, Fail> {
+    let macros = macros_of(alloc, lines)?;
+    replaced(alloc, &macros, text)
 }
 
 /// Under the macros of the lines, each text is replaced by the tokens that are spelled next to it.
@@ -140,8 +209,7 @@ fn are_replaced_under(
     rows: &[(&[&[u8]], &[u8], &[u8])],
 ) -> Result<(), Fail> {
     for (lines, text, spelling) in rows {
-        let macros = macros_of(alloc, lines)?;
-        let found = replaced(alloc, &macros, text)?;
+        let found = replaced_under(alloc, lines, text)?;
         assert_eq!(rt; found.as_slice(), *spelling);
     }
     Ok(())
@@ -239,11 +307,7 @@ fn are_replaced(
     rows: &[(&[u8], &[u8])],
 ) -> Result<(), Fail> {
     let macros = macros_of(alloc, lines)?;
-    for (text, spelling) in rows {
-        let found = replaced(alloc, &macros, text)?;
-        assert_eq!(rt; found.as_slice(), *spelling);
-    }
-    Ok(())
+    are_replaced_with(rt, alloc, &macros, rows)
 }
 
 /// The macros of the rows of invocations.
@@ -364,13 +428,13 @@ const WRONGLY_INVOKED: [&[u8]; 9] = [
     b"begun f(",
 ];
 
-/// Each text has a wrong invocation, and the first one is at the line and the column next to it.
-fn have_wrong_invocations(
+/// With these macros, each text has a wrong invocation, and the first one is at the line and the column next to it.
+fn are_refused_with(
     rt: &impl Abort,
     alloc: Global,
+    macros: &Macros,
     rows: &[(&[u8], u32, u32)],
 ) -> Result<(), Fail> {
-    let macros = macros_of(alloc, &WRONGLY_INVOKED)?;
     for (text, line, col) in rows {
         let place = Pos {
             file: 7,
@@ -378,11 +442,21 @@ fn have_wrong_invocations(
             col: *col,
         };
         assert_eq!(rt;
-            expanded(alloc, &macros, text, &mut ample())?.err(),
+            refusal(alloc, macros, text, &mut ample())?,
             Some(MacroError::ArgCount(place))
         );
     }
     Ok(())
+}
+
+/// The same under the macros of the rows.
+fn have_wrong_invocations(
+    rt: &impl Abort,
+    alloc: Global,
+    rows: &[(&[u8], u32, u32)],
+) -> Result<(), Fail> {
+    let macros = macros_of(alloc, &WRONGLY_INVOKED)?;
+    are_refused_with(rt, alloc, &macros, rows)
 }
 
 // X3.159-1989 3.8.3, constraints: as many arguments as parameters, and a parenthesis that closes them.
@@ -457,14 +531,18 @@ const COUNTED: [&[u8]; 8] = [
     b"second(x,y) y",
 ];
 
-/// Each text is replaced by the tokens that are spelled next to it, and leaves so many of 100 replacements, and of 100 tokens
-/// that they put in place.
-fn leave(rt: &impl Abort, alloc: Global, rows: &[(&[u8], &[u8], u64, u64)]) -> Result<(), Fail> {
-    let macros = macros_of(alloc, &COUNTED)?;
+/// With these macros, each text is replaced by the tokens that are spelled next to it, and leaves so many of 100 replacements,
+/// and of 100 tokens that they put in place.
+fn leave_with(
+    rt: &impl Abort,
+    alloc: Global,
+    macros: &Macros,
+    rows: &[(&[u8], &[u8], u64, u64)],
+) -> Result<(), Fail> {
     for (text, spelling, replacements, tokens) in rows {
         let mut left = ample();
-        let found = expanded(alloc, &macros, text, &mut left)??;
-        assert_eq!(rt; spelled(alloc, found.as_slice())?.as_slice(), *spelling);
+        let found = replaced_from(alloc, macros, text, &mut left)?;
+        assert_eq!(rt; found.as_slice(), *spelling);
         assert_eq!(rt;
             left,
             Budget {
@@ -474,6 +552,12 @@ fn leave(rt: &impl Abort, alloc: Global, rows: &[(&[u8], &[u8], u64, u64)]) -> R
         );
     }
     Ok(())
+}
+
+/// The same under the macros of the rows.
+fn leave(rt: &impl Abort, alloc: Global, rows: &[(&[u8], &[u8], u64, u64)]) -> Result<(), Fail> {
+    let macros = macros_of(alloc, &COUNTED)?;
+    leave_with(rt, alloc, &macros, rows)
 }
 
 // Own: a replacement takes one of those left, and its tokens.
@@ -527,23 +611,49 @@ const PLACED: [&[u8]; 8] = [
     b"tail(x) x f",
 ];
 
-/// Each text is replaced by tokens with the lines, the columns and the origins next to it.
-fn have_places(
+/// The line, the column and the origin of a token.
+type Place = (u32, u32, Origin);
+
+/// The places of tokens, all of which are in file 7.
+fn places(rt: &impl Abort, alloc: Global, tokens: &[SourceToken]) -> Result<Vec<Place>, Fail> {
+    let mut found = Vec::new(alloc);
+    for source in tokens {
+        let pos = source.token.pos;
+        assert_eq!(rt; pos.file, 7);
+        found.push((pos.line, pos.col, source.origin))?;
+    }
+    Ok(found)
+}
+
+/// The places of the tokens that replace a text.
+fn places_of(
     rt: &impl Abort,
     alloc: Global,
-    rows: &[(&[u8], &[(u32, u32, Origin)])],
+    macros: &Macros,
+    text: &[u8],
+) -> Result<Vec<Place>, Fail> {
+    let tokens = expanded(alloc, macros, text, &mut ample())??;
+    places(rt, alloc, &tokens)
+}
+
+/// With these macros, each text is replaced by tokens with the places next to it.
+fn have_places_with(
+    rt: &impl Abort,
+    alloc: Global,
+    macros: &Macros,
+    rows: &[(&[u8], &[Place])],
 ) -> Result<(), Fail> {
-    let macros = macros_of(alloc, &PLACED)?;
-    for (text, places) in rows {
-        let mut found = Vec::new(alloc);
-        for source in expanded(alloc, &macros, text, &mut ample())??.as_slice() {
-            let pos = source.token.pos;
-            assert_eq!(rt; pos.file, 7);
-            found.push((pos.line, pos.col, source.origin))?;
-        }
-        assert_eq!(rt; found.as_slice(), *places);
+    for (text, expected) in rows {
+        let found = places_of(rt, alloc, macros, text)?;
+        assert_eq!(rt; found.as_slice(), *expected);
     }
     Ok(())
+}
+
+/// The same under the macros of the rows.
+fn have_places(rt: &impl Abort, alloc: Global, rows: &[(&[u8], &[Place])]) -> Result<(), Fail> {
+    let macros = macros_of(alloc, &PLACED)?;
+    have_places_with(rt, alloc, &macros, rows)
 }
 
 // Own: a token that no macro put in place is plain, at its own place.
@@ -685,21 +795,21 @@ const WRONG_AT_5: MacroError = MacroError::ArgCount(Pos {
     col: 5,
 });
 
-/// From so many replacements and tokens, each text is replaced and takes them all, or has the error and takes none.
-fn are_limited(
+/// With these macros, from so many replacements and tokens, each text is replaced and takes them all, or has the error and
+/// takes none.
+fn are_limited_with(
     rt: &impl Abort,
     alloc: Global,
+    macros: &Macros,
     rows: &[(&[u8], u64, u64, Option<MacroError>)],
 ) -> Result<(), Fail> {
-    let macros = macros_of(alloc, &LIMITED)?;
     for (text, replacements, tokens, error) in rows {
         let before = Budget {
             replacements: *replacements,
             tokens: *tokens,
         };
         let mut left = before;
-        let found = expanded(alloc, &macros, text, &mut left)?.err();
-        assert_eq!(rt; found, *error);
+        assert_eq!(rt; refusal(alloc, macros, text, &mut left)?, *error);
         let after = match error {
             Some(_) => before,
             None => Budget {
@@ -710,6 +820,16 @@ fn are_limited(
         assert_eq!(rt; left, after);
     }
     Ok(())
+}
+
+/// The same under the macros of the rows.
+fn are_limited(
+    rt: &impl Abort,
+    alloc: Global,
+    rows: &[(&[u8], u64, u64, Option<MacroError>)],
+) -> Result<(), Fail> {
+    let macros = macros_of(alloc, &LIMITED)?;
+    are_limited_with(rt, alloc, &macros, rows)
 }
 
 // Own: each replacement takes one of those left, and its tokens; if both limits would be passed, it is that of the
@@ -778,8 +898,7 @@ fn are_definitions(
     rows: &[(&[u8], &[u8], &[u8])],
 ) -> Result<(), Fail> {
     for (line, text, spelling) in rows {
-        let macros = macros_of(alloc, &[*line])?;
-        let found = replaced(alloc, &macros, text)?;
+        let found = replaced_under(alloc, &[*line], text)?;
         assert_eq!(rt; found.as_slice(), *spelling);
     }
     Ok(())
@@ -823,16 +942,29 @@ fn any_identifier_may_be_a_name_or_a_parameter(rt: HostRuntime) -> Result<(), Fa
     )
 }
 
+/// The line is not a definition, and defines neither `F` nor `defined`.
+fn is_no_definition(
+    rt: &impl Abort,
+    alloc: Global,
+    macros: &mut Macros,
+    line: &[u8],
+) -> Result<(), Fail> {
+    assert_eq!(rt; define(alloc, macros, line)?, BAD);
+    assert!(rt; !macros.is_defined(b"F"));
+    assert!(rt; !macros.is_defined(b"defined"));
+    Ok(())
+}
+
+/// The same before any other line.
+fn is_no_first_definition(rt: &impl Abort, alloc: Global, line: &[u8]) -> Result<(), Fail> {
+    let mut macros = Macros::new(alloc)?;
+    is_no_definition(rt, alloc, &mut macros, line)
+}
+
 /// No line is a definition, and none defines `F` or `defined`.
 fn are_no_definitions(rt: &impl Abort, alloc: Global, lines: &[&[u8]]) -> Result<(), Fail> {
     for line in lines {
-        let mut macros = Macros::new(alloc)?;
-        assert_eq!(rt;
-            define(alloc, &mut macros, line)?,
-            Err(MacroError::BadMacro)
-        );
-        assert!(rt; !macros.is_defined(b"F"));
-        assert!(rt; !macros.is_defined(b"defined"));
+        is_no_first_definition(rt, alloc, line)?;
     }
     Ok(())
 }
@@ -897,8 +1029,30 @@ fn a_definition_has_no_number_sign(rt: HostRuntime) -> Result<(), Fail> {
     )
 }
 
-/// What a line that is no definition is refused as.
-const BAD: Result<(), MacroError> = Err(MacroError::BadMacro);
+/// The line has this answer, `F` is defined, and then `F(9)` is replaced so.
+fn is_defined_again(
+    rt: &impl Abort,
+    alloc: Global,
+    macros: &mut Macros,
+    (line, answer, spelling): (&[u8], Result<(), MacroError>, &[u8]),
+) -> Result<(), Fail> {
+    assert_eq!(rt; define(alloc, macros, line)?, answer);
+    assert!(rt; macros.is_defined(b"F"));
+    let found = replaced(alloc, macros, b"F(9)")?;
+    assert_eq!(rt; found.as_slice(), spelling);
+    Ok(())
+}
+
+/// The same after a first line.
+fn is_defined_after(
+    rt: &impl Abort,
+    alloc: Global,
+    first: &[u8],
+    row: (&[u8], Result<(), MacroError>, &[u8]),
+) -> Result<(), Fail> {
+    let mut macros = macros_of(alloc, &[first])?;
+    is_defined_again(rt, alloc, &mut macros, row)
+}
 
 /// After each first line, the second one has the answer next to it, and then `F(9)` is replaced so.
 fn are_defined_again(
@@ -907,11 +1061,7 @@ fn are_defined_again(
     rows: &[(&[u8], &[u8], Result<(), MacroError>, &[u8])],
 ) -> Result<(), Fail> {
     for (first, second, answer, spelling) in rows {
-        let mut macros = macros_of(alloc, &[*first])?;
-        assert_eq!(rt; define(alloc, &mut macros, second)?, *answer);
-        assert!(rt; macros.is_defined(b"F"));
-        let found = replaced(alloc, &macros, b"F(9)")?;
-        assert_eq!(rt; found.as_slice(), *spelling);
+        is_defined_after(rt, alloc, first, (*second, *answer, *spelling))?;
     }
     Ok(())
 }
@@ -972,13 +1122,55 @@ fn a_macro_keeps_its_form_and_parameters(rt: HostRuntime) -> Result<(), Fail> {
     )
 }
 
+/// Whether the text is replaced by the tokens that are spelled so.
+fn is_replaced(alloc: Global, macros: &Macros, text: &[u8], spelling: &[u8]) -> Result<bool, Fail> {
+    let found = replaced(alloc, macros, text)?;
+    Ok(found.as_slice() == spelling)
+}
+
+/// A name that loses its definition, how a text is replaced then, a line that defines the name again, and how the text is
+/// replaced after it.
+type Change<'a> = (&'a [u8], &'a [u8], &'a [u8], &'a [u8]);
+
+/// The macros change so.
+fn changes_so(
+    rt: &impl Abort,
+    alloc: Global,
+    macros: &mut Macros,
+    (name, without, line, with): Change<'_>,
+) -> Result<(), Fail> {
+    let text = b"a b c(3) d";
+    macros.undef(name);
+    assert!(rt; !macros.is_defined(name));
+    assert!(rt;
+        is_replaced(alloc, macros, text, without)?,
+        "without {name:?}"
+    );
+    define(alloc, macros, line)??;
+    assert!(rt; macros.is_defined(name));
+    assert!(rt; is_replaced(alloc, macros, text, with)?, "with {name:?}");
+    Ok(())
+}
+
+/// The macros change so, one after the other.
+fn change_so(
+    rt: &impl Abort,
+    alloc: Global,
+    macros: &mut Macros,
+    rows: &[Change<'_>],
+) -> Result<(), Fail> {
+    for row in rows {
+        changes_so(rt, alloc, macros, *row)?;
+    }
+    Ok(())
+}
+
 // X3.159-1989 3.8.3.5: a definition lasts until `#undef`, which is ignored if there is no definition. Then the name may be
 // defined as another macro. Each row takes the name's definition away and gives it another one.
 #[test]
 fn a_definition_lasts_until_it_is_taken_away(rt: HostRuntime) -> Result<(), Fail> {
     let alloc = rt.alloc();
-    let mut macros = macros_of(alloc, &[b"a 1", b"b 2", b"c(x) x"])?;
-    let expected: [(&[u8], &[u8], &[u8], &[u8]); 6] = [
+    let expected: [Change<'_>; 6] = [
         (b"a", b"a 2 3 d", b"a 4", b"4 2 3 d"),
         (b"c", b"4 2 c ( 3 ) d", b"c b", b"4 2 2 ( 3 ) d"),
         (b"b", b"4 b b ( 3 ) d", b"b(x) <x>", b"4 b < 3 > d"),
@@ -986,15 +1178,6 @@ fn a_definition_lasts_until_it_is_taken_away(rt: HostRuntime) -> Result<(), Fail
         (b"a", b"a b < 3 > a", b"a", b"b < 3 >"),
         (b"b", b"b b ( 3 )", b"b", b"( 3 )"),
     ];
-    for (name, without, line, with) in expected {
-        macros.undef(name);
-        assert!(rt; !macros.is_defined(name));
-        let found = replaced(alloc, &macros, b"a b c(3) d")?;
-        assert_eq!(rt; found.as_slice(), without);
-        define(alloc, &mut macros, line)??;
-        assert!(rt; macros.is_defined(name));
-        let found = replaced(alloc, &macros, b"a b c(3) d")?;
-        assert_eq!(rt; found.as_slice(), with);
-    }
-    Ok(())
+    let mut macros = macros_of(alloc, &[b"a 1", b"b 2", b"c(x) x"])?;
+    change_so(&rt, alloc, &mut macros, &expected)
 }

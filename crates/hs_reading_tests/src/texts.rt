@@ -4,6 +4,19 @@ use hs_tokens::{ScanError, Token, scan};
 use std::alloc::{AllocError, Global};
 use std::test::Fail;
 
+/// The list with one item more. What is held is of a type that this function does not know, so its proof is short.
+pub fn with_item<T: Drop>(list: Vec<T>, next: Result<T, AllocError>) -> Result<Vec<T>, AllocError> {
+    let mut items = list;
+    items.push(next?)?;
+    Ok(items)
+}
+
+/// The value, if what was done with it went well. Its proof is short for the same reason.
+pub fn if_done<T: Drop>(value: T, done: Result<(), Fail>) -> Result<T, Fail> {
+    done?;
+    Ok(value)
+}
+
 /// Scans a text as file 7, with room for so many tokens.
 pub fn scanned(
     alloc: Global,

@@ -16,7 +16,7 @@ fn place(line: u32, col: u32) -> Pos {
 }
 
 /// The tokens, each with its kind's letter in front and a space after it.
-fn spelled(alloc: Global, tokens: &[Token]) -> Result<Vec<u8>, AllocError> {
+fn spelled(alloc: Global, tokens: &[Token]) -> Result<Vec<u8>, Fail> {
     let mut spelling = Vec::new(alloc);
     for token in tokens {
         let kind = match token.kind {
@@ -33,11 +33,16 @@ fn spelled(alloc: Global, tokens: &[Token]) -> Result<Vec<u8>, AllocError> {
     Ok(spelling)
 }
 
+/// The tokens of a text, spelled like that.
+fn spelling_of(alloc: Global, text: &[u8]) -> Result<Vec<u8>, Fail> {
+    let tokens = scanned(alloc, text, ROOM)??;
+    spelled(alloc, &tokens)
+}
+
 /// Each text has the tokens that are spelled next to it.
 fn have_tokens(rt: &impl Abort, alloc: Global, rows: &[(&[u8], &[u8])]) -> Result<(), Fail> {
     for (text, spelling) in rows {
-        let tokens = scanned(alloc, text, ROOM)??;
-        let found = spelled(alloc, tokens.as_slice())?;
+        let found = spelling_of(alloc, text)?;
         assert_eq!(rt; found.as_slice(), *spelling);
     }
     Ok(())
@@ -144,17 +149,29 @@ fn literals_and_constants_have_these_escapes(rt: HostRuntime) -> Result<(), Fail
 /// The line and the column of a token, whether it is the first on its line, and whether there is white space before it.
 type Place = (u32, u32, bool, bool);
 
+/// The places of tokens, all of which are in file 7.
+fn places(rt: &impl Abort, alloc: Global, tokens: &[Token]) -> Result<Vec<Place>, Fail> {
+    let mut found = Vec::new(alloc);
+    for token in tokens {
+        assert_eq!(rt; token.pos.file, 7);
+        found.push((token.pos.line, token.pos.col, token.first, token.spaced))?;
+    }
+    Ok(found)
+}
+
+/// The places of a text's tokens, or none if it is refused.
+fn places_of(rt: &impl Abort, alloc: Global, text: &[u8]) -> Result<Vec<Place>, Fail> {
+    match scanned(alloc, text, ROOM)? {
+        Ok(tokens) => places(rt, alloc, &tokens),
+        Err(_) => Ok(Vec::new(alloc)),
+    }
+}
+
 /// The tokens of each text have the places next to it.
 fn have_places(rt: &impl Abort, alloc: Global, rows: &[(&[u8], &[Place])]) -> Result<(), Fail> {
-    for (text, places) in rows {
-        let mut found = Vec::new(alloc);
-        if let Ok(tokens) = scanned(alloc, text, ROOM)? {
-            for token in tokens.as_slice() {
-                assert_eq!(rt; token.pos.file, 7);
-                found.push((token.pos.line, token.pos.col, token.first, token.spaced))?;
-            }
-        }
-        assert_eq!(rt; found.as_slice(), *places);
+    for (text, expected) in rows {
+        let found = places_of(rt, alloc, text)?;
+        assert_eq!(rt; found.as_slice(), *expected);
     }
     Ok(())
 }
@@ -231,10 +248,15 @@ fn a_splice_takes_no_line_back(rt: HostRuntime) -> Result<(), Fail> {
     )
 }
 
+/// How many tokens a text has, with room for so many, or why it is refused.
+fn count_of(alloc: Global, text: &[u8], room: usize) -> Result<Result<usize, ScanError>, Fail> {
+    Ok(scanned(alloc, text, room)?.map(|tokens| tokens.len()))
+}
+
 /// Each text is refused, and the first place where it is has the error next to it.
 fn are_refused(rt: &impl Abort, alloc: Global, rows: &[(&[u8], ScanError)]) -> Result<(), Fail> {
     for (text, error) in rows {
-        assert_eq!(rt; scanned(alloc, text, ROOM)?.err(), Some(*error));
+        assert_eq!(rt; count_of(alloc, text, ROOM)?, Err(*error));
     }
     Ok(())
 }
@@ -315,22 +337,27 @@ fn open_constants_are_refused(rt: HostRuntime) -> Result<(), Fail> {
     )
 }
 
+/// A name, and a string of an escape and so many letters, whose bytes are counted.
+fn name_and_string(alloc: Global, letters: usize) -> Result<Vec<u8>, AllocError> {
+    let string = counted_literal(alloc, b"\\\"", letters, b"")?;
+    let mut text = b"x ".to_vec(alloc)?;
+    text.extend_from_slice(&string)?;
+    Ok(text)
+}
+
+/// How many tokens these are, or why they are refused.
+fn count_with_string(alloc: Global, letters: usize) -> Result<Result<usize, ScanError>, Fail> {
+    let text = name_and_string(alloc, letters)?;
+    count_of(alloc, &text, ROOM)
+}
+
 // Own: the count of a string that begins with `\p` is a byte.
 #[test]
 fn a_counted_string_has_255_bytes_at_most(rt: HostRuntime) -> Result<(), Fail> {
     let alloc = rt.alloc();
-    let mut text = b"x \"\\p\\\"".to_vec(alloc)?;
-    for _ in 0..254 {
-        text.push(b'a')?;
-    }
-    text.push(b'"')?;
-    assert_eq!(rt; scanned(alloc, text.as_slice(), ROOM)??.len(), 2);
-    text.pop();
-    text.extend_from_slice(b"a\"")?;
-    assert_eq!(rt;
-        scanned(alloc, text.as_slice(), ROOM)?.err(),
-        Some(ScanError::BadByte(place(1, 4)))
-    );
+    let error = ScanError::BadByte(place(1, 4));
+    assert_eq!(rt; count_with_string(alloc, 254)?, Ok(2));
+    assert_eq!(rt; count_with_string(alloc, 255)?, Err(error));
     Ok(())
 }
 
@@ -350,7 +377,7 @@ fn a_count_is_refused_before_a_bad_escape(rt: HostRuntime) -> Result<(), Fail> {
     ];
     for (front, letters, back, answer) in expected {
         let text = counted_literal(alloc, front, letters, back)?;
-        assert_eq!(rt; scanned(alloc, text.as_slice(), ROOM)?.err(), answer);
+        assert_eq!(rt; count_of(alloc, text.as_slice(), ROOM)?.err(), answer);
     }
     Ok(())
 }
@@ -371,10 +398,7 @@ fn a_text_has_no_more_tokens_than_room(rt: HostRuntime) -> Result<(), Fail> {
         (b"a b 'c", 2, Err(ScanError::OpenString(place(1, 5)))),
     ];
     for (text, room, answer) in expected {
-        assert_eq!(rt;
-            scanned(alloc, text, room)?.map(|tokens| tokens.len()),
-            answer
-        );
+        assert_eq!(rt; count_of(alloc, text, room)?, answer);
     }
     Ok(())
 }
