@@ -11,8 +11,8 @@ use Rattle.hs_heap.specs.declared.cell.Cell.TheVariants as cell
 use Rattle.hs_heap.specs.declared.cell.Spot.{Spot}
 use Rattle.hs_heap.specs.declared.stop.HeapStop.{HeapStop}
 use Rattle.hs_heap.specs.declared.stop.HeapStop.TheVariants as heap_stop
-use Rattle.hs_meaning.specs.Value.{Value, number, nil, handle, spot}
-use Rattle.hs_meaning.specs.Heap.{stop_of, char_in, loaded_char, load_if, put_result, store_if, master_if, lock_if}
+use Rattle.hs_meaning.specs.Straight.Value.{Value, number, nil, handle, spot}
+use Rattle.hs_meaning.specs.Straight.Heap.{stop_of, char_in, loaded_char, load_if, put_result, store_if, master_if, lock_if}
 use Rattle.hs_meaning.specs.Straight.Run.{State, Halt, ◌>>=◌, at_place, lookup, defined, value_of, load_through, store_through, derive_through, lock_through, eval, IsMisuse}
 use Rattle.hs_meaning.specs.Straight.StaleUses.{expr_uses}
 use Rattle.hs_meaning.specs.declared.outcome.Stop.{Stop}

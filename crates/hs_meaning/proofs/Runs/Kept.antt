@@ -12,7 +12,7 @@ use Rattle.hs_tree.specs.Straight.Fine.{assigns, kind_eq, has_kind, is_declared}
 use Rattle.hs_heap.specs.Blocks.{Block}
 use Rattle.hs_heap.specs.Memory.{block_at}
 use Rattle.hs_heap.specs.declared.cell.Spot.{Spot}
-use Rattle.hs_meaning.specs.Value.{Value, number, nil, handle, spot}
+use Rattle.hs_meaning.specs.Straight.Value.{Value, number, nil, handle, spot}
 use Rattle.hs_meaning.specs.Straight.Run.{State, lookup}
 use Rattle.hs_meaning.specs.Straight.StaleUses.{calls_new_handle, concerns, is_locked_after}
 use Rattle.hs_meaning.specs.Straight.Along.{Derivation, kept_by, kept_if, derived_after, is_stale_derivation, is_stale_after}

@@ -17,7 +17,7 @@ use Rattle.hs_tree.specs.Straight.Fine.{is_declared, was_assigned, is_fine_expr,
 use Rattle.hs_heap.specs.Blocks.{Block, new_block}
 use Rattle.hs_heap.specs.Memory.{has_room}
 use Rattle.hs_heap.specs.declared.decision.Decision.{Decision}
-use Rattle.hs_meaning.specs.Value.{Value, handle, byte_of, char_of}
+use Rattle.hs_meaning.specs.Straight.Value.{Value, handle, byte_of, char_of}
 use Rattle.hs_meaning.specs.Straight.Run.{State, Halt, Ending, ◌>>=◌, at_place, assigned, store_through, next_decision, new_handle_powers, shifted_by, allocated, is_granted, locked_by, after, going_on, run_from, start, IsMisuse, IsSafe}
 use Rattle.hs_meaning.specs.Straight.StaleUses.{Use, IsStaleUse, IsCountOf, HasStaleUses, step_uses, expr_uses, uses_after}
 use Rattle.hs_meaning.specs.Straight.Along.{is_stale_after}

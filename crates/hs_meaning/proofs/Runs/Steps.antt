@@ -14,7 +14,7 @@ use Rattle.hs_heap.specs.Blocks.{Block, new_block}
 use Rattle.hs_heap.specs.Memory.{block_at, put_block}
 use Rattle.hs_heap.specs.Shift.{shift}
 use Rattle.hs_heap.specs.declared.decision.Decision.{Decision}
-use Rattle.hs_meaning.specs.Value.{Value, number, nil, handle, spot}
+use Rattle.hs_meaning.specs.Straight.Value.{Value, number, nil, handle, spot}
 use Rattle.hs_meaning.specs.Straight.Run.{State, lookup, assigned, next_decision, new_handle_powers, shifted_by, is_granted, allocated, later_decisions}
 use Rattle.hs_meaning.specs.Straight.StaleUses.{concerns, is_locked_after}
 use Rattle.hs_meaning.specs.declared.input.Input.{Input}

@@ -4,7 +4,7 @@ use Rattle.std.proofs.Common.{◌≡◌, ℕ, zero, suc, ◌+◌, ◌-◌, ◌==
 use Rattle.std.proofs.lemmas.List.{map-set}
 use Rattle.std.proofs.lemmas.Bool.{and_right, not_from_true}
 use Rattle.std.proofs.lemmas.Option.{none-some, same_Some, slice_get-map}
-use Rattle.hs_meaning.specs.Value.{Value, number, nil, handle, spot, byte_of}
+use Rattle.hs_meaning.specs.Straight.Value.{Value, number, nil, handle, spot, byte_of}
 use Rattle.hs_heap.specs.Blocks.{Block, standing}
 use Rattle.hs_heap.specs.Memory.{block_at, put_block, live_bytes}
 use Rattle.hs_heap.specs.Shift.{Powers, is_moved, is_purged, is_named, is_present, is_loose, shifted, shift_from}

@@ -12,13 +12,13 @@ use Rattle.hs_tree.specs.declared.straight.tree.Expr.TheVariants as expr
 use Rattle.hs_tree.specs.declared.straight.tree.Step.{Step}
 use Rattle.hs_tree.specs.declared.straight.tree.Step.TheVariants as step
 use Rattle.hs_tree.specs.declared.straight.tree.Straight.{Straight}
-use Rattle.hs_meaning.specs.Value.{Value, number, nil, handle, spot, byte_of, char_of}
+use Rattle.hs_meaning.specs.Straight.Value.{Value, number, nil, handle, spot, byte_of, char_of}
 use Rattle.hs_heap.specs.Blocks.{Block, new_block}
 use Rattle.hs_heap.specs.Memory.{has_room}
 use Rattle.hs_heap.specs.Shift.{Powers, shift}
 use Rattle.hs_heap.specs.declared.decision.Decision.{Decision}
 use Rattle.hs_heap.specs.declared.decision.Which.TheVariants.{These}
-use Rattle.hs_meaning.specs.Heap.{load_char, store_byte, master, set_lock}
+use Rattle.hs_meaning.specs.Straight.Heap.{load_char, store_byte, master, set_lock}
 use Rattle.hs_meaning.specs.declared.input.Input.{Input}
 use Rattle.hs_meaning.specs.declared.outcome.Stop.{Stop}
 use Rattle.hs_meaning.specs.declared.outcome.Stop.TheVariants as stop

@@ -12,7 +12,7 @@ use Rattle.hs_heap.specs.declared.cell.Cell.TheVariants as cell
 use Rattle.hs_heap.specs.declared.cell.Spot.{Spot}
 use Rattle.hs_heap.specs.declared.stop.HeapStop.{HeapStop}
 use Rattle.hs_heap.specs.declared.stop.HeapStop.TheVariants as heap_stop
-use Rattle.hs_meaning.specs.Value.{Value, nil, spot, char_of}
+use Rattle.hs_meaning.specs.Straight.Value.{Value, nil, spot, char_of}
 use Rattle.hs_meaning.specs.declared.outcome.Stop.{Stop}
 use Rattle.hs_meaning.specs.declared.outcome.Stop.TheVariants as stop
 

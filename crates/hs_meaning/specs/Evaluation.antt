@@ -1,0 +1,202 @@
+-- What expressions mean (X3.159-1989 3.3): the steps that give the value of one, or designate an object.
+--     Flow                           how a statement goes on
+--     Job                            what costs a turn: one more turn of a loop, and a call of a function
+--     Location                       where an object is: in a slot, or where a pointer reaches
+--     value_of program again e       the value of an expression
+--     location_of program again e    the object that it designates
+--     values_of program again list   the values of arguments
+-- `again` does a job. It takes the turn, so the recursion on trees is structural; `Runs.antt` says what jobs are.
+use Rattle.std.specs.Prelude.{ℕ, pos, Bool, true, false, ◌||◌, List, [], ◌∷◌, slice_get, Option, Some, None}
+use Rattle.hs_base.specs.declared.pos.Pos.{Pos}
+use Rattle.hs_heap.specs.Shift.{Powers}
+use Rattle.hs_heap.specs.declared.cell.Pointer.{Pointer}
+use Rattle.hs_heap.specs.declared.cell.Pointer.TheVariants.{Nil, Fixed}
+use Rattle.hs_meaning.specs.Classes.{access_of}
+use Rattle.hs_meaning.specs.Machine.{Machine, Done, done, stopped, Binding, slot, object_at, binding_of}
+use Rattle.hs_meaning.specs.Numbers.{truth}
+use Rattle.hs_meaning.specs.Objects.{object_of_base}
+use Rattle.hs_meaning.specs.Operations as operation
+use Rattle.hs_meaning.specs.Operations.{Operation}
+use Rattle.hs_meaning.specs.Steps.{Step, ◌>>=◌, ◌>>◌, give, either, acts, perform, condition, operands, shifted_by}
+use Rattle.hs_meaning.specs.Values.{Value, number, pointer, Access, pointer_in}
+use Rattle.hs_meaning.specs.declared.outcome.Stop.{Stop}
+use Rattle.hs_meaning.specs.declared.outcome.Stop.TheVariants as stop
+use Rattle.hs_tree.specs.Trees as tree
+use Rattle.hs_tree.specs.Trees.{RightValue, LeftValue, RightValues, TypedFunction, TypedProgram, TypedStatement}
+use Rattle.hs_tree.specs.declared.constant.Base.TheVariants as base
+use Rattle.hs_tree.specs.declared.function.BoundRoutine.{BoundRoutine}
+use Rattle.hs_tree.specs.declared.head.Head.{Head}
+use Rattle.hs_tree.specs.declared.head.Variable.{Variable}
+use Rattle.hs_tree.specs.declared.operators.Stride.{Stride}
+use Rattle.hs_types.specs.declared.integer.Integer.{Integer}
+
+-- A statement goes on to the next one, leaves a loop or a switch, goes to the next turn of a loop, or returns a value at a place.
+pub data Flow : Type 0 where
+  onward : Flow
+  breaks : Flow
+  continues : Flow
+  returned : Value → Pos → Flow
+
+-- The call of a function of that number, at a place.
+pub data Job : Type 0 where
+  turn_of : TypedFunction → TypedStatement → Job
+  call_of : ℕ → List Value → Pos → Job
+
+pub data Location : Type 0 where
+  in_slot : Variable → Location
+  at_pointer : Pointer → Location
+
+-- ---- objects
+
+-- where a variable is
+abbrev pub located : Variable → Option Binding → Machine → Done Location
+located name None machine = stopped stop.BadPointer machine
+located name (Some (slot value)) machine = done (in_slot name) machine
+located name (Some (object_at place)) machine = done (at_pointer (Fixed place (pos 0))) machine
+
+abbrev pub variable_at : Variable → Machine → Done Location
+variable_at name machine = located name (binding_of name machine) machine
+
+-- where a pointer reaches
+abbrev pub reached : Value → Location
+reached value = at_pointer (pointer_in value)
+
+-- the value of an object
+abbrev pub read : TypedProgram → Pos → Access → Location → Step Value
+read program at access (in_slot name) = perform program at (operation.get name) []
+read program at access (at_pointer its) = perform program at (operation.load access) (pointer its ∷ [])
+
+-- an object is given a value, which is the value of the assignment
+abbrev pub written : TypedProgram → Pos → Access → Location → Value → Step Value
+written program at access (in_slot name) value = perform program at (operation.set name) (value ∷ [])
+written program at access (at_pointer its) value = perform program at (operation.store access) (pointer its ∷ value ∷ [])
+
+-- its address; a slot has none
+abbrev pub address_of : Location → Machine → Done Value
+address_of (in_slot name) machine = stopped stop.BadPointer machine
+address_of (at_pointer its) machine = done (pointer its) machine
+
+-- the object and its value
+abbrev pub read_with : TypedProgram → Pos → Access → Location → Step (Location × Value)
+read_with program at access place = read program at access place >>= (λ value. give (place, value))
+
+-- ---- calls
+
+-- what the table says of a routine
+abbrev pub powers_of : BoundRoutine → Powers
+powers_of it = record { moves = it.routine.moves; purges = it.routine.purges }
+
+-- a routine takes its decision before it uses its arguments
+abbrev pub decided_by : Option BoundRoutine → Step (Unit {0})
+decided_by None = give tt
+decided_by (Some it) = shifted_by (powers_of it)
+
+-- the routine to which a call of a function is bound, if it is
+abbrev pub bound_to : TypedProgram → Option ℕ → Option BoundRoutine
+bound_to program None = None
+bound_to program (Some place) = slice_get program.routines place
+
+-- the value that a function returned
+abbrev pub returned_value : Flow → Machine → Done Value
+returned_value (returned value at) machine = done value machine
+returned_value onward machine = stopped stop.BadPointer machine
+returned_value breaks machine = stopped stop.BadPointer machine
+returned_value continues machine = stopped stop.BadPointer machine
+
+-- 1 or 0, as an int
+abbrev pub truth_value : Bool → Value
+truth_value answer = number (truth answer)
+
+-- ---- expressions
+
+module _ (program : TypedProgram) (again : Job → Step Flow) where
+  -- the step of an operation on one value, or on two
+  abbrev pub on_one : Head → Operation → Step Value → Step Value
+  on_one head its first = first >>= (λ a. perform program head.at.pos its (a ∷ []))
+
+  abbrev pub on_two : Head → Operation → Step Value → Step Value → Step Value
+  on_two head its first second = operands first second >>= (λ both. perform program head.at.pos its (both.0 ∷ both.1 ∷ []))
+
+  -- what was read is given to an operation with another operand, and the result to the object
+  abbrev pub updated : Head → Access → Operation → Operation → Location → Value → Value → Step Value
+  updated head access its to place before by =
+      perform program head.at.pos its (before ∷ by ∷ []) >>= (λ sum. perform program head.at.pos to (sum ∷ [])
+      >>= (λ value. written program head.at.pos access place value))
+
+  -- the same of a pointer, which is not converted
+  abbrev pub advanced : Head → Access → Stride → Location → Value → Value → Step Value
+  advanced head access stride place before by =
+      perform program head.at.pos (operation.step stride true) (before ∷ by ∷ []) >>= (λ value. written program head.at.pos access place value)
+
+  abbrev mutual
+    pub value_of : RightValue → Step Value
+    value_of (tree.number head bits) = give (number bits)
+    value_of (tree.nil head) = give (pointer Nil)
+    value_of (tree.load head object) = location_of object >>= (λ place. read program head.at.pos (access_of program object) place)
+    value_of (tree.decay head array) = location_of array >>= (λ place. acts head.at.pos (address_of place))
+    value_of (tree.address head object) = location_of object >>= (λ place. acts head.at.pos (address_of place))
+    value_of (tree.cast head operand) = value_of operand
+    value_of (tree.convert_number head kind operand) = on_one head (operation.convert kind) (value_of operand)
+    value_of (tree.convert_pointer head operand) = value_of operand
+    value_of (tree.unary head operator kind operand) = on_one head (operation.sign operator) (value_of operand)
+    value_of (tree.not head operand) = on_one head operation.not_ (value_of operand)
+    value_of (tree.arithmetic head operator kind a b) = on_two head (operation.arithmetic operator kind) (value_of a) (value_of b)
+    value_of (tree.comparison head operator kind a b) = on_two head (operation.comparison operator kind) (value_of a) (value_of b)
+    value_of (tree.compare_pointers head operator a b) = on_two head (operation.compare operator) (value_of a) (value_of b)
+    value_of (tree.is_nil head true its) = on_one head operation.is_nil (value_of its)
+    value_of (tree.is_nil head false its) = on_one head operation.not_ (on_one head operation.is_nil (value_of its))
+    value_of (tree.step head stride pointer_first a b) = on_two head (operation.step stride pointer_first) (value_of a) (value_of b)
+    value_of (tree.difference head size a b) = on_two head (operation.difference size) (value_of a) (value_of b)
+    value_of (tree.and head a b) =
+        value_of a >>= condition head.at.pos >>= (λ is. either is
+        (value_of b >>= condition head.at.pos >>= (λ is. give (truth_value is)))
+        (give (truth_value false)))
+    value_of (tree.or head a b) =
+        value_of a >>= condition head.at.pos >>= (λ is. either is
+        (give (truth_value true))
+        (value_of b >>= condition head.at.pos >>= (λ is. give (truth_value is))))
+    value_of (tree.conditional head test first second) =
+        value_of test >>= condition head.at.pos >>= (λ is. either is (value_of first) (value_of second))
+    value_of (tree.comma head lefts last) = each_of lefts >> value_of last
+    value_of (tree.assign head into from) =
+        operands (location_of into) (value_of from) >>= (λ both. written program head.at.pos (access_of program into) both.0 both.1)
+    value_of (tree.update head operator kind to into from) =
+        operands (location_of into >>= read_with program head.at.pos (access_of program into)) (value_of from)
+        >>= (λ both. updated head (access_of program into) (operation.arithmetic operator kind) (operation.convert to) both.0.0 both.0.1 both.1)
+    value_of (tree.advance head stride into from) =
+        operands (location_of into >>= read_with program head.at.pos (access_of program into)) (value_of from)
+        >>= (λ both. advanced head (access_of program into) stride both.0.0 both.0.1 both.1)
+    value_of (tree.post_update head operator kind to into) =
+        location_of into >>= read_with program head.at.pos (access_of program into)
+        >>= (λ both. updated head (access_of program into) (operation.arithmetic operator kind) (operation.convert to) both.0 both.1 (number 1)
+        >> give both.1)
+    value_of (tree.post_advance head stride into) =
+        location_of into >>= read_with program head.at.pos (access_of program into)
+        >>= (λ both. advanced head (access_of program into) stride both.0 both.1 (number 1) >> give both.1)
+    value_of (tree.call head place routine arguments) =
+        values_of arguments >>= (λ values. decided_by (bound_to program routine) >> again (call_of place values head.at.pos))
+        >>= (λ flow. acts head.at.pos (returned_value flow))
+    value_of (tree.call_routine head place arguments) =
+        values_of arguments >>= (λ values. decided_by (slice_get program.routines place) >> perform program head.at.pos (operation.routine place) values)
+
+    pub location_of : LeftValue → Step Location
+    location_of (tree.variable head name) = acts head.at.pos (variable_at name)
+    location_of (tree.literal head place) = give (at_pointer (Fixed (object_of_base program (base.Literal place)) (pos 0)))
+    location_of (tree.target head its) = value_of its >>= (λ value. give (reached value))
+    location_of (tree.element head size pointer_first a b) =
+        on_two head (operation.step (record { size = size; backward = false }) pointer_first) (value_of a) (value_of b)
+        >>= (λ value. give (reached value))
+    location_of (tree.member head field bytes object) =
+        on_one head (operation.offset bytes) (location_of object >>= (λ place. acts head.at.pos (address_of place))) >>= (λ value. give (reached value))
+    location_of (tree.arrow head field bytes its) =
+        on_one head (operation.offset bytes) (value_of its) >>= (λ value. give (reached value))
+
+    -- arguments are operands
+    pub values_of : RightValues → Step (List Value)
+    values_of tree.no_values = give []
+    values_of (tree.more_values e rest) = operands (value_of e) (values_of rest) >>= (λ both. give (both.0 ∷ both.1))
+
+    -- the left operands of a comma, one after another
+    pub each_of : RightValues → Step (Unit {0})
+    each_of tree.no_values = give tt
+    each_of (tree.more_values e rest) = value_of e >> each_of rest

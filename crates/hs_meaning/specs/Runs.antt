@@ -1,0 +1,109 @@
+-- The run of a program, and when it is safe (X3.159-1989 3.1.2.4, 3.3 and 3.6; the machine is own).
+--     work program again job              what a job does: it takes its turn first
+--     again_within program fuel           jobs inside one another, down to that depth
+--     Ending                              what a run put out, and how it ended
+--     ran program input schedule turns    the run, as a step
+--     run program input schedule turns    its ending
+--     still_run program input turns       the run on the heap that never moves: its schedule is empty
+--     IsMisuse outcome                    it stopped at a use of a stale pointer or of a purged handle
+--     IsSafe program                      no schedule changes a run, and no run ends in a misuse
+use Rattle.std.specs.Prelude.{◌≡◌, ℤ, ℕ, zero, suc, pos, Bool, true, false, List, [], ◌∷◌, slice_get, Option, Some, None}
+use Rattle.hs_base.specs.declared.pos.Pos.{Pos}
+use Rattle.hs_heap.specs.declared.decision.Decision.{Decision}
+use Rattle.hs_meaning.specs.Evaluation.{Flow, onward, breaks, continues, returned, Job, turn_of, call_of, returned_value}
+use Rattle.hs_meaning.specs.Frames.{opened, closed}
+use Rattle.hs_meaning.specs.Machine.{Machine, Binding, Done, done, stopped}
+use Rattle.hs_meaning.specs.Numbers.{signed}
+use Rattle.hs_meaning.specs.Objects.{starting_machine}
+use Rattle.hs_meaning.specs.Statements.{next_turn, body_of, opening_of}
+use Rattle.hs_meaning.specs.Steps.{State, Ran, went, over, Step, ◌>>=◌, ◌>>◌, give, ends, acts, used, turn}
+use Rattle.hs_meaning.specs.Values.{Value}
+use Rattle.hs_meaning.specs.declared.input.Input.{Input}
+use Rattle.hs_meaning.specs.declared.outcome.Outcome.{Outcome}
+use Rattle.hs_meaning.specs.declared.outcome.Outcome.TheVariants.{Finished, Stopped, TurnsSpent}
+use Rattle.hs_meaning.specs.declared.outcome.Stop.{Stop}
+use Rattle.hs_meaning.specs.declared.outcome.Stop.TheVariants as stop
+use Rattle.hs_tree.specs.Trees.{TypedFunction, TypedProgram}
+
+-- ---- jobs
+
+-- the variables of the function that runs
+abbrev pub own_locals : Machine → Done (List Binding)
+own_locals machine = done machine.locals machine
+
+-- the variables of the caller again
+abbrev pub closes : List Binding → Machine → Done (Unit {0})
+closes caller machine = done tt (closed caller machine)
+
+-- a function is called: it begins with its parameters, and ends with what it returned
+abbrev pub called : TypedProgram → (Job → Step Flow) → Pos → List Value → Option TypedFunction → Step Flow
+called program again at values None = ends (Stopped stop.BadPointer at)
+called program again at values (Some function) =
+    acts at own_locals >>= (λ caller. acts at (opened program function values)
+    >> (body_of program again function >>= (λ flow. acts at (closes caller) >> give flow)))
+
+-- One loop turn and one call of a defined function are one turn each.
+abbrev pub work : TypedProgram → (Job → Step Flow) → Job → Step Flow
+work program again (turn_of function it) = turn >> next_turn program again function it
+work program again (call_of place values at) = turn >> called program again at values (slice_get program.functions place)
+
+-- A job inside a job has one turn less, so the fuel that is one more than the turns is enough. Fuel that ends is a turn that is not there.
+abbrev pub again_within : TypedProgram → ℕ → Job → Step Flow
+again_within program zero job = ends TurnsSpent
+again_within program (suc fuel) job = work program (again_within program fuel) job
+
+-- ---- runs
+
+-- what `main` returned: a number, as an int; a state byte is no number
+abbrev pub finished : Flow → Step ℤ
+finished (returned value at) = used at value >>= (λ bits. give (signed bits))
+finished onward = give (pos 0)
+finished breaks = give (pos 0)
+finished continues = give (pos 0)
+
+-- the call of `main`, which takes no turn
+abbrev pub main_called : TypedProgram → (Job → Step Flow) → Option TypedFunction → Step ℤ
+main_called program again None = give (pos 0)
+main_called program again (Some function) =
+    called program again (opening_of function.body) [] (Some function) >>= finished
+
+-- before the first step
+abbrev pub starting : TypedProgram → Input → List Decision → ℕ → State
+starting program input schedule turns = record { machine = starting_machine program input; schedule = schedule; turns = turns }
+
+-- with jobs down to that depth
+abbrev pub ran_within : ℕ → TypedProgram → Input → List Decision → ℕ → Ran ℤ
+ran_within fuel program input schedule turns =
+    main_called program (again_within program fuel) (slice_get program.functions program.main) (starting program input schedule turns)
+
+abbrev pub ran : TypedProgram → Input → List Decision → ℕ → Ran ℤ
+ran program input schedule turns = ran_within (suc turns) program input schedule turns
+
+-- what a run put out, and how it ended
+pub record Ending : Type 0 where
+  pub output : List ℕ
+  pub outcome : Outcome
+
+abbrev pub ending_of : Ran ℤ → Ending
+ending_of (went value s) = record { output = s.machine.output; outcome = Finished value }
+ending_of (over outcome s) = record { output = s.machine.output; outcome = outcome }
+
+-- with that input, that list of decisions, and so many turns
+abbrev pub run : TypedProgram → Input → List Decision → ℕ → Ending
+run program input schedule turns = ending_of (ran program input schedule turns)
+
+-- on the heap that never moves
+abbrev pub still_run : TypedProgram → Input → ℕ → Ending
+still_run program input turns = run program input [] turns
+
+-- the run stopped at a use of a stale pointer or of a purged handle
+abbrev pub IsMisuse : Outcome → Type 0
+IsMisuse (Stopped stop.Stale at) = Unit {0}
+IsMisuse (Stopped stop.Purged at) = Unit {0}
+IsMisuse _ = ⊥
+
+-- for every input, every schedule and every number of turns
+abbrev pub IsSafe : TypedProgram → Type 0
+IsSafe program =
+    (input : Input) (schedule : List Decision) (turns : ℕ)
+    → (run program input schedule turns ≡ still_run program input turns) × ¬ (IsMisuse (run program input schedule turns).outcome)
