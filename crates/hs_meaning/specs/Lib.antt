@@ -1,9 +1,11 @@
 pub mod Accesses
+pub mod Beside
 pub mod Classes
 pub mod Evaluation
 pub mod Frames
 pub mod Handles
 pub mod InputTexts
+pub mod Laws
 pub mod Machine
 pub mod Numbers
 pub mod Objects

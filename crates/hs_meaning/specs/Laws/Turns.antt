@@ -1,0 +1,138 @@
+-- Turns: a run that is not spent stays the same with more turns.
+--     later more s                         the state with more turns
+--     MoreTurns more                       the pace
+--     stays_with_more_turns                the law
+use Rattle.std.proofs.Common.{◌≡◌, ◌≤◌, ℤ, ℕ, zero, suc, ◌+◌, Bool, true, false, List, [], ◌∷◌, slice_get, Option, Some, None, refl, sym, ap, ◌∙◌, subst, arith}
+use Rattle.hs_base.specs.declared.pos.Pos.{Pos}
+use Rattle.hs_heap.specs.Shift.{Powers}
+use Rattle.hs_heap.specs.declared.decision.Decision.{Decision}
+use Rattle.hs_meaning.specs.Beside.{Relation, Alike, Follows, gives, thens, Units, Same, Lists, Flows, Leaves, Agains}
+use Rattle.hs_meaning.specs.Beside.Calls as calls
+use Rattle.hs_meaning.specs.Beside.Statements as statements
+use Rattle.hs_meaning.specs.Evaluation.{Flow, Job, turn_of, call_of, decided_by, powers_of}
+use Rattle.hs_meaning.specs.Laws.Fuel.{enough_fuel}
+use Rattle.hs_meaning.specs.Laws.Paces.{Pace, at_pace, PaceLeaves, leaves_at}
+use Rattle.hs_meaning.specs.Machine.{Machine, Done, done, stopped}
+use Rattle.hs_meaning.specs.Runs.{work, called, again_within, main_called, starting, ran_within, run, Ending, ending_of}
+use Rattle.hs_meaning.specs.Steps.{State, Ran, went, over, Step, then_with, either, decided, shifted_by, after_decision, acts, ran_at, turn, turn_from}
+use Rattle.hs_meaning.specs.Values.{Value}
+use Rattle.hs_meaning.specs.declared.input.Input.{Input}
+use Rattle.hs_meaning.specs.declared.outcome.Outcome.{Outcome}
+use Rattle.hs_meaning.specs.declared.outcome.Outcome.TheVariants.{Finished, Stopped, TurnsSpent}
+use Rattle.hs_tree.specs.Trees.{TypedFunction, TypedStatement, TypedProgram}
+use Rattle.hs_tree.specs.declared.function.BoundRoutine.{BoundRoutine}
+
+abbrev pub later : ℕ → State → State
+later more s = record s { turns = s.turns + more }
+
+-- a run that is spent says nothing; one that has ended otherwise is the same with more turns
+abbrev pub IsKept : {A : Type 0} → ℕ → Outcome → State → Ran A → Type 0
+IsKept more TurnsSpent s r = Unit {0}
+IsKept more (Finished value) s r = r ≡ over (Finished value) (later more s)
+IsKept more (Stopped why at) s r = r ≡ over (Stopped why at) (later more s)
+
+pub kept_then : {A B : Type 0} → (more : ℕ) (outcome : Outcome) (s : State) (r : Ran A) (next : A → Step B) → IsKept more outcome s r
+    → IsKept more outcome s (then_with next r)
+kept_then more TurnsSpent s r next is = tt
+kept_then more (Finished value) s r next is = ap (then_with next) is
+kept_then more (Stopped why at) s r next is = ap (then_with next) is
+
+abbrev pub MoreTurns : ℕ → Pace
+MoreTurns more =
+    record {
+      states = λ s t. t ≡ later more s;
+      ended = λ outcome s r. IsKept more outcome s r;
+      ended_then = λ outcome s r next is. kept_then more outcome s r next is;
+    }
+
+module _ (more : ℕ) where
+  abbrev R : Relation
+  R = at_pace (MoreTurns more)
+
+  -- from the state itself it is enough
+  from_later : {A : Type 0} → {same : A → A → Type 0} → {f g : Step A} → ((s : State) → Alike R same (f s) (g (later more s))) → Follows R same f g
+  from_later {same = same} {f = f} {g = g} each =
+      record { go = λ s t is. subst (λ x. Alike R same (f s) (g x)) (sym is) (each s) }
+
+  done_alike : {A : Type 0} → (at : Pos) (s : State) (its : Done A) → Alike R Same (ran_at at s its) (ran_at at (later more s) its)
+  done_alike at s (done it machine) = (refl, refl)
+  done_alike at s (stopped why machine) = refl
+
+  decided_alike : (it : Option BoundRoutine) → Follows R Units (decided_by it) (decided_by it)
+  decided_alike None = gives tt
+  decided_alike (Some it) = shifted (powers_of it)
+    where
+      chosen : (powers : Powers) (b : Bool) → Follows R Units (either b (decided powers) (λ s. went tt s)) (either b (decided powers) (λ s. went tt s))
+      chosen powers true = from_later (λ s. (tt, refl))
+      chosen powers false = from_later (λ s. (tt, refl))
+
+      shifted : (powers : Powers) → Follows R Units (shifted_by powers) (shifted_by powers)
+      shifted powers = chosen powers _
+
+  pace_leaves : (program : TypedProgram) → PaceLeaves (MoreTurns more) program
+  pace_leaves program =
+      record {
+        acts_alike = λ {A = A} at act. from_later (λ s. done_alike at s (act s.machine));
+        decides = λ place. decided_alike (slice_get program.routines place);
+      }
+
+  leaves : (program : TypedProgram) → Leaves R program
+  leaves program = leaves_at (MoreTurns more) program (pace_leaves program)
+
+  turns_alike : (s : State) (n : ℕ) → s.turns ≡ n → Alike R Units (turn_from n s) (turn_from (n + more) (later more s))
+  turns_alike s zero is = tt
+  turns_alike s (suc left) is =
+      rw (the_sum left) (tt, refl)
+    where
+      the_sum : (left : ℕ) → suc left + more ≡ suc (left + more)
+      the_sum left = omega arith
+
+  turn_alike : Follows R Units turn turn
+  turn_alike = from_later (λ s. turns_alike s s.turns refl)
+
+  again_alike : (program : TypedProgram) (fuel : ℕ) → Agains R (again_within program fuel) (again_within program fuel)
+  again_alike program zero =
+      record { turns = λ function it. record { go = λ s t is. tt }; calls = λ place at a b is. record { go = λ s t is. tt } }
+  again_alike program (suc fuel) =
+      record {
+        turns = λ function it. thens turn_alike (λ m n so.
+            statements.next_turn_follows R program (leaves program) (again_within program fuel) (again_within program fuel) (again_alike program fuel) function it);
+        calls = λ place at a b is. thens turn_alike (λ m n so.
+            calls.called_follows R program (leaves program) (again_within program fuel) (again_within program fuel) (again_alike program fuel) at a b
+            (slice_get program.functions place) is);
+      }
+
+  pub alike_with_more_turns : (program : TypedProgram) (input : Input) (schedule : List Decision) (fuel turns : ℕ)
+      → Alike R Same (ran_within fuel program input schedule turns) (ran_within fuel program input schedule (turns + more))
+  alike_with_more_turns program input schedule fuel turns =
+      (calls.main_follows R program (leaves program) (again_within program fuel) (again_within program fuel) (again_alike program fuel)
+      (slice_get program.functions program.main)).go (starting program input schedule turns) (starting program input schedule (turns + more)) refl
+
+-- ---- the law
+
+-- what both come to, if the first is not spent
+same_ending : (more : ℕ) (r r' : Ran ℤ) → Alike (at_pace (MoreTurns more)) Same r r' → ((ending_of r).outcome ≡ TurnsSpent → ⊥)
+    → ending_of r' ≡ ending_of r
+same_ending more (went a s) (went b t) is unspent =
+    ap (λ t. ending_of (went b t)) is.1 ∙ ap (λ value. ending_of (went value (later more s))) (sym is.0)
+same_ending more (went a s) (over outcome t) is unspent = absurd is
+same_ending more (over TurnsSpent s) r is unspent = absurd (unspent refl)
+same_ending more (over (Finished value) s) r is unspent = ap ending_of is
+same_ending more (over (Stopped why at) s) r is unspent = ap ending_of is
+
+-- a run that is not spent stays the same with more turns
+pub stays_with_more_turns : (program : TypedProgram) (input : Input) (schedule : List Decision) (turns more : ℕ)
+    → ((run program input schedule turns).outcome ≡ TurnsSpent → ⊥)
+    → run program input schedule (turns + more) ≡ run program input schedule turns
+stays_with_more_turns program input schedule turns more unspent =
+    same_ending more (ran_within (suc (turns + more)) program input schedule turns)
+    (ran_within (suc (turns + more)) program input schedule (turns + more))
+    (alike_with_more_turns more program input schedule (suc (turns + more)) turns)
+    (λ spent. unspent (sym (ap (λ r. (ending_of r).outcome) enough) ∙ spent))
+    ∙ ap ending_of enough
+  where
+    within : turns ≤ turns + more
+    within = omega arith
+
+    enough : ran_within (suc (turns + more)) program input schedule turns ≡ ran_within (suc turns) program input schedule turns
+    enough = enough_fuel program input schedule turns (turns + more) within
