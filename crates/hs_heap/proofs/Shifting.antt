@@ -1,11 +1,11 @@
 -- The two passes together are the shift; and what a shift keeps.
 use Rattle.std.proofs.Common.{◌≡◌, ◌≤◌, ◌<◌, ◌+◌, ℕ, zero, suc, Bool, true, false, not, ◌&&◌, ◌||◌, List, [], ◌∷◌, length, Some, refl, sym, ap, subst, ◌∙◌, slice_get, get_or, if◌then◌else◌, arith}
-use Rattle.std.proofs.lemmas.Bool.{or_parts, or_from, and_left, and_right, not_from_true}
 use Rattle.std.proofs.lemmas.Option.{none-some, same_Some}
 use Rattle.std.proofs.lemmas.List.Sums.{sum_by-cons}
 use Rattle.hs_heap.specs.Blocks.{Block}
 use Rattle.hs_heap.specs.Memory.{IsKept, IsMarked, live_bytes}
-use Rattle.hs_heap.specs.Shift.{Powers, is_named, is_present, is_loose, is_moved, is_purged, shifted, shift_from, shift, OthersStay, LockedStay, EpochsRise}
+use Rattle.hs_heap.specs.Shift.{Powers, is_named, is_present, is_loose, is_moved, is_purged, shifted, shift_from, shift, EpochsRise}
+use Rattle.hs_heap.specs.ShiftLaws.{there_after}
 use Rattle.hs_heap.specs.Passes.{raised, purged, relocated, numbered, if_named, with_each}
 use Rattle.hs_heap.specs.declared.decision.Decision.{Decision}
 use Rattle.hs_heap.specs.declared.presence.Presence.TheVariants.{Purged}
@@ -87,14 +87,6 @@ module _ (powers : Powers) (decision : Decision) where
       ∙ ap (λ m. length block.cells + m) (same_bytes (suc n) blocks)
       ∙ sym (sum_by-cons (λ (it : Block). length it.cells) block blocks)
 
-  -- each block is there after the shift, as the shift leaves it
-  there_after : (n : ℕ) (blocks : List Block) (place k : ℕ) (block : Block) → k ≡ n + place → slice_get blocks place ≡ Some block
-      → slice_get (shift_from powers decision n blocks) place ≡ Some (shifted powers decision k block)
-  there_after n [] place k block at found = absurd (none-some block found)
-  there_after n (first ∷ blocks) zero k block at found =
-      ap Some (ap (λ m. shifted powers decision m first) (sym (omega (arith, at))) ∙ ap (shifted powers decision k) (same_Some first block found))
-  there_after n (first ∷ blocks) (suc place) k block at found = there_after (suc n) blocks place k block (omega (arith, at)) found
-
   -- its epoch rises by at most one
   epochs_rise : (n : ℕ) (block : Block)
       → (block.epoch ≤ (shifted powers decision n block).epoch) × ((shifted powers decision n block).epoch ≤ block.epoch + 1)
@@ -114,30 +106,8 @@ module _ (powers : Powers) (decision : Decision) where
   EpochsRise-shift blocks place before after one two =
       subst (λ (it : Block). (before.epoch ≤ it.epoch) × (it.epoch ≤ before.epoch + 1))
       (same_Some (shifted powers decision (suc place) before) after
-      (sym (there_after 1 blocks place (suc place) before (omega arith) one) ∙ two))
+      (sym (there_after powers decision 1 blocks place (suc place) before (omega arith) one) ∙ two))
       (epochs_rise (suc place) before)
-
-  -- by place: a block that is neither moved nor purged stays
-  pub OthersStay-shift : (blocks : List Block) → OthersStay powers decision blocks (shift powers decision blocks)
-  OthersStay-shift blocks place block found other =
-      there_after 1 blocks place (suc place) block (omega arith) found
-      ∙ ap Some (stays (or_parts (is_moved powers decision (suc place) block) (is_purged powers decision (suc place) block) other))
-    where
-      stays : (is_moved powers decision (suc place) block ≡ false) × (is_purged powers decision (suc place) block ≡ false)
-          → shifted powers decision (suc place) block ≡ block
-      stays parts = rw (parts.1, parts.0) refl
-
-  -- a locked one is neither
-  pub LockedStay-shift : (blocks : List Block) → LockedStay blocks (shift powers decision blocks)
-  LockedStay-shift blocks place block found locked =
-      OthersStay-shift blocks place block found
-      (or_from (is_moved powers decision (suc place) block) (is_purged powers decision (suc place) block)
-      (and_right ((powers.moves || powers.purges) && is_named decision.moves (suc place)) (is_loose block) not_loose)
-      (and_left (powers.purges && is_named decision.purges (suc place) && is_loose block) block.purgeable
-      (and_right (powers.purges && is_named decision.purges (suc place)) (is_loose block) not_loose)))
-    where
-      not_loose : is_loose block ≡ false
-      not_loose = and_right (is_present block.presence) (not block.locked) (not_from_true block.locked locked)
 
   -- an epoch after the shift is at most one more than the shifts before it
   epochs_after : (n : ℕ) (blocks : List Block) (shifts place : ℕ) (block : Block)

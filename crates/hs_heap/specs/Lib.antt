@@ -2,3 +2,4 @@ pub mod Blocks
 pub mod Memory
 pub mod Passes
 pub mod Shift
+pub mod ShiftLaws

@@ -1,6 +1,8 @@
 -- Laws of runs.
 pub mod Fuel
+pub mod Handles
 pub mod Paces
 pub mod Schedules
+pub mod Shifts
 pub mod Turns
 pub mod Unmoved

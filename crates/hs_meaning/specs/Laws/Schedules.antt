@@ -137,7 +137,7 @@ later_still : (schedule : List Decision) → AreStill schedule → AreStill (lat
 later_still [] are = tt
 later_still (decision ∷ rest) are = are.1
 
-decision_stays : (powers : Powers) (s : State) → AreStill s.schedule → (after_decision powers s).machine ≡ s.machine
+pub decision_stays : (powers : Powers) (s : State) → AreStill s.schedule → (after_decision powers s).machine ≡ s.machine
 decision_stays powers s are =
     ap (λ decision. with_blocks (shift powers decision s.machine.blocks) s.machine) (next_nothing s.schedule are)
     ∙ ap (λ blocks. with_blocks blocks s.machine) (stay_shifted powers 1 s.machine.blocks)

@@ -1,9 +1,10 @@
 use Rattle.std.proofs.Common.{◌≡◌, ◌≤◌, ◌<◌, ◌+◌, ◌||◌, length, sym, ap, subst, ◌∙◌}
 use Rattle.hs_heap.proofs.Passing.{length_numbered}
-use Rattle.hs_heap.proofs.Shifting.{shift_is, kept_shift, marked_shift, OthersStay-shift, LockedStay-shift, EpochsRise-shift, length_shift}
+use Rattle.hs_heap.proofs.Shifting.{shift_is, kept_shift, marked_shift, EpochsRise-shift, length_shift}
 use Rattle.hs_heap.specs.Memory.{Memory, IsKept, IsMarked}
 use Rattle.hs_heap.specs.Passes.{purged, if_named}
 use Rattle.hs_heap.specs.Shift.{OthersStay, LockedStay, EpochsRise, shift, after_shift}
+use Rattle.hs_heap.specs.ShiftLaws.{others_stay, locked_stay}
 use Rattle.hs_heap.proofs.heap.Heap.shift.Goals as goal
 use Rattle.hs_heap.proofs.heap.Heap.shift.Goals.{then-moves, else-moves}
 
@@ -42,12 +43,12 @@ returns-clause-others_stay c =
     subst (λ (it : Memory). OthersStay (record { moves = c.args.moves; purges = c.args.purges }) c.args.d.now it.blocks c.relocate.new.rows.items)
     c.self.view_is
     (subst (OthersStay (record { moves = c.args.moves; purges = c.args.purges }) c.args.d.now c.self.inside.rows.items) (sym (rows_are c))
-    (OthersStay-shift _ c.args.d.now c.self.inside.rows.items))
+    (others_stay _ c.args.d.now c.self.inside.rows.items))
 
 pub returns-clause-locked_stay : goal.returns-clause-locked_stay
 returns-clause-locked_stay c =
     subst (λ (it : Memory). LockedStay it.blocks c.relocate.new.rows.items) c.self.view_is
-    (subst (LockedStay c.self.inside.rows.items) (sym (rows_are c)) (LockedStay-shift _ c.args.d.now c.self.inside.rows.items))
+    (subst (LockedStay c.self.inside.rows.items) (sym (rows_are c)) (locked_stay _ c.args.d.now c.self.inside.rows.items))
 
 pub returns-clause-epochs : goal.returns-clause-epochs
 returns-clause-epochs c =
