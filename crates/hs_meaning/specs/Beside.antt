@@ -5,7 +5,7 @@
 --     Follows R same first second       so it does from all states that correspond
 --     gives, thens, eithers             a step that does nothing, one after the other, and one of two
 --     Lists, Locations, Flows           lists of values, locations, and ways to go on that correspond
---     Leaves R program                  what a relation says of each operation of a program
+--     Leaves R setting                  what a relation says of each operation
 --     Agains R again other              and of each job
 pub mod Calls
 pub mod Expressions
@@ -23,9 +23,12 @@ use Rattle.hs_meaning.specs.Values.{Value, pointer, pointer_in}
 use Rattle.hs_meaning.specs.declared.outcome.Outcome.{Outcome}
 use Rattle.hs_meaning.specs.declared.outcome.Outcome.TheVariants.{Stopped}
 use Rattle.hs_meaning.specs.declared.outcome.Stop.TheVariants as stop
-use Rattle.hs_tree.specs.Trees.{TypedStatement, TypedFunction, TypedProgram}
+use Rattle.hs_meaning.specs.Settings.{Setting}
+use Rattle.hs_tree.specs.Trees.{TypedStatement, TypedFunction}
 use Rattle.hs_tree.specs.declared.constant.Constant.{Constant}
 use Rattle.hs_tree.specs.declared.head.Variable.{Variable}
+use Rattle.hs_tree.specs.declared.head.VariableDecl.{VariableDecl}
+use Rattle.hs_types.specs.declared.row.TypeId.{TypeId}
 
 pub record Relation : Type 1 where
   pub values : Value → Value → Type 0
@@ -107,22 +110,21 @@ module _ (R : Relation) where
 -- ---- operations and jobs
 
 -- what a relation says of each operation
-pub record Leaves (R : Relation) (program : TypedProgram) : Type 0 where
+pub record Leaves (R : Relation) (setting : Setting) : Type 0 where
   -- constants correspond to themselves
-  pub constant : (its : Constant) → R.values (constant_value program its) (constant_value program its)
+  pub constant : (its : Constant) → R.values (constant_value setting its) (constant_value setting its)
   pub pointed : (a b : Value) → R.values a b → R.values (pointer (pointer_in a)) (pointer (pointer_in b))
-  pub performed : (at : Pos) (its : Operation) (a b : List Value) → Lists R a b → Follows R R.values (perform program at its a) (perform program at its b)
+  pub performed : (at : Pos) (its : Operation) (a b : List Value) → Lists R a b → Follows R R.values (perform setting at its a) (perform setting at its b)
   pub used_as : (at : Pos) (a b : Value) → R.values a b → Follows R Same (used at a) (used at b)
   pub variable : (at : Pos) (name : Variable) → Follows R (Locations R) (acts at (variable_at name)) (acts at (variable_at name))
   pub address : (at : Pos) (a b : Location) → Locations R a b → Follows R R.values (acts at (address_of a)) (acts at (address_of b))
   pub result : (at : Pos) (a b : Flow) → Flows R a b → Follows R R.values (acts at (returned_value a)) (acts at (returned_value b))
-  pub missing : (at : Pos) (function : TypedFunction)
-      → Follows R R.values (acts at (missing_value program function)) (acts at (missing_value program function))
-  pub decided : (place : ℕ) → Follows R Units (decided_by (slice_get program.routines place)) (decided_by (slice_get program.routines place))
+  pub missing : (at : Pos) (id : TypeId) → Follows R R.values (acts at (missing_value setting id)) (acts at (missing_value setting id))
+  pub decided : (place : ℕ) → Follows R Units (decided_by (slice_get setting.routines place)) (decided_by (slice_get setting.routines place))
   -- calls
   pub owned : (at : Pos) → Follows R R.bindings (acts at own_locals) (acts at own_locals)
-  pub opens : (at : Pos) (function : TypedFunction) (a b : List Value) → Lists R a b
-      → Follows R Units (acts at (opened program function a)) (acts at (opened program function b))
+  pub opens : (at : Pos) (parameters : ℕ) (variables : List VariableDecl) (a b : List Value) → Lists R a b
+      → Follows R Units (acts at (opened setting parameters variables a)) (acts at (opened setting parameters variables b))
   pub closes_to : (at : Pos) (a b : List Binding) → R.bindings a b → Follows R Units (acts at (closes a)) (acts at (closes b))
   pub uncalled : (at : Pos) → Follows R (Flows R) (ends (Stopped stop.BadPointer at)) (ends (Stopped stop.BadPointer at))
 

@@ -1,42 +1,37 @@
--- The numbers of classes (own). A cell names the class through which it was stored by a number: classes are numbered in the order in which the
--- program first names them. What a load or a store of a pointer reaches names its class, after its operands; so do the constants with which
+-- The classes of a program, in the order in which it first names them (own). What a load or a store of a pointer reaches names its class, after its operands; so do the constants with which
 -- objects start, and parameters that are objects.
---     access_of program e                 what a load or a store of an lvalue reaches
---     access_of_type program id class     what one of that type and class reaches
+--     class_of_type, class_of_scalar      the class of a pointer that is no field, and of a scalar inside an object
 --     classes_of program                  all classes, in their order
---     class_number program its            the number of a class
 use Rattle.indexmap.specs.IndexSet.{insert_key}
-use Rattle.std.specs.List.{position_or_len}
 use Rattle.std.specs.Prelude.{ℕ, Bool, true, false, not, ◌&&◌, List, [], ◌∷◌, ◌++◌, take, slice_get, Option, Some, None, if◌then◌else◌}
 use Rattle.hs_meaning.specs.Scalars.{Scalar, scalars_of}
-use Rattle.hs_meaning.specs.Values.{Access, of_number, of_pointer, of_struct}
 use Rattle.hs_tree.specs.Classes.{class_of, class_of_field, is_slot}
 use Rattle.hs_tree.specs.Fitting.{declared}
-use Rattle.hs_tree.specs.Kinds.{number_kind, is_pointer}
+use Rattle.hs_tree.specs.Kinds.{is_pointer}
 use Rattle.hs_tree.specs.Representatives.{type_for}
 use Rattle.hs_tree.specs.Trees as tree
-use Rattle.hs_tree.specs.Trees.{RightValue, LeftValue, RightValues, Starting, TypedItem, TypedDeclaration, TypedStatement, TypedBlock, TypedStatements, TypedFunction, TypedProgram, type_of_left}
+use Rattle.hs_tree.specs.Trees.{RightValue, LeftValue, RightValues, Starting, TypedItem, TypedDeclaration, TypedStatement, TypedBlock, TypedStatements, TypedFunction, TypedProgram}
 use Rattle.hs_tree.specs.contracts.class.ClassPartialEq.TheImpl as class_eq
 use Rattle.hs_tree.specs.declared.class.Class.{Class}
 use Rattle.hs_tree.specs.declared.class.Class.TheVariants as class
 use Rattle.hs_tree.specs.declared.constant.Part.{Part}
 use Rattle.hs_tree.specs.declared.globals.Global.{Global}
 use Rattle.hs_tree.specs.declared.head.VariableDecl.{VariableDecl}
-use Rattle.hs_types.specs.TypeTables.{TypeTable, size_of}
-use Rattle.hs_types.specs.declared.integer.Integer.{Integer}
+use Rattle.hs_tree.specs.declared.representatives.Representatives.{Representatives}
+use Rattle.hs_types.specs.TypeTables.{TypeTable}
 use Rattle.hs_types.specs.declared.row.FieldId.{FieldId}
 use Rattle.hs_types.specs.declared.row.TypeId.{TypeId}
 
 -- ---- classes of lvalues, parts and parameters
 
 -- the class of a pointer that is no field
-abbrev pub class_of_type : TypedProgram → TypeId → Class
-class_of_type program id = class.Pointer (type_for program.same id)
+abbrev pub class_of_type : Representatives → TypeId → Class
+class_of_type same id = class.Pointer (type_for same id)
 
 -- of a scalar inside an object
-abbrev pub class_of_scalar : TypedProgram → TypeId → Option FieldId → Class
-class_of_scalar program id None = class_of_type program id
-class_of_scalar program id (Some field) = class_of_field program.same program.taken id field
+abbrev pub class_of_scalar : Representatives → List FieldId → TypeId → Option FieldId → Class
+class_of_scalar same taken id None = class_of_type same id
+class_of_scalar same taken id (Some field) = class_of_field same taken id field
 
 -- one class, if the type is one of pointers
 abbrev pub class_if : Bool → Class → List Class
@@ -118,7 +113,7 @@ module _ (program : TypedProgram) (function : TypedFunction) where
 abbrev pub named_scalars : TypedProgram → List Scalar → List Class
 named_scalars program [] = []
 named_scalars program (its ∷ rest) =
-    class_if (is_pointer program.types its.type_id) (class_of_scalar program its.type_id its.field) ++ named_scalars program rest
+    class_if (is_pointer program.types its.type_id) (class_of_scalar program.same program.taken its.type_id its.field) ++ named_scalars program rest
 
 -- all scalars of an object that a function makes
 abbrev pub named_inside : TypedProgram → Option VariableDecl → List Class
@@ -129,12 +124,12 @@ named_inside program (Some variable) = named_scalars program (scalars_of program
 abbrev pub named_parts : TypedProgram → List Part → List Class
 named_parts program [] = []
 named_parts program (part ∷ parts) =
-    class_if (is_pointer program.types part.type_id) (class_of_scalar program part.type_id part.field) ++ named_parts program parts
+    class_if (is_pointer program.types part.type_id) (class_of_scalar program.same program.taken part.type_id part.field) ++ named_parts program parts
 
 -- a variable that is an object
 abbrev pub named_object : TypedProgram → VariableDecl → List Class
 named_object program variable =
-    class_if (is_pointer program.types variable.type_id && not (is_slot program.types variable)) (class_of_type program variable.type_id)
+    class_if (is_pointer program.types variable.type_id && not (is_slot program.types variable)) (class_of_type program.same variable.type_id)
 
 abbrev pub named_variable : TypedProgram → Option VariableDecl → List Class
 named_variable program None = []
@@ -202,29 +197,3 @@ with_classes known (its ∷ rest) = with_classes (insert_key same_class known it
 -- objects first, then functions
 abbrev pub classes_of : TypedProgram → List Class
 classes_of program = with_classes [] (named_globals program program.globals ++ named_functions program program.functions)
-
--- its place
-abbrev pub class_number : TypedProgram → Class → ℕ
-class_number program its = position_or_len (same_class its) (classes_of program)
-
--- ---- what is reached
-
--- a number of that kind, a pointer of that class, or a struct
-abbrev pub access_by : TypedProgram → TypeId → Class → Option Integer → Bool → Access
-access_by program id its (Some kind) pointer = of_number kind
-access_by program id its None true = of_pointer (class_number program its)
-access_by program id its None false = of_struct (size_of program.types id)
-
--- an object of that type, whose class it is if it is a pointer
-abbrev pub access_of_type : TypedProgram → TypeId → Class → Access
-access_of_type program id its = access_by program id its (number_kind program.types id) (is_pointer program.types id)
-
--- the class of an lvalue, which counts only if it is a pointer
-abbrev pub class_or : TypedProgram → TypeId → Option Class → Class
-class_or program id None = class_of_type program id
-class_or program id (Some its) = its
-
--- of an lvalue
-abbrev pub access_of : TypedProgram → LeftValue → Access
-access_of program e =
-    access_of_type program (type_of_left e) (class_or program (type_of_left e) (class_of program.types program.same program.taken e))

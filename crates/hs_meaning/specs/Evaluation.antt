@@ -2,27 +2,27 @@
 --     Flow                           how a statement goes on
 --     Job                            what costs a turn: one more turn of a loop, and a call of a function
 --     Location                       where an object is: in a slot, or where a pointer reaches
---     value_of program again e       the value of an expression
---     location_of program again e    the object that it designates
---     values_of program again list   the values of arguments
+--     value_of setting again e       the value of an expression
+--     location_of setting again e    the object that it designates
+--     values_of setting again list   the values of arguments
 -- `again` does a job. It takes the turn, so the recursion on trees is structural; `Runs.antt` says what jobs are.
 use Rattle.std.specs.Prelude.{ℕ, pos, Bool, true, false, ◌||◌, List, [], ◌∷◌, slice_get, Option, Some, None}
 use Rattle.hs_base.specs.declared.pos.Pos.{Pos}
 use Rattle.hs_heap.specs.Shift.{Powers}
 use Rattle.hs_heap.specs.declared.cell.Pointer.{Pointer}
 use Rattle.hs_heap.specs.declared.cell.Pointer.TheVariants.{Nil, Fixed}
-use Rattle.hs_meaning.specs.Classes.{access_of}
 use Rattle.hs_meaning.specs.Machine.{Machine, Done, done, stopped, Binding, slot, object_at, binding_of}
 use Rattle.hs_meaning.specs.Numbers.{truth}
 use Rattle.hs_meaning.specs.Objects.{object_of_base}
 use Rattle.hs_meaning.specs.Operations as operation
 use Rattle.hs_meaning.specs.Operations.{Operation}
+use Rattle.hs_meaning.specs.Settings.{Setting, access_of}
 use Rattle.hs_meaning.specs.Steps.{Step, ◌>>=◌, ◌>>◌, give, either, acts, perform, condition, operands, shifted_by}
 use Rattle.hs_meaning.specs.Values.{Value, number, pointer, Access, pointer_in}
 use Rattle.hs_meaning.specs.declared.outcome.Stop.{Stop}
 use Rattle.hs_meaning.specs.declared.outcome.Stop.TheVariants as stop
 use Rattle.hs_tree.specs.Trees as tree
-use Rattle.hs_tree.specs.Trees.{RightValue, LeftValue, RightValues, TypedFunction, TypedProgram, TypedStatement}
+use Rattle.hs_tree.specs.Trees.{RightValue, LeftValue, RightValues, TypedFunction, TypedStatement}
 use Rattle.hs_tree.specs.declared.constant.Base.TheVariants as base
 use Rattle.hs_tree.specs.declared.function.BoundRoutine.{BoundRoutine}
 use Rattle.hs_tree.specs.declared.head.Head.{Head}
@@ -62,14 +62,14 @@ abbrev pub reached : Value → Location
 reached value = at_pointer (pointer_in value)
 
 -- the value of an object
-abbrev pub read : TypedProgram → Pos → Access → Location → Step Value
-read program at access (in_slot name) = perform program at (operation.get name) []
-read program at access (at_pointer its) = perform program at (operation.load access) (pointer its ∷ [])
+abbrev pub read : Setting → Pos → Access → Location → Step Value
+read setting at access (in_slot name) = perform setting at (operation.get name) []
+read setting at access (at_pointer its) = perform setting at (operation.load access) (pointer its ∷ [])
 
 -- an object is given a value, which is the value of the assignment
-abbrev pub written : TypedProgram → Pos → Access → Location → Value → Step Value
-written program at access (in_slot name) value = perform program at (operation.set name) (value ∷ [])
-written program at access (at_pointer its) value = perform program at (operation.store access) (pointer its ∷ value ∷ [])
+abbrev pub written : Setting → Pos → Access → Location → Value → Step Value
+written setting at access (in_slot name) value = perform setting at (operation.set name) (value ∷ [])
+written setting at access (at_pointer its) value = perform setting at (operation.store access) (pointer its ∷ value ∷ [])
 
 -- its address; a slot has none
 abbrev pub address_of : Location → Machine → Done Value
@@ -77,8 +77,8 @@ address_of (in_slot name) machine = stopped stop.BadPointer machine
 address_of (at_pointer its) machine = done (pointer its) machine
 
 -- the object and its value
-abbrev pub read_with : TypedProgram → Pos → Access → Location → Step (Location × Value)
-read_with program at access place = read program at access place >>= (λ value. give (place, value))
+abbrev pub read_with : Setting → Pos → Access → Location → Step (Location × Value)
+read_with setting at access place = read setting at access place >>= (λ value. give (place, value))
 
 -- ---- calls
 
@@ -92,9 +92,9 @@ decided_by None = give tt
 decided_by (Some it) = shifted_by (powers_of it)
 
 -- the routine to which a call of a function is bound, if it is
-abbrev pub bound_to : TypedProgram → Option ℕ → Option BoundRoutine
-bound_to program None = None
-bound_to program (Some place) = slice_get program.routines place
+abbrev pub bound_to : Setting → Option ℕ → Option BoundRoutine
+bound_to setting None = None
+bound_to setting (Some place) = slice_get setting.routines place
 
 -- the value that a function returned
 abbrev pub returned_value : Flow → Machine → Done Value
@@ -109,30 +109,30 @@ truth_value answer = number (truth answer)
 
 -- ---- expressions
 
-module _ (program : TypedProgram) (again : Job → Step Flow) where
+module _ (setting : Setting) (again : Job → Step Flow) where
   -- the step of an operation on one value, or on two
   abbrev pub on_one : Head → Operation → Step Value → Step Value
-  on_one head its first = first >>= (λ a. perform program head.at.pos its (a ∷ []))
+  on_one head its first = first >>= (λ a. perform setting head.at.pos its (a ∷ []))
 
   abbrev pub on_two : Head → Operation → Step Value → Step Value → Step Value
-  on_two head its first second = operands first second >>= (λ both. perform program head.at.pos its (both.0 ∷ both.1 ∷ []))
+  on_two head its first second = operands first second >>= (λ both. perform setting head.at.pos its (both.0 ∷ both.1 ∷ []))
 
   -- what was read is given to an operation with another operand, and the result to the object
   abbrev pub updated : Head → Access → Operation → Operation → Location → Value → Value → Step Value
   updated head access its to place before by =
-      perform program head.at.pos its (before ∷ by ∷ []) >>= (λ sum. perform program head.at.pos to (sum ∷ [])
-      >>= (λ value. written program head.at.pos access place value))
+      perform setting head.at.pos its (before ∷ by ∷ []) >>= (λ sum. perform setting head.at.pos to (sum ∷ [])
+      >>= (λ value. written setting head.at.pos access place value))
 
   -- the same of a pointer, which is not converted
   abbrev pub advanced : Head → Access → Stride → Location → Value → Value → Step Value
   advanced head access stride place before by =
-      perform program head.at.pos (operation.step stride true) (before ∷ by ∷ []) >>= (λ value. written program head.at.pos access place value)
+      perform setting head.at.pos (operation.step stride true) (before ∷ by ∷ []) >>= (λ value. written setting head.at.pos access place value)
 
   abbrev mutual
     pub value_of : RightValue → Step Value
     value_of (tree.number head bits) = give (number bits)
     value_of (tree.nil head) = give (pointer Nil)
-    value_of (tree.load head object) = location_of object >>= (λ place. read program head.at.pos (access_of program object) place)
+    value_of (tree.load head object) = location_of object >>= (λ place. read setting head.at.pos (access_of setting object) place)
     value_of (tree.decay head array) = location_of array >>= (λ place. acts head.at.pos (address_of place))
     value_of (tree.address head object) = location_of object >>= (λ place. acts head.at.pos (address_of place))
     value_of (tree.cast head operand) = value_of operand
@@ -159,29 +159,29 @@ module _ (program : TypedProgram) (again : Job → Step Flow) where
         value_of test >>= condition head.at.pos >>= (λ is. either is (value_of first) (value_of second))
     value_of (tree.comma head lefts last) = each_of lefts >> value_of last
     value_of (tree.assign head into from) =
-        operands (location_of into) (value_of from) >>= (λ both. written program head.at.pos (access_of program into) both.0 both.1)
+        operands (location_of into) (value_of from) >>= (λ both. written setting head.at.pos (access_of setting into) both.0 both.1)
     value_of (tree.update head operator kind to into from) =
-        operands (location_of into >>= read_with program head.at.pos (access_of program into)) (value_of from)
-        >>= (λ both. updated head (access_of program into) (operation.arithmetic operator kind) (operation.convert to) both.0.0 both.0.1 both.1)
+        operands (location_of into >>= read_with setting head.at.pos (access_of setting into)) (value_of from)
+        >>= (λ both. updated head (access_of setting into) (operation.arithmetic operator kind) (operation.convert to) both.0.0 both.0.1 both.1)
     value_of (tree.advance head stride into from) =
-        operands (location_of into >>= read_with program head.at.pos (access_of program into)) (value_of from)
-        >>= (λ both. advanced head (access_of program into) stride both.0.0 both.0.1 both.1)
+        operands (location_of into >>= read_with setting head.at.pos (access_of setting into)) (value_of from)
+        >>= (λ both. advanced head (access_of setting into) stride both.0.0 both.0.1 both.1)
     value_of (tree.post_update head operator kind to into) =
-        location_of into >>= read_with program head.at.pos (access_of program into)
-        >>= (λ both. updated head (access_of program into) (operation.arithmetic operator kind) (operation.convert to) both.0 both.1 (number 1)
+        location_of into >>= read_with setting head.at.pos (access_of setting into)
+        >>= (λ both. updated head (access_of setting into) (operation.arithmetic operator kind) (operation.convert to) both.0 both.1 (number 1)
         >> give both.1)
     value_of (tree.post_advance head stride into) =
-        location_of into >>= read_with program head.at.pos (access_of program into)
-        >>= (λ both. advanced head (access_of program into) stride both.0 both.1 (number 1) >> give both.1)
+        location_of into >>= read_with setting head.at.pos (access_of setting into)
+        >>= (λ both. advanced head (access_of setting into) stride both.0 both.1 (number 1) >> give both.1)
     value_of (tree.call head place routine arguments) =
-        values_of arguments >>= (λ values. decided_by (bound_to program routine) >> again (call_of place values head.at.pos))
+        values_of arguments >>= (λ values. decided_by (bound_to setting routine) >> again (call_of place values head.at.pos))
         >>= (λ flow. acts head.at.pos (returned_value flow))
     value_of (tree.call_routine head place arguments) =
-        values_of arguments >>= (λ values. decided_by (slice_get program.routines place) >> perform program head.at.pos (operation.routine place) values)
+        values_of arguments >>= (λ values. decided_by (slice_get setting.routines place) >> perform setting head.at.pos (operation.routine place) values)
 
     pub location_of : LeftValue → Step Location
     location_of (tree.variable head name) = acts head.at.pos (variable_at name)
-    location_of (tree.literal head place) = give (at_pointer (Fixed (object_of_base program (base.Literal place)) (pos 0)))
+    location_of (tree.literal head place) = give (at_pointer (Fixed (object_of_base setting (base.Literal place)) (pos 0)))
     location_of (tree.target head its) = value_of its >>= (λ value. give (reached value))
     location_of (tree.element head size pointer_first a b) =
         on_two head (operation.step (record { size = size; backward = false }) pointer_first) (value_of a) (value_of b)

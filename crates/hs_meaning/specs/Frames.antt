@@ -1,19 +1,19 @@
 -- Calls of functions (X3.159-1989 3.3.2.2; frames and their limits are own).
 --     has_frame new machine                      the machine has a frame for a call, bytes for its objects, and numbers for them
---     opened program function arguments machine  the call begins: its variables have no values, but for the parameters
+--     opened setting parameters variables arguments machine      the call begins: its variables have no values, but for the parameters
 --     closed caller machine                      it ends: its objects end, and the variables are those of the caller again
---     missing_value program function machine     what it gives if it ends without a value
+--     missing_value setting result machine       what it gives if it ends without a value
 use Rattle.std.specs.Prelude.{ℕ, suc, pos, ◌+◌, ◌-◌, nat_le, Bool, true, false, ◌&&◌, List, [], ◌∷◌, ◌++◌, length, take, slice_get, slice_set, Option, Some, None}
 use Rattle.hs_heap.specs.declared.cell.Pointer.TheVariants.{Nil, Fixed}
 use Rattle.hs_meaning.specs.Accesses.{stored}
-use Rattle.hs_meaning.specs.Classes.{access_of_type, class_of_type}
+use Rattle.hs_meaning.specs.Classes.{class_of_type}
 use Rattle.hs_meaning.specs.Machine.{Machine, Object, Binding, slot, object_at, Done, done, stopped, and_then, with_object, bytes_where, is_automatic, ended_object}
 use Rattle.hs_meaning.specs.Objects.{bindings, objects_for}
+use Rattle.hs_meaning.specs.Settings.{Setting, access_of_type}
 use Rattle.hs_meaning.specs.Values.{Value, number, pointer}
 use Rattle.hs_meaning.specs.declared.outcome.Stop.{Stop}
 use Rattle.hs_meaning.specs.declared.outcome.Stop.TheVariants as stop
 use Rattle.hs_tree.specs.Kinds.{is_pointer, is_struct_row}
-use Rattle.hs_tree.specs.Trees.{TypedFunction, TypedProgram}
 use Rattle.hs_tree.specs.declared.head.VariableDecl.{VariableDecl}
 use Rattle.hs_types.specs.TypeTables.{row_of}
 use Rattle.hs_types.specs.declared.row.TypeId.{TypeId}
@@ -30,32 +30,32 @@ abbrev pub in_frame : List Binding → List Object → Machine → Machine
 in_frame locals new machine = record machine { objects = machine.objects ++ new; locals = locals; frames = machine.frames + 1 }
 
 -- a parameter is given its argument: as a slot, or as an object is by a store
-abbrev pub given_to : TypedProgram → ℕ → TypeId → Value → Option Binding → Machine → Done (Unit {0})
-given_to program place id value None machine = stopped stop.BadPointer machine
-given_to program place id value (Some (slot before)) machine =
+abbrev pub given_to : Setting → ℕ → TypeId → Value → Option Binding → Machine → Done (Unit {0})
+given_to setting place id value None machine = stopped stop.BadPointer machine
+given_to setting place id value (Some (slot before)) machine =
     done tt (record machine { locals = slice_set machine.locals place (slot (Some value)) })
-given_to program place id value (Some (object_at object)) machine =
-    and_then (stored (access_of_type program id (class_of_type program id)) (Fixed object (pos 0)) value machine) (λ it after. done tt after)
+given_to setting place id value (Some (object_at object)) machine =
+    and_then (stored (access_of_type setting id (class_of_type setting.same id)) (Fixed object (pos 0)) value machine) (λ it after. done tt after)
 
 -- each parameter from that place on, in order
-abbrev pub given_all : TypedProgram → ℕ → List VariableDecl → List Value → Machine → Done (Unit {0})
-given_all program place [] values machine = done tt machine
-given_all program place (variable ∷ rest) [] machine = stopped stop.BadPointer machine
-given_all program place (variable ∷ rest) (value ∷ values) machine =
-    and_then (given_to program place variable.type_id value (slice_get machine.locals place) machine)
-    (λ it after. given_all program (suc place) rest values after)
+abbrev pub given_all : Setting → ℕ → List VariableDecl → List Value → Machine → Done (Unit {0})
+given_all setting place [] values machine = done tt machine
+given_all setting place (variable ∷ rest) [] machine = stopped stop.BadPointer machine
+given_all setting place (variable ∷ rest) (value ∷ values) machine =
+    and_then (given_to setting place variable.type_id value (slice_get machine.locals place) machine)
+    (λ it after. given_all setting (suc place) rest values after)
 
 -- if there is a frame
-abbrev pub opened_if : Bool → TypedProgram → TypedFunction → List Value → Machine → Done (Unit {0})
-opened_if false program function values machine = stopped stop.Frames machine
-opened_if true program function values machine =
-    given_all program 0 (take function.parameters function.variables) values
-    (in_frame (bindings program.types (length machine.objects) function.variables) (objects_for program.types function.variables) machine)
+abbrev pub opened_if : Bool → Setting → ℕ → List VariableDecl → List Value → Machine → Done (Unit {0})
+opened_if false setting parameters variables values machine = stopped stop.Frames machine
+opened_if true setting parameters variables values machine =
+    given_all setting 0 (take parameters variables) values
+    (in_frame (bindings setting.types (length machine.objects) variables) (objects_for setting.types variables) machine)
 
--- the call begins
-abbrev pub opened : TypedProgram → TypedFunction → List Value → Machine → Done (Unit {0})
-opened program function values machine =
-    opened_if (has_frame (objects_for program.types function.variables) machine) program function values machine
+-- the call begins; so many of the variables are parameters
+abbrev pub opened : Setting → ℕ → List VariableDecl → List Value → Machine → Done (Unit {0})
+opened setting parameters variables values machine =
+    opened_if (has_frame (objects_for setting.types variables) machine) setting parameters variables values machine
 
 -- the objects of the call, which end
 abbrev pub without_objects : List Binding → Machine → Machine
@@ -77,7 +77,6 @@ missing_by true is_struct machine = done (pointer Nil) machine
 missing_by false true machine = stopped stop.Nil machine
 missing_by false false machine = done (number 0) machine
 
--- of a function that ends without a value
-abbrev pub missing_value : TypedProgram → TypedFunction → Machine → Done Value
-missing_value program function machine =
-    missing_by (is_pointer program.types function.result) (is_struct_row (row_of program.types function.result)) machine
+-- of a function of that type that ends without a value
+abbrev pub missing_value : Setting → TypeId → Machine → Done Value
+missing_value setting result machine = missing_by (is_pointer setting.types result) (is_struct_row (row_of setting.types result)) machine

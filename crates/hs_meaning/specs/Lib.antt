@@ -15,6 +15,7 @@ pub mod Pointers
 pub mod Roles
 pub mod Runs
 pub mod Scalars
+pub mod Settings
 pub mod Statements
 pub mod Steps
 pub mod Stops

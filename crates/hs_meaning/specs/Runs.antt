@@ -1,6 +1,6 @@
 -- The run of a program, and when it is safe (X3.159-1989 3.1.2.4, 3.3 and 3.6; the machine is own).
---     work program again job              what a job does: it takes its turn first
---     again_within program fuel           jobs inside one another, down to that depth
+--     work setting functions again job    what a job does: it takes its turn first
+--     again_within setting functions fuel jobs inside one another, down to that depth
 --     Ending                              what a run put out, and how it ended
 --     ran program input schedule turns    the run, as a step
 --     run program input schedule turns    its ending
@@ -15,6 +15,7 @@ use Rattle.hs_meaning.specs.Frames.{opened, closed}
 use Rattle.hs_meaning.specs.Machine.{Machine, Binding, Done, done, stopped}
 use Rattle.hs_meaning.specs.Numbers.{signed}
 use Rattle.hs_meaning.specs.Objects.{starting_machine}
+use Rattle.hs_meaning.specs.Settings.{Setting, setting_of}
 use Rattle.hs_meaning.specs.Statements.{next_turn, body_of, opening_of}
 use Rattle.hs_meaning.specs.Steps.{State, Ran, went, over, Step, ◌>>=◌, ◌>>◌, give, ends, acts, used, turn}
 use Rattle.hs_meaning.specs.Values.{Value}
@@ -36,21 +37,21 @@ abbrev pub closes : List Binding → Machine → Done (Unit {0})
 closes caller machine = done tt (closed caller machine)
 
 -- a function is called: it begins with its parameters, and ends with what it returned
-abbrev pub called : TypedProgram → (Job → Step Flow) → Pos → List Value → Option TypedFunction → Step Flow
-called program again at values None = ends (Stopped stop.BadPointer at)
-called program again at values (Some function) =
-    acts at own_locals >>= (λ caller. acts at (opened program function values)
-    >> (body_of program again function >>= (λ flow. acts at (closes caller) >> give flow)))
+abbrev pub called : Setting → (Job → Step Flow) → Pos → List Value → Option TypedFunction → Step Flow
+called setting again at values None = ends (Stopped stop.BadPointer at)
+called setting again at values (Some function) =
+    acts at own_locals >>= (λ caller. acts at (opened setting function.parameters function.variables values)
+    >> (body_of setting again function >>= (λ flow. acts at (closes caller) >> give flow)))
 
 -- One loop turn and one call of a defined function are one turn each.
-abbrev pub work : TypedProgram → (Job → Step Flow) → Job → Step Flow
-work program again (turn_of function it) = turn >> next_turn program again function it
-work program again (call_of place values at) = turn >> called program again at values (slice_get program.functions place)
+abbrev pub work : Setting → List TypedFunction → (Job → Step Flow) → Job → Step Flow
+work setting functions again (turn_of function it) = turn >> next_turn setting again function it
+work setting functions again (call_of place values at) = turn >> called setting again at values (slice_get functions place)
 
 -- A job inside a job has one turn less, so the fuel that is one more than the turns is enough. Fuel that ends is a turn that is not there.
-abbrev pub again_within : TypedProgram → ℕ → Job → Step Flow
-again_within program zero job = ends TurnsSpent
-again_within program (suc fuel) job = work program (again_within program fuel) job
+abbrev pub again_within : Setting → List TypedFunction → ℕ → Job → Step Flow
+again_within setting functions zero job = ends TurnsSpent
+again_within setting functions (suc fuel) job = work setting functions (again_within setting functions fuel) job
 
 -- ---- runs
 
@@ -62,19 +63,22 @@ finished breaks = give (pos 0)
 finished continues = give (pos 0)
 
 -- the call of `main`, which takes no turn
-abbrev pub main_called : TypedProgram → (Job → Step Flow) → Option TypedFunction → Step ℤ
-main_called program again None = give (pos 0)
-main_called program again (Some function) =
-    called program again (opening_of function.body) [] (Some function) >>= finished
+abbrev pub main_called : Setting → (Job → Step Flow) → Option TypedFunction → Step ℤ
+main_called setting again None = give (pos 0)
+main_called setting again (Some function) = called setting again (opening_of function.body) [] (Some function) >>= finished
 
 -- before the first step
-abbrev pub starting : TypedProgram → Input → List Decision → ℕ → State
-starting program input schedule turns = record { machine = starting_machine program input; schedule = schedule; turns = turns }
+abbrev pub starting : Setting → Input → List Decision → ℕ → State
+starting setting input schedule turns = record { machine = starting_machine setting input; schedule = schedule; turns = turns }
 
--- with jobs down to that depth
+-- the run of functions in a setting, with jobs down to that depth
+abbrev pub ran_in : Setting → List TypedFunction → ℕ → ℕ → Input → List Decision → ℕ → Ran ℤ
+ran_in setting functions main fuel input schedule turns =
+    main_called setting (again_within setting functions fuel) (slice_get functions main) (starting setting input schedule turns)
+
+-- of a program
 abbrev pub ran_within : ℕ → TypedProgram → Input → List Decision → ℕ → Ran ℤ
-ran_within fuel program input schedule turns =
-    main_called program (again_within program fuel) (slice_get program.functions program.main) (starting program input schedule turns)
+ran_within fuel program input schedule turns = ran_in (setting_of program) program.functions program.main fuel input schedule turns
 
 abbrev pub ran : TypedProgram → Input → List Decision → ℕ → Ran ℤ
 ran program input schedule turns = ran_within (suc turns) program input schedule turns

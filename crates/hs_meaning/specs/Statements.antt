@@ -9,17 +9,18 @@ use Rattle.std.specs.Prelude.{ℕ, pos, ◌==◌, Bool, true, false, ◌||◌, L
 use Rattle.std.specs.List.{list_any}
 use Rattle.hs_base.specs.declared.pos.Pos.{Pos}
 use Rattle.hs_heap.specs.declared.cell.Pointer.TheVariants.{Nil}
-use Rattle.hs_meaning.specs.Classes.{access_of_type, class_of_type, class_of_scalar}
+use Rattle.hs_meaning.specs.Classes.{class_of_type, class_of_scalar}
 use Rattle.hs_meaning.specs.Evaluation.{Flow, onward, breaks, continues, returned, Job, turn_of, Location, in_slot, at_pointer, value_of, variable_at, written}
 use Rattle.hs_meaning.specs.Frames.{missing_value}
 use Rattle.hs_meaning.specs.Objects.{constant_value}
 use Rattle.hs_meaning.specs.Operations as operation
 use Rattle.hs_meaning.specs.Scalars.{Scalar, scalars_of}
+use Rattle.hs_meaning.specs.Settings.{Setting, access_of_type}
 use Rattle.hs_meaning.specs.Steps.{Step, ◌>>=◌, ◌>>◌, give, either, acts, perform, used, condition}
 use Rattle.hs_meaning.specs.Values.{Value, number, pointer, Access}
 use Rattle.hs_tree.specs.Kinds.{is_pointer}
 use Rattle.hs_tree.specs.Trees as tree
-use Rattle.hs_tree.specs.Trees.{RightValue, Starting, TypedItem, TypedDeclaration, TypedStatement, TypedBlock, TypedStatements, TypedFunction, TypedProgram}
+use Rattle.hs_tree.specs.Trees.{RightValue, Starting, TypedItem, TypedDeclaration, TypedStatement, TypedBlock, TypedStatements, TypedFunction}
 use Rattle.hs_tree.specs.declared.constant.Part.{Part}
 use Rattle.hs_tree.specs.declared.head.Variable.TheVariants as name
 use Rattle.hs_tree.specs.declared.head.VariableDecl.{VariableDecl}
@@ -100,9 +101,9 @@ abbrev pub zero_of : Bool → Value
 zero_of true = pointer Nil
 zero_of false = number 0
 
-abbrev pub scalar_value : TypedProgram → TypeId → Option Part → Value
-scalar_value program id None = zero_of (is_pointer program.types id)
-scalar_value program id (Some part) = constant_value program part.value
+abbrev pub scalar_value : Setting → TypeId → Option Part → Value
+scalar_value setting id None = zero_of (is_pointer setting.types id)
+scalar_value setting id (Some part) = constant_value setting part.value
 
 -- ---- steps
 
@@ -118,17 +119,17 @@ abbrev pub type_in : Option VariableDecl → TypeId
 type_in None = record { number = 0 }
 type_in (Some variable) = variable.type_id
 
-module _ (program : TypedProgram) (again : Job → Step Flow) (function : TypedFunction) where
+module _ (setting : Setting) (again : Job → Step Flow) (function : TypedFunction) where
   -- what a scalar inside an object reaches
   abbrev pub access_of_scalar : Scalar → Access
-  access_of_scalar its = access_of_type program its.type_id (class_of_scalar program its.type_id its.field)
+  access_of_scalar its = access_of_type setting its.type_id (class_of_scalar setting.same setting.taken its.type_id its.field)
 
   -- a scalar gets its constant: it is a slot, or lies inside an object
   abbrev pub scalar_started : Pos → Location → List Part → Scalar → Step Value
-  scalar_started at (in_slot name) parts its = perform program at (operation.set name) (scalar_value program its.type_id (part_at its.offset parts) ∷ [])
+  scalar_started at (in_slot name) parts its = perform setting at (operation.set name) (scalar_value setting its.type_id (part_at its.offset parts) ∷ [])
   scalar_started at (at_pointer front) parts its =
-      perform program at (operation.offset its.offset) (pointer front ∷ []) >>= (λ address.
-      perform program at (operation.store (access_of_scalar its)) (address ∷ scalar_value program its.type_id (part_at its.offset parts) ∷ []))
+      perform setting at (operation.offset its.offset) (pointer front ∷ []) >>= (λ address.
+      perform setting at (operation.store (access_of_scalar its)) (address ∷ scalar_value setting its.type_id (part_at its.offset parts) ∷ []))
 
   -- all of them, in order
   abbrev pub scalars_started : Pos → Location → List Part → List Scalar → Step (Unit {0})
@@ -138,8 +139,8 @@ module _ (program : TypedProgram) (again : Job → Step Flow) (function : TypedF
   -- a value of its type, or constants for its scalars
   abbrev pub value_started : Pos → TypeId → Starting → Location → Step (Unit {0})
   value_started at id (tree.value e) place =
-      value_of program again e >>= (λ value. written program at (access_of_type program id (class_of_type program id)) place value) >> give tt
-  value_started at id (tree.parts its) place = scalars_started at place its (scalars_of program.types id)
+      value_of setting again e >>= (λ value. written setting at (access_of_type setting id (class_of_type setting.same id)) place value) >> give tt
+  value_started at id (tree.parts its) place = scalars_started at place its (scalars_of setting.types id)
 
   abbrev pub started : TypedItem → Step (Unit {0})
   started item =
@@ -159,12 +160,12 @@ module _ (program : TypedProgram) (again : Job → Step Flow) (function : TypedF
   -- an expression that is there, for what it does
   abbrev pub evaluated : Option RightValue → Step (Unit {0})
   evaluated None = give tt
-  evaluated (Some e) = value_of program again e >> give tt
+  evaluated (Some e) = value_of setting again e >> give tt
 
   -- a controlling expression; one that is not there is true
   abbrev pub tested : Pos → Option RightValue → Step Bool
   tested at None = give true
-  tested at (Some e) = value_of program again e >>= condition at
+  tested at (Some e) = value_of setting again e >>= condition at
 
   -- one more turn of the loop, if its condition is true
   abbrev pub turns_if : TypedStatement → Bool → Step Flow
@@ -172,24 +173,24 @@ module _ (program : TypedProgram) (again : Job → Step Flow) (function : TypedF
 
   -- 3.6.6.4: a value of the function's type, or none
   abbrev pub returns : Pos → Option RightValue → Step Flow
-  returns at None = acts at (missing_value program function) >>= (λ value. give (returned value at))
-  returns at (Some e) = value_of program again e >>= (λ value. give (returned value at))
+  returns at None = acts at (missing_value setting function.result) >>= (λ value. give (returned value at))
+  returns at (Some e) = value_of setting again e >>= (λ value. give (returned value at))
 
   abbrev mutual
     pub executed : TypedStatement → Step Flow
     executed (tree.block it) = executed_block it
-    executed (tree.expression at e) = value_of program again e >> give onward
+    executed (tree.expression at e) = value_of setting again e >> give onward
     executed (tree.empty at) = give onward
     executed (tree.if_ at test first) =
-        value_of program again test >>= condition at.pos >>= (λ is. either is (executed first) (give onward))
+        value_of setting again test >>= condition at.pos >>= (λ is. either is (executed first) (give onward))
     executed (tree.if_else at test first second) =
-        value_of program again test >>= condition at.pos >>= (λ is. either is (executed first) (executed second))
-    executed (tree.while_ at test body) = value_of program again test >>= condition at.pos >>= turns_if (tree.while_ at test body)
+        value_of setting again test >>= condition at.pos >>= (λ is. either is (executed first) (executed second))
+    executed (tree.while_ at test body) = value_of setting again test >>= condition at.pos >>= turns_if (tree.while_ at test body)
     executed (tree.do_ at body test) = again (turn_of function (tree.do_ at body test))
     executed (tree.for_ at first test next body) =
         evaluated first >> (tested at.pos test >>= turns_if (tree.for_ at None test next body))
     executed (tree.switch_ at e it) =
-        value_of program again e >>= used at.pos >>= (λ bits. executed_switch bits it) >>= after_switch
+        value_of setting again e >>= used at.pos >>= (λ bits. executed_switch bits it) >>= after_switch
     executed (tree.break_ at) = give breaks
     executed (tree.continue_ at) = give continues
     executed (tree.return_ at e) = returns at.pos e
@@ -213,7 +214,7 @@ module _ (program : TypedProgram) (again : Job → Step Flow) (function : TypedF
   abbrev pub next_turn : TypedStatement → Step Flow
   next_turn (tree.while_ at test body) = executed body >>= after_turn (executed (tree.while_ at test body))
   next_turn (tree.do_ at body test) =
-      executed body >>= after_turn (value_of program again test >>= condition at.pos >>= turns_if (tree.do_ at body test))
+      executed body >>= after_turn (value_of setting again test >>= condition at.pos >>= turns_if (tree.do_ at body test))
   next_turn (tree.for_ at first test next body) =
       executed body >>= after_turn (evaluated next >> executed (tree.for_ at None test next body))
   next_turn (tree.block it) = give onward

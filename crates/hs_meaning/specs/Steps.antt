@@ -3,7 +3,7 @@
 --     Ran A, Step A                  what a step comes to; a step
 --     give it, first >>= next, first >> next      a step that does nothing, and one after the other
 --     ends outcome                   the run ends
---     perform program at operation values         an operation, at a place of the text
+--     perform setting at operation values         an operation, at a place of the text
 --     used at value                  the number of a condition
 --     operands first second          two operands, from the left; arguments are operands too
 --     shifted_by powers              a routine that moves or purges takes the next decision
@@ -16,10 +16,10 @@ use Rattle.hs_heap.specs.declared.decision.Which.TheVariants.{These}
 use Rattle.hs_meaning.specs.Accesses.{by_stop}
 use Rattle.hs_meaning.specs.Machine.{Machine, Done, done, stopped, with_blocks}
 use Rattle.hs_meaning.specs.Operations.{Operation, operate}
+use Rattle.hs_meaning.specs.Settings.{Setting}
 use Rattle.hs_meaning.specs.Values.{Value, bits_in, number_stop}
 use Rattle.hs_meaning.specs.declared.outcome.Outcome.{Outcome}
 use Rattle.hs_meaning.specs.declared.outcome.Outcome.TheVariants.{Finished, Stopped, TurnsSpent}
-use Rattle.hs_tree.specs.Trees.{TypedProgram}
 
 pub record State : Type 0 where
   pub machine : Machine
@@ -73,8 +73,8 @@ abbrev pub acts : {A : Type 0} → Pos → (Machine → Done A) → Step A
 acts at act s = ran_at at s (act s.machine)
 
 -- an operation on values
-abbrev pub perform : TypedProgram → Pos → Operation → List Value → Step Value
-perform program at operation values = acts at (operate program operation values)
+abbrev pub perform : Setting → Pos → Operation → List Value → Step Value
+perform setting at operation values = acts at (operate setting operation values)
 
 -- a value that is used as a number
 abbrev pub number_used : Value → Machine → Done ℕ

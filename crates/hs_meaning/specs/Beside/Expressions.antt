@@ -10,13 +10,14 @@ use Rattle.hs_meaning.specs.Operations.{Operation}
 use Rattle.hs_meaning.specs.Steps.{Step, ◌>>=◌, ◌>>◌, give, either, acts, perform, condition, used, operands}
 use Rattle.hs_meaning.specs.Values.{Value, number, pointer, Access, pointer_in}
 use Rattle.hs_tree.specs.Trees as tree
-use Rattle.hs_tree.specs.Trees.{RightValue, LeftValue, RightValues, TypedProgram}
+use Rattle.hs_meaning.specs.Settings.{Setting}
+use Rattle.hs_tree.specs.Trees.{RightValue, LeftValue, RightValues}
 use Rattle.hs_tree.specs.declared.constant.Base.TheVariants as base
 use Rattle.hs_tree.specs.declared.constant.Constant.TheVariants as constant
 use Rattle.hs_tree.specs.declared.head.Head.{Head}
 use Rattle.hs_tree.specs.declared.operators.Stride.{Stride}
 
-module _ (R : Relation) (program : TypedProgram) (leaves : Leaves R program) where
+module _ (R : Relation) (setting : Setting) (leaves : Leaves R setting) where
   -- ---- operations
 
   one_value : (a b : Value) → R.values a b → Lists R (a ∷ []) (b ∷ [])
@@ -26,11 +27,11 @@ module _ (R : Relation) (program : TypedProgram) (leaves : Leaves R program) whe
   two_values a b a' b' is is' = (is, (is', tt))
 
   pub performed_one : (at : Pos) (its : Operation) (a b : Value) → R.values a b
-      → Follows R R.values (perform program at its (a ∷ [])) (perform program at its (b ∷ []))
+      → Follows R R.values (perform setting at its (a ∷ [])) (perform setting at its (b ∷ []))
   performed_one at its a b is = leaves.performed at its (a ∷ []) (b ∷ []) (one_value a b is)
 
   pub performed_two : (at : Pos) (its : Operation) (a b a' b' : Value) → R.values a b → R.values a' b'
-      → Follows R R.values (perform program at its (a ∷ a' ∷ [])) (perform program at its (b ∷ b' ∷ []))
+      → Follows R R.values (perform setting at its (a ∷ a' ∷ [])) (perform setting at its (b ∷ b' ∷ []))
   performed_two at its a b a' b' is is' = leaves.performed at its (a ∷ a' ∷ []) (b ∷ b' ∷ []) (two_values a b a' b' is is')
 
   pub number_follows : (bits : ℕ) → R.values (number bits) (number bits)
@@ -53,25 +54,25 @@ module _ (R : Relation) (program : TypedProgram) (leaves : Leaves R program) whe
   reached_alike a b is = leaves.pointed a b is
 
   pub read_follows : (at : Pos) (access : Access) (a b : Location) → Locations R a b
-      → Follows R R.values (read program at access a) (read program at access b)
+      → Follows R R.values (read setting at access a) (read setting at access b)
   read_follows at access (in_slot a) (in_slot b) is =
-      Rattle.std.proofs.Common.subst (λ n. Follows R R.values (read program at access (in_slot a)) (read program at access (in_slot n))) is
+      Rattle.std.proofs.Common.subst (λ n. Follows R R.values (read setting at access (in_slot a)) (read setting at access (in_slot n))) is
       (leaves.performed at (operation.get a) [] [] tt)
   read_follows at access (in_slot a) (at_pointer b) is = absurd is
   read_follows at access (at_pointer a) (in_slot b) is = absurd is
   read_follows at access (at_pointer a) (at_pointer b) is = performed_one at (operation.load access) (pointer a) (pointer b) is
 
   pub written_follows : (at : Pos) (access : Access) (a b : Location) (v w : Value) → Locations R a b → R.values v w
-      → Follows R R.values (written program at access a v) (written program at access b w)
+      → Follows R R.values (written setting at access a v) (written setting at access b w)
   written_follows at access (in_slot a) (in_slot b) v w is so =
-      Rattle.std.proofs.Common.subst (λ n. Follows R R.values (written program at access (in_slot a) v) (written program at access (in_slot n) w)) is
+      Rattle.std.proofs.Common.subst (λ n. Follows R R.values (written setting at access (in_slot a) v) (written setting at access (in_slot n) w)) is
       (performed_one at (operation.set a) v w so)
   written_follows at access (in_slot a) (at_pointer b) v w is so = absurd is
   written_follows at access (at_pointer a) (in_slot b) v w is so = absurd is
   written_follows at access (at_pointer a) (at_pointer b) v w is so = performed_two at (operation.store access) (pointer a) (pointer b) v w is so
 
   read_with_follows : (at : Pos) (access : Access) (a b : Location) → Locations R a b
-      → Follows R (Pairs R (Locations R) R.values) (read_with program at access a) (read_with program at access b)
+      → Follows R (Pairs R (Locations R) R.values) (read_with setting at access a) (read_with setting at access b)
   read_with_follows at access a b is = thens (read_follows at access a b is) (λ v w so. gives (is, so))
 
   -- ---- operands
@@ -80,28 +81,28 @@ module _ (R : Relation) (program : TypedProgram) (leaves : Leaves R program) whe
       → Follows R same f f' → Follows R same' g g' → Follows R (Pairs R same same') (operands f g) (operands f' g')
   operands_follow first second = thens first (λ a b is. thens second (λ a' b' is'. gives (is, is')))
 
-  decided_follows : (routine : Option ℕ) → Follows R Units (decided_by (bound_to program routine)) (decided_by (bound_to program routine))
+  decided_follows : (routine : Option ℕ) → Follows R Units (decided_by (bound_to setting routine)) (decided_by (bound_to setting routine))
   decided_follows None = gives tt
   decided_follows (Some place) = leaves.decided place
 
   module _ (again other : Job → Step Flow) (agains : Agains R again other) where
     on_one_follows : (head : Head) (its : Operation) {f f' : Step Value} → Follows R R.values f f'
-        → Follows R R.values (on_one program again head its f) (on_one program other head its f')
+        → Follows R R.values (on_one setting again head its f) (on_one setting other head its f')
     on_one_follows head its first = thens first (λ a b is. performed_one head.at.pos its a b is)
 
     on_two_follows : (head : Head) (its : Operation) {f f' g g' : Step Value} → Follows R R.values f f' → Follows R R.values g g'
-        → Follows R R.values (on_two program again head its f g) (on_two program other head its f' g')
+        → Follows R R.values (on_two setting again head its f g) (on_two setting other head its f' g')
     on_two_follows head its first second =
         thens (operands_follow first second) (λ a b is. performed_two head.at.pos its a.0 b.0 a.1 b.1 is.0 is.1)
 
     updated_follows : (head : Head) (access : Access) (its to : Operation) (a b : Location) (v w x y : Value) → Locations R a b → R.values v w
-        → R.values x y → Follows R R.values (updated program again head access its to a v x) (updated program other head access its to b w y)
+        → R.values x y → Follows R R.values (updated setting again head access its to a v x) (updated setting other head access its to b w y)
     updated_follows head access its to a b v w x y is so by =
         thens (performed_two head.at.pos its v w x y so by) (λ m n sum. thens (performed_one head.at.pos to m n sum)
         (λ m n value. written_follows head.at.pos access a b m n is value))
 
     advanced_follows : (head : Head) (access : Access) (stride : Stride) (a b : Location) (v w x y : Value) → Locations R a b → R.values v w
-        → R.values x y → Follows R R.values (advanced program again head access stride a v x) (advanced program other head access stride b w y)
+        → R.values x y → Follows R R.values (advanced setting again head access stride a v x) (advanced setting other head access stride b w y)
     advanced_follows head access stride a b v w x y is so by =
         thens (performed_two head.at.pos (operation.step stride true) v w x y so by) (λ m n value. written_follows head.at.pos access a b m n is value)
 
@@ -123,7 +124,7 @@ module _ (R : Relation) (program : TypedProgram) (leaves : Leaves R program) whe
     -- ---- expressions
 
     mutual
-      pub value_follows : (e : RightValue) → Follows R R.values (value_of program again e) (value_of program other e)
+      pub value_follows : (e : RightValue) → Follows R R.values (value_of setting again e) (value_of setting other e)
       value_follows (tree.number head bits) = gives (number_follows bits)
       value_follows (tree.nil head) = gives (leaves.constant constant.Nil)
       value_follows (tree.load head object) = thens (location_follows object) (λ a b is. read_follows head.at.pos _ a b is)
@@ -175,7 +176,7 @@ module _ (R : Relation) (program : TypedProgram) (leaves : Leaves R program) whe
       value_follows (tree.call_routine head place arguments) =
           thens (values_follow arguments) (λ a b is. thens (leaves.decided place) (λ m n so. leaves.performed head.at.pos (operation.routine place) a b is))
 
-      pub location_follows : (e : LeftValue) → Follows R (Locations R) (location_of program again e) (location_of program other e)
+      pub location_follows : (e : LeftValue) → Follows R (Locations R) (location_of setting again e) (location_of setting other e)
       location_follows (tree.variable head name) = leaves.variable head.at.pos name
       location_follows (tree.literal head place) = gives (leaves.constant (constant.Address (base.Literal place) (pos 0)))
       location_follows (tree.target head its) = thens (value_follows its) (λ a b is. gives (reached_alike a b is))
@@ -188,10 +189,10 @@ module _ (R : Relation) (program : TypedProgram) (leaves : Leaves R program) whe
       location_follows (tree.arrow head field bytes its) =
           thens (on_one_follows head (operation.offset bytes) (value_follows its)) (λ a b is. gives (reached_alike a b is))
 
-      pub values_follow : (its : RightValues) → Follows R (Lists R) (values_of program again its) (values_of program other its)
+      pub values_follow : (its : RightValues) → Follows R (Lists R) (values_of setting again its) (values_of setting other its)
       values_follow tree.no_values = gives tt
       values_follow (tree.more_values e rest) = thens (operands_follow (value_follows e) (values_follow rest)) (λ a b is. gives (is.0, is.1))
 
-      pub each_follows : (its : RightValues) → Follows R Units (each_of program again its) (each_of program other its)
+      pub each_follows : (its : RightValues) → Follows R Units (each_of setting again its) (each_of setting other its)
       each_follows tree.no_values = gives tt
       each_follows (tree.more_values e rest) = thens (value_follows e) (λ a b is. each_follows rest)

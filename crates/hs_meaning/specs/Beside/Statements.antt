@@ -11,27 +11,28 @@ use Rattle.hs_meaning.specs.Statements.{Entry, from_start, entry_for, begins, af
 use Rattle.hs_meaning.specs.Steps.{Step, ◌>>=◌, ◌>>◌, give, either, acts, perform, used, condition}
 use Rattle.hs_meaning.specs.Values.{Value, number, pointer}
 use Rattle.hs_tree.specs.Trees as tree
-use Rattle.hs_tree.specs.Trees.{RightValue, Starting, TypedItem, TypedDeclaration, TypedStatement, TypedBlock, TypedStatements, TypedFunction, TypedProgram}
+use Rattle.hs_meaning.specs.Settings.{Setting}
+use Rattle.hs_tree.specs.Trees.{RightValue, Starting, TypedItem, TypedDeclaration, TypedStatement, TypedBlock, TypedStatements, TypedFunction}
 use Rattle.hs_tree.specs.declared.constant.Constant.TheVariants as constant
 use Rattle.hs_tree.specs.declared.constant.Part.{Part}
 use Rattle.hs_tree.specs.declared.head.Variable.TheVariants as name
 use Rattle.hs_tree.specs.Kinds.{is_pointer}
 use Rattle.hs_types.specs.declared.row.TypeId.{TypeId}
 
-module _ (R : Relation) (program : TypedProgram) (leaves : Leaves R program) (again other : Job → Step Flow) (agains : Agains R again other)
+module _ (R : Relation) (setting : Setting) (leaves : Leaves R setting) (again other : Job → Step Flow) (agains : Agains R again other)
     (function : TypedFunction) where
   -- ---- ways to go on
 
-  value_of_follows : (e : RightValue) → Follows R R.values (value_of program again e) (value_of program other e)
-  value_of_follows e = expressions.value_follows R program leaves again other agains e
+  value_of_follows : (e : RightValue) → Follows R R.values (value_of setting again e) (value_of setting other e)
+  value_of_follows e = expressions.value_follows R setting leaves again other agains e
 
   condition_of : (at : Pos) (e : RightValue)
-      → Follows R Same (value_of program again e >>= condition at) (value_of program other e >>= condition at)
-  condition_of at e = thens (value_of_follows e) (λ a b is. expressions.condition_follows R program leaves at a b is)
+      → Follows R Same (value_of setting again e >>= condition at) (value_of setting other e >>= condition at)
+  condition_of at e = thens (value_of_follows e) (λ a b is. expressions.condition_follows R setting leaves at a b is)
 
   chosen_by : {A : Type 0} → {same : A → A → Type 0} → {f f' g g' : Step A} → (a b : Bool) → a ≡ b → Follows R same f f'
       → Follows R same g g' → Follows R same (either a f g) (either b f' g')
-  chosen_by a b is first second = expressions.chosen R program leaves a b is first second
+  chosen_by a b is first second = expressions.chosen R setting leaves a b is first second
 
   after_follows : {f f' : Step Flow} → (a b : Flow) → Flows R a b → Follows R (Flows R) f f' → Follows R (Flows R) (after f a) (after f' b)
   after_follows onward onward is next = next
@@ -94,66 +95,66 @@ module _ (R : Relation) (program : TypedProgram) (leaves : Leaves R program) (ag
   zero_follows true = leaves.constant constant.Nil
   zero_follows false = leaves.constant (constant.Number 0)
 
-  scalar_value_follows : (id : TypeId) (part : Option Part) → R.values (scalar_value program id part) (scalar_value program id part)
-  scalar_value_follows id None = zero_follows (is_pointer program.types id)
+  scalar_value_follows : (id : TypeId) (part : Option Part) → R.values (scalar_value setting id part) (scalar_value setting id part)
+  scalar_value_follows id None = zero_follows (is_pointer setting.types id)
   scalar_value_follows id (Some part) = leaves.constant part.value
 
   scalar_follows : (at : Pos) (a b : Location) (parts : List Part) (its : Scalar) → Locations R a b
-      → Follows R R.values (scalar_started program again function at a parts its) (scalar_started program other function at b parts its)
+      → Follows R R.values (scalar_started setting again function at a parts its) (scalar_started setting other function at b parts its)
   scalar_follows at (in_slot a) (in_slot b) parts its is =
-      subst (λ n. Follows R R.values (scalar_started program again function at (in_slot a) parts its)
-      (scalar_started program other function at (in_slot n) parts its)) is
-      (expressions.performed_one R program leaves at (operation.set a) _ _ (scalar_value_follows its.type_id (part_at its.offset parts)))
+      subst (λ n. Follows R R.values (scalar_started setting again function at (in_slot a) parts its)
+      (scalar_started setting other function at (in_slot n) parts its)) is
+      (expressions.performed_one R setting leaves at (operation.set a) _ _ (scalar_value_follows its.type_id (part_at its.offset parts)))
   scalar_follows at (in_slot a) (at_pointer b) parts its is = absurd is
   scalar_follows at (at_pointer a) (in_slot b) parts its is = absurd is
   scalar_follows at (at_pointer a) (at_pointer b) parts its is =
-      thens (expressions.performed_one R program leaves at (operation.offset its.offset) (pointer a) (pointer b) is)
-      (λ v w so. expressions.performed_two R program leaves at (operation.store (access_of_scalar program again function its)) v w _ _ so
+      thens (expressions.performed_one R setting leaves at (operation.offset its.offset) (pointer a) (pointer b) is)
+      (λ v w so. expressions.performed_two R setting leaves at (operation.store (access_of_scalar setting again function its)) v w _ _ so
       (scalar_value_follows its.type_id (part_at its.offset parts)))
 
   scalars_follow : (at : Pos) (a b : Location) (parts : List Part) (all : List Scalar) → Locations R a b
-      → Follows R Units (scalars_started program again function at a parts all) (scalars_started program other function at b parts all)
+      → Follows R Units (scalars_started setting again function at a parts all) (scalars_started setting other function at b parts all)
   scalars_follow at a b parts [] is = gives tt
   scalars_follow at a b parts (its ∷ rest) is = thens (scalar_follows at a b parts its is) (λ v w so. scalars_follow at a b parts rest is)
 
   value_started_follows : (at : Pos) (id : TypeId) (start : Starting) (a b : Location) → Locations R a b
-      → Follows R Units (value_started program again function at id start a) (value_started program other function at id start b)
+      → Follows R Units (value_started setting again function at id start a) (value_started setting other function at id start b)
   value_started_follows at id (tree.value e) a b is =
-      thens (thens (value_of_follows e) (λ v w so. expressions.written_follows R program leaves at _ a b v w is so)) (λ v w so. gives tt)
-  value_started_follows at id (tree.parts its) a b is = scalars_follow at a b its (scalars_of program.types id) is
+      thens (thens (value_of_follows e) (λ v w so. expressions.written_follows R setting leaves at _ a b v w is so)) (λ v w so. gives tt)
+  value_started_follows at id (tree.parts its) a b is = scalars_follow at a b its (scalars_of setting.types id) is
 
-  items_follow : (items : List TypedItem) → Follows R Units (items_started program again function items) (items_started program other function items)
+  items_follow : (items : List TypedItem) → Follows R Units (items_started setting again function items) (items_started setting other function items)
   items_follow [] = gives tt
   items_follow (item ∷ items) =
       thens (thens (leaves.variable item.at.pos (name.Local item.variable)) (λ a b is. value_started_follows item.at.pos _ item.start a b is))
       (λ m n so. items_follow items)
 
   declarations_follow : (all : List TypedDeclaration)
-      → Follows R Units (declarations_started program again function all) (declarations_started program other function all)
+      → Follows R Units (declarations_started setting again function all) (declarations_started setting other function all)
   declarations_follow [] = gives tt
   declarations_follow (it ∷ rest) = thens (items_follow it.items) (λ m n so. declarations_follow rest)
 
   -- ---- statements
 
-  evaluated_follows : (e : Option RightValue) → Follows R Units (evaluated program again function e) (evaluated program other function e)
+  evaluated_follows : (e : Option RightValue) → Follows R Units (evaluated setting again function e) (evaluated setting other function e)
   evaluated_follows None = gives tt
   evaluated_follows (Some e) = thens (value_of_follows e) (λ a b is. gives tt)
 
-  tested_follows : (at : Pos) (e : Option RightValue) → Follows R Same (tested program again function at e) (tested program other function at e)
+  tested_follows : (at : Pos) (e : Option RightValue) → Follows R Same (tested setting again function at e) (tested setting other function at e)
   tested_follows at None = gives refl
   tested_follows at (Some e) = condition_of at e
 
   turns_follow : (it : TypedStatement) (a b : Bool) → a ≡ b
-      → Follows R (Flows R) (turns_if program again function it a) (turns_if program other function it b)
+      → Follows R (Flows R) (turns_if setting again function it a) (turns_if setting other function it b)
   turns_follow it a b is = chosen_by a b is (agains.turns function it) (gives tt)
 
   returns_follow : (at : Pos) (e : Option RightValue)
-      → Follows R (Flows R) (returns program again function at e) (returns program other function at e)
-  returns_follow at None = thens (leaves.missing at function) (λ a b is. gives (is, refl))
+      → Follows R (Flows R) (returns setting again function at e) (returns setting other function at e)
+  returns_follow at None = thens (leaves.missing at function.result) (λ a b is. gives (is, refl))
   returns_follow at (Some e) = thens (value_of_follows e) (λ a b is. gives (is, refl))
 
   mutual
-    pub executed_follows : (it : TypedStatement) → Follows R (Flows R) (executed program again function it) (executed program other function it)
+    pub executed_follows : (it : TypedStatement) → Follows R (Flows R) (executed setting again function it) (executed setting other function it)
     executed_follows (tree.block it) = block_follows it
     executed_follows (tree.expression at e) = thens (value_of_follows e) (λ a b is. gives tt)
     executed_follows (tree.empty at) = gives tt
@@ -166,29 +167,29 @@ module _ (R : Relation) (program : TypedProgram) (leaves : Leaves R program) (ag
         thens (evaluated_follows first) (λ m n so. thens (tested_follows at.pos test) (λ a b is. turns_follow (tree.for_ at None test next body) a b is))
     executed_follows (tree.switch_ at e it) =
         thens (thens (thens (value_of_follows e) (λ a b is. leaves.used_as at.pos a b is))
-        (λ a b is. subst (λ n. Follows R (Flows R) (executed_switch program again function a it) (executed_switch program other function n it)) is
+        (λ a b is. subst (λ n. Follows R (Flows R) (executed_switch setting again function a it) (executed_switch setting other function n it)) is
         (switch_follows a it))) (λ a b is. after_switch_follows a b is)
     executed_follows (tree.break_ at) = gives tt
     executed_follows (tree.continue_ at) = gives tt
     executed_follows (tree.return_ at e) = returns_follow at.pos e
 
-    pub block_follows : (it : TypedBlock) → Follows R (Flows R) (executed_block program again function it) (executed_block program other function it)
+    pub block_follows : (it : TypedBlock) → Follows R (Flows R) (executed_block setting again function it) (executed_block setting other function it)
     block_follows (tree.compound opening declarations list closing) =
         thens (declarations_follow declarations) (λ m n so. all_follow from_start list)
 
     switch_follows : (bits : ℕ) (it : TypedBlock)
-        → Follows R (Flows R) (executed_switch program again function bits it) (executed_switch program other function bits it)
+        → Follows R (Flows R) (executed_switch setting again function bits it) (executed_switch setting other function bits it)
     switch_follows bits (tree.compound opening declarations list closing) = all_follow (entry_for bits list) list
 
     all_follow : (entry : Entry) (all : TypedStatements)
-        → Follows R (Flows R) (executed_all program again function entry all) (executed_all program other function entry all)
+        → Follows R (Flows R) (executed_all setting again function entry all) (executed_all setting other function entry all)
     all_follow entry tree.no_statements = gives tt
     all_follow entry (tree.more_statements labels it rest) =
         eithers (begins entry labels) (thens (executed_follows it) (λ a b is. after_follows a b is (all_follow from_start rest))) (all_follow entry rest)
 
   -- ---- loops and functions
 
-  pub next_turn_follows : (it : TypedStatement) → Follows R (Flows R) (next_turn program again function it) (next_turn program other function it)
+  pub next_turn_follows : (it : TypedStatement) → Follows R (Flows R) (next_turn setting again function it) (next_turn setting other function it)
   next_turn_follows (tree.while_ at test body) =
       thens (executed_follows body) (λ a b is. after_turn_follows a b is (executed_follows (tree.while_ at test body)))
   next_turn_follows (tree.do_ at body test) =
@@ -207,7 +208,7 @@ module _ (R : Relation) (program : TypedProgram) (leaves : Leaves R program) (ag
   next_turn_follows (tree.continue_ at) = gives tt
   next_turn_follows (tree.return_ at e) = gives tt
 
-  ended_follows : (at : Pos) (a b : Flow) → Flows R a b → Follows R (Flows R) (ended_at program again function at a) (ended_at program other function at b)
+  ended_follows : (at : Pos) (a b : Flow) → Flows R a b → Follows R (Flows R) (ended_at setting again function at a) (ended_at setting other function at b)
   ended_follows at onward onward is = returns_follow at None
   ended_follows at onward breaks is = absurd is
   ended_follows at onward continues is = absurd is
@@ -225,5 +226,5 @@ module _ (R : Relation) (program : TypedProgram) (leaves : Leaves R program) (ag
   ended_follows at (returned v place) continues is = absurd is
   ended_follows at (returned v place) (returned w place') is = gives is
 
-  pub body_follows : Follows R (Flows R) (body_of program again function) (body_of program other function)
+  pub body_follows : Follows R (Flows R) (body_of setting again function) (body_of setting other function)
   body_follows = thens (block_follows function.body) (λ a b is. ended_follows (closing_of function.body) a b is)

@@ -8,10 +8,11 @@ use Rattle.hs_meaning.specs.Beside.{Relation, Alike, Follows, gives, Units, Same
 use Rattle.hs_meaning.specs.Beside.Calls as calls
 use Rattle.hs_meaning.specs.Beside.Statements as statements
 use Rattle.hs_meaning.specs.Evaluation.{Flow, Job, turn_of, call_of, decided_by, powers_of}
-use Rattle.hs_meaning.specs.Laws.Paces.{Pace, at_pace, PaceLeaves, leaves_at}
+use Rattle.hs_meaning.specs.Laws.Paces.{Pace, at_pace, leaves_at}
 use Rattle.hs_meaning.specs.Machine.{Machine, Done, done, stopped}
 use Rattle.hs_meaning.specs.Runs.{work, called, again_within, starting, ran_within}
 use Rattle.hs_meaning.specs.Statements.{next_turn}
+use Rattle.hs_meaning.specs.Settings.{Setting, setting_of}
 use Rattle.hs_meaning.specs.Steps.{State, Ran, went, over, Step, then_with, either, decided, shifted_by, acts, ran_at, turn_from}
 use Rattle.hs_meaning.specs.Values.{Value}
 use Rattle.hs_meaning.specs.declared.input.Input.{Input}
@@ -67,12 +68,12 @@ module _ (most : ℕ) where
       chosen Rattle.std.specs.Prelude.true = from_one (λ s bound. (tt, (refl, bound)))
       chosen Rattle.std.specs.Prelude.false = from_one (λ s bound. (tt, (refl, bound)))
 
-  leaves : (program : TypedProgram) → Leaves R program
-  leaves program =
-      leaves_at (Bounded most) program
+  leaves : (setting : Setting) → Leaves R setting
+  leaves setting =
+      leaves_at (Bounded most) setting
       (record {
         acts_alike = λ {A = A} at act. from_one (λ s bound. done_alike at s (act s.machine) bound);
-        decides = λ place. decided_alike (slice_get program.routines place);
+        decides = λ place. decided_alike (slice_get setting.routines place);
       })
 
 -- a job with its turn, if what follows the turn is so with one turn less
@@ -88,39 +89,39 @@ worked (suc most) f g after s (suc left) bound =
     fewer : left ≤ most
     fewer = omega (arith, bound)
 
-module _ (program : TypedProgram) where
+module _ (setting : Setting) (functions : List TypedFunction) where
   next_alike : (fewer : ℕ) (again other : Job → Step Flow) → Agains (at_pace (Bounded fewer)) again other → (function : TypedFunction)
-      (it : TypedStatement) → Follows (at_pace (Bounded fewer)) (Flows (at_pace (Bounded fewer))) (next_turn program again function it)
-      (next_turn program other function it)
+      (it : TypedStatement) → Follows (at_pace (Bounded fewer)) (Flows (at_pace (Bounded fewer))) (next_turn setting again function it)
+      (next_turn setting other function it)
   next_alike fewer again other inner function it =
-      statements.next_turn_follows (at_pace (Bounded fewer)) program (leaves fewer program) again other inner function it
+      statements.next_turn_follows (at_pace (Bounded fewer)) setting (leaves fewer setting) again other inner function it
 
   call_alike : (fewer : ℕ) (again other : Job → Step Flow) → Agains (at_pace (Bounded fewer)) again other → (place : ℕ) (at : Pos)
       (a b : List Value) → Lists (at_pace (Bounded fewer)) a b → Follows (at_pace (Bounded fewer)) (Flows (at_pace (Bounded fewer)))
-      (called program again at a (slice_get program.functions place)) (called program other at b (slice_get program.functions place))
+      (called setting again at a (slice_get functions place)) (called setting other at b (slice_get functions place))
   call_alike fewer again other inner place at a b is =
-      calls.called_follows (at_pace (Bounded fewer)) program (leaves fewer program) again other inner at a b (slice_get program.functions place) is
+      calls.called_follows (at_pace (Bounded fewer)) setting (leaves fewer setting) again other inner at a b (slice_get functions place) is
 
   -- jobs whose turn is one of so many, if what follows the turn is so with one turn less
   jobs_alike : (most : ℕ) (again other : Job → Step Flow)
-      → ((fewer : ℕ) → most ≡ suc fewer → Agains (at_pace (Bounded fewer)) again other) → Agains (at_pace (Bounded most)) (work program again) (work program other)
+      → ((fewer : ℕ) → most ≡ suc fewer → Agains (at_pace (Bounded fewer)) again other) → Agains (at_pace (Bounded most)) (work setting functions again) (work setting functions other)
   jobs_alike most again other inner =
       record {
-        turns = λ function it. from_one most (λ s bound. worked most (next_turn program again function it) (next_turn program other function it)
+        turns = λ function it. from_one most (λ s bound. worked most (next_turn setting again function it) (next_turn setting other function it)
             (λ fewer is. next_alike fewer again other (inner fewer is) function it) s s.turns bound);
-        calls = λ place at a b is. from_one most (λ s bound. worked most (called program again at a (slice_get program.functions place))
-            (called program other at b (slice_get program.functions place)) (λ fewer same. call_alike fewer again other (inner fewer same) place at a b is)
+        calls = λ place at a b is. from_one most (λ s bound. worked most (called setting again at a (slice_get functions place))
+            (called setting other at b (slice_get functions place)) (λ fewer same. call_alike fewer again other (inner fewer same) place at a b is)
             s s.turns bound);
       }
 
   -- with fuel for so many turns and one, and with more
   pub enough_again : (most fuel : ℕ) → most ≤ fuel
-      → Agains (at_pace (Bounded most)) (work program (again_within program most)) (work program (again_within program fuel))
-  enough_again zero fuel enough = jobs_alike zero (again_within program zero) (again_within program fuel) (λ fewer is. absurd cc)
+      → Agains (at_pace (Bounded most)) (again_within setting functions (suc most)) (again_within setting functions (suc fuel))
+  enough_again zero fuel enough = jobs_alike zero (again_within setting functions zero) (again_within setting functions fuel) (λ fewer is. absurd cc)
   enough_again (suc most) zero enough = absurd (omega (arith, enough))
   enough_again (suc most) (suc fuel) enough =
-      jobs_alike (suc most) (again_within program (suc most)) (again_within program (suc fuel))
-      (λ fewer is. subst (λ n. Agains (at_pace (Bounded n)) (again_within program (suc most)) (again_within program (suc fuel))) (less fewer is)
+      jobs_alike (suc most) (again_within setting functions (suc most)) (again_within setting functions (suc fuel))
+      (λ fewer is. subst (λ n. Agains (at_pace (Bounded n)) (again_within setting functions (suc most)) (again_within setting functions (suc fuel))) (less fewer is)
       (enough_again most fuel within))
     where
       within : most ≤ fuel
@@ -129,19 +130,21 @@ module _ (program : TypedProgram) where
       less : (fewer : ℕ) → suc most ≡ suc fewer → most ≡ fewer
       less fewer is = omega (arith, is)
 
-  one_run : (most : ℕ) (r r' : Ran ℤ) → Alike (at_pace (Bounded most)) Same r r' → r' ≡ r
-  one_run most (went a s) (went b t) is = ap (λ x. went b x) is.1.0 ∙ ap (λ x. went x s) (sym is.0)
-  one_run most (went a s) (over outcome t) is = absurd is
-  one_run most (over outcome s) r is = is
+-- two runs that come to the same
+one_run : (most : ℕ) (r r' : Ran ℤ) → Alike (at_pace (Bounded most)) Same r r' → r' ≡ r
+one_run most (went a s) (went b t) is = ap (λ x. went b x) is.1.0 ∙ ap (λ x. went x s) (sym is.0)
+one_run most (went a s) (over outcome t) is = absurd is
+one_run most (over outcome s) r is = is
 
-  -- more fuel than one for each turn, and one, changes nothing
-  pub enough_fuel : (input : Input) (schedule : List Decision) (turns fuel : ℕ) → turns ≤ fuel
-      → ran_within (suc fuel) program input schedule turns ≡ ran_within (suc turns) program input schedule turns
-  enough_fuel input schedule turns fuel enough =
-      one_run turns (ran_within (suc turns) program input schedule turns) (ran_within (suc fuel) program input schedule turns)
-      ((calls.main_follows (at_pace (Bounded turns)) program (leaves turns program) (work program (again_within program turns))
-      (work program (again_within program fuel)) (enough_again turns fuel enough) (slice_get program.functions program.main)).go
-      (starting program input schedule turns) (starting program input schedule turns) (refl, itself turns))
-    where
-      itself : (n : ℕ) → n ≤ n
-      itself n = omega arith
+-- more fuel than one for each turn, and one, changes nothing
+pub enough_fuel : (program : TypedProgram) (input : Input) (schedule : List Decision) (turns fuel : ℕ) → turns ≤ fuel
+    → ran_within (suc fuel) program input schedule turns ≡ ran_within (suc turns) program input schedule turns
+enough_fuel program input schedule turns fuel enough =
+    one_run turns (ran_within (suc turns) program input schedule turns) (ran_within (suc fuel) program input schedule turns)
+    ((calls.main_follows (at_pace (Bounded turns)) (setting_of program) (leaves turns (setting_of program))
+    (again_within (setting_of program) program.functions (suc turns)) (again_within (setting_of program) program.functions (suc fuel))
+    (enough_again (setting_of program) program.functions turns fuel enough) (slice_get program.functions program.main)).go
+    (starting (setting_of program) input schedule turns) (starting (setting_of program) input schedule turns) (refl, itself turns))
+  where
+    itself : (n : ℕ) → n ≤ n
+    itself n = omega arith

@@ -1,8 +1,8 @@
 -- Runs that go through the same machines, and differ in their schedules and turns alone.
 --     Pace                       which states go through one machine, and how they end
 --     at_pace pace               the relation: values and variables are equal
---     PaceLeaves pace program    what is asked of what the machine does, and of decisions
---     leaves_at pace program its     that is all that is asked
+--     PaceLeaves pace setting    what is asked of what the machine does, and of decisions
+--     leaves_at pace setting its     that is all that is asked
 use Rattle.std.proofs.Common.{◌≡◌, ℕ, List, [], ◌∷◌, slice_get, refl, ap, ◌∙◌, subst}
 use Rattle.hs_base.specs.declared.pos.Pos.{Pos}
 use Rattle.hs_meaning.specs.Beside.{Relation, Follows, Units, Same, Lists, Locations, Flows, Leaves}
@@ -16,7 +16,7 @@ use Rattle.hs_meaning.specs.Values.{Value, pointer, pointer_in}
 use Rattle.hs_meaning.specs.declared.outcome.Outcome.{Outcome}
 use Rattle.hs_meaning.specs.declared.outcome.Outcome.TheVariants.{Stopped}
 use Rattle.hs_meaning.specs.declared.outcome.Stop.TheVariants as stop
-use Rattle.hs_tree.specs.Trees.{TypedProgram}
+use Rattle.hs_meaning.specs.Settings.{Setting}
 
 pub record Pace : Type 1 where
   pub states : State → State → Type 0
@@ -34,10 +34,10 @@ at_pace pace =
       ended_then = λ outcome s r next is. pace.ended_then outcome s r next is;
     }
 
-pub record PaceLeaves (pace : Pace) (program : TypedProgram) : Type 1 where
+pub record PaceLeaves (pace : Pace) (setting : Setting) : Type 1 where
   pub acts_alike : {A : Type 0} → (at : Pos) (act : Machine → Done A) → Follows (at_pace pace) Same (acts at act) (acts at act)
   pub decides : (place : ℕ)
-      → Follows (at_pace pace) Units (decided_by (slice_get program.routines place)) (decided_by (slice_get program.routines place))
+      → Follows (at_pace pace) Units (decided_by (slice_get setting.routines place)) (decided_by (slice_get setting.routines place))
 
 module _ (pace : Pace) where
   abbrev R : Relation
@@ -94,22 +94,22 @@ module _ (pace : Pace) where
       → Follows R same (step a) (step b)
   by_equal {same = same} step a b is follows = subst (λ x. Follows R same (step a) (step x)) is follows
 
-  pub leaves_at : (program : TypedProgram) → PaceLeaves pace program → Leaves R program
-  leaves_at program its =
+  pub leaves_at : (setting : Setting) → PaceLeaves pace setting → Leaves R setting
+  leaves_at setting its =
       record {
         constant = λ c. refl;
         pointed = λ a b is. ap (λ v. pointer (pointer_in v)) is;
-        performed = λ at op a b is. by_equal (λ vs. perform program at op vs) a b (lists_same a b is) (its.acts_alike at (operate program op a));
+        performed = λ at op a b is. by_equal (λ vs. perform setting at op vs) a b (lists_same a b is) (its.acts_alike at (operate setting op a));
         used_as = λ at a b is. by_equal (λ v. used at v) a b is (its.acts_alike at (number_used a));
         variable = λ at name. follows_wider locations_of (its.acts_alike at (variable_at name));
         address = λ at a b is. by_equal (λ l. acts at (address_of l)) a b (locations_same a b is) (its.acts_alike at (address_of a));
         result = λ at a b is. by_equal (λ f. acts at (returned_value f)) a b (flows_same a b is) (its.acts_alike at (returned_value a));
-        missing = λ at function. its.acts_alike at (missing_value program function);
+        missing = λ at id. its.acts_alike at (missing_value setting id);
         decided = its.decides;
         owned = λ at. its.acts_alike at own_locals;
-        opens = λ at function a b is.
-            by_equal (λ vs. acts at (opened program function vs)) a b (lists_same a b is)
-            (follows_wider (λ m n same. tt) (its.acts_alike at (opened program function a)));
+        opens = λ at parameters variables a b is.
+            by_equal (λ vs. acts at (opened setting parameters variables vs)) a b (lists_same a b is)
+            (follows_wider (λ m n same. tt) (its.acts_alike at (opened setting parameters variables a)));
         closes_to = λ at a b is. by_equal (λ c. acts at (closes c)) a b is (follows_wider (λ m n same. tt) (its.acts_alike at (closes a)));
         uncalled = λ at. record { go = λ s t corresponds. (its.acts_alike {A = Flow} at (λ machine. stopped stop.BadPointer machine)).go s t corresponds };
       }

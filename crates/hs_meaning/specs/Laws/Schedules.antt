@@ -10,15 +10,14 @@ use Rattle.hs_heap.specs.Blocks.{Block}
 use Rattle.hs_heap.specs.Shift.{Powers, shift, shift_from, shifted}
 use Rattle.hs_heap.specs.declared.decision.Decision.{Decision}
 use Rattle.hs_heap.specs.declared.decision.Which.TheVariants.{These}
-use Rattle.hs_meaning.specs.Beside.{Relation, Alike, Follows, gives, thens, Units, Same, Lists, Flows, Leaves, Agains}
+use Rattle.hs_meaning.specs.Beside.{Relation, Alike, Follows, gives, thens, Units, Same, Leaves}
 use Rattle.hs_meaning.specs.Beside.Calls as calls
-use Rattle.hs_meaning.specs.Beside.Statements as statements
-use Rattle.hs_meaning.specs.Evaluation.{Flow, Job, decided_by, powers_of}
-use Rattle.hs_meaning.specs.Laws.Paces.{Pace, at_pace, PaceLeaves, leaves_at}
+use Rattle.hs_meaning.specs.Evaluation.{decided_by, powers_of}
+use Rattle.hs_meaning.specs.Laws.Paces.{Pace, at_pace, leaves_at}
 use Rattle.hs_meaning.specs.Machine.{Machine, Done, done, stopped, with_blocks}
-use Rattle.hs_meaning.specs.Runs.{again_within, starting, ran_within, run, still_run, ending_of}
+use Rattle.hs_meaning.specs.Runs.{starting, ran_within, run, still_run, ending_of}
+use Rattle.hs_meaning.specs.Settings.{Setting, setting_of}
 use Rattle.hs_meaning.specs.Steps.{State, Ran, went, over, Step, then_with, either, decided, next_decision, later_decisions, after_decision, acts, ran_at, turn, turn_from}
-use Rattle.hs_meaning.specs.Values.{Value}
 use Rattle.hs_meaning.specs.declared.input.Input.{Input}
 use Rattle.hs_meaning.specs.declared.outcome.Outcome.{Outcome}
 use Rattle.hs_tree.specs.Trees.{TypedProgram}
@@ -60,9 +59,9 @@ module _ (P : List Decision → List Decision → Type 0) (program : TypedProgra
   done_alike at s t its other is turns planned =
       subst (λ x. Alike R Same (ran_at at s its) (ran_at at t x)) is (one_alike at s t its turns planned)
 
-  leaves : Leaves R program
+  leaves : Leaves R (setting_of program)
   leaves =
-      leaves_at (Unscheduled P) program
+      leaves_at (Unscheduled P) (setting_of program)
       (record {
         acts_alike = λ {A = A} at act. record { go = λ s t is. done_alike at s t (act s.machine) (act t.machine) (ap act is.0) is.1 is.2 };
         decides = decides;
@@ -81,18 +80,6 @@ module _ (P : List Decision → List Decision → Type 0) (program : TypedProgra
   turn_alike : Follows R Units turn turn
   turn_alike = record { go = λ s t is. turns_alike s t s.turns t.turns is.1 is.0 is.2 }
 
-  again_alike : (fuel : ℕ) → Agains R (again_within program fuel) (again_within program fuel)
-  again_alike zero =
-      record { turns = λ function it. record { go = λ s t is. (t, refl, is.0) }; calls = λ place at a b is. record { go = λ s t is. (t, refl, is.0) } }
-  again_alike (suc fuel) =
-      record {
-        turns = λ function it. thens turn_alike (λ m n so.
-            statements.next_turn_follows R program leaves (again_within program fuel) (again_within program fuel) (again_alike fuel) function it);
-        calls = λ place at a b is. thens turn_alike (λ m n so.
-            calls.called_follows R program leaves (again_within program fuel) (again_within program fuel) (again_alike fuel) at a b
-            (slice_get program.functions place) is);
-      }
-
   same_ending : (r r' : Ran ℤ) → Alike R Same r r' → ending_of r ≡ ending_of r'
   same_ending (went a s) (went b t) is =
       ap (λ value. ending_of (went value s)) is.0 ∙ ap (λ m. ending_of (went b (record s { machine = m }))) is.1.0
@@ -104,9 +91,9 @@ module _ (P : List Decision → List Decision → Type 0) (program : TypedProgra
       → run program input schedule turns ≡ run program input other turns
   one_ending input schedule other turns planned =
       same_ending (ran_within (suc turns) program input schedule turns) (ran_within (suc turns) program input other turns)
-      ((calls.main_follows R program leaves (again_within program (suc turns)) (again_within program (suc turns)) (again_alike (suc turns))
-      (slice_get program.functions program.main)).go (starting program input schedule turns) (starting program input other turns)
-      (refl, refl, planned))
+      ((calls.runs_follow R (setting_of program) leaves program.functions turn_alike (record { go = λ s t is. (t, refl, is.0) }) (suc turns)
+      (slice_get program.functions program.main)).go (starting (setting_of program) input schedule turns)
+      (starting (setting_of program) input other turns) (refl, refl, planned))
 
 -- ---- decisions that name nothing
 

@@ -6,20 +6,19 @@ use Rattle.std.proofs.Common.{◌≡◌, ◌≤◌, ℤ, ℕ, zero, suc, ◌+◌
 use Rattle.hs_base.specs.declared.pos.Pos.{Pos}
 use Rattle.hs_heap.specs.Shift.{Powers}
 use Rattle.hs_heap.specs.declared.decision.Decision.{Decision}
-use Rattle.hs_meaning.specs.Beside.{Relation, Alike, Follows, gives, thens, Units, Same, Lists, Flows, Leaves, Agains}
+use Rattle.hs_meaning.specs.Beside.{Relation, Alike, Follows, gives, thens, Units, Same, Leaves}
 use Rattle.hs_meaning.specs.Beside.Calls as calls
-use Rattle.hs_meaning.specs.Beside.Statements as statements
-use Rattle.hs_meaning.specs.Evaluation.{Flow, Job, turn_of, call_of, decided_by, powers_of}
+use Rattle.hs_meaning.specs.Evaluation.{decided_by, powers_of}
 use Rattle.hs_meaning.specs.Laws.Fuel.{enough_fuel}
-use Rattle.hs_meaning.specs.Laws.Paces.{Pace, at_pace, PaceLeaves, leaves_at}
+use Rattle.hs_meaning.specs.Laws.Paces.{Pace, at_pace, leaves_at}
 use Rattle.hs_meaning.specs.Machine.{Machine, Done, done, stopped}
-use Rattle.hs_meaning.specs.Runs.{work, called, again_within, main_called, starting, ran_within, run, Ending, ending_of}
+use Rattle.hs_meaning.specs.Runs.{starting, ran_within, run, Ending, ending_of}
+use Rattle.hs_meaning.specs.Settings.{Setting, setting_of}
 use Rattle.hs_meaning.specs.Steps.{State, Ran, went, over, Step, then_with, either, decided, shifted_by, after_decision, acts, ran_at, turn, turn_from}
-use Rattle.hs_meaning.specs.Values.{Value}
 use Rattle.hs_meaning.specs.declared.input.Input.{Input}
 use Rattle.hs_meaning.specs.declared.outcome.Outcome.{Outcome}
 use Rattle.hs_meaning.specs.declared.outcome.Outcome.TheVariants.{Finished, Stopped, TurnsSpent}
-use Rattle.hs_tree.specs.Trees.{TypedFunction, TypedStatement, TypedProgram}
+use Rattle.hs_tree.specs.Trees.{TypedProgram}
 use Rattle.hs_tree.specs.declared.function.BoundRoutine.{BoundRoutine}
 
 abbrev pub later : ℕ → State → State
@@ -69,15 +68,13 @@ module _ (more : ℕ) where
       shifted : (powers : Powers) → Follows R Units (shifted_by powers) (shifted_by powers)
       shifted powers = chosen powers _
 
-  pace_leaves : (program : TypedProgram) → PaceLeaves (MoreTurns more) program
-  pace_leaves program =
-      record {
+  leaves : (setting : Setting) → Leaves R setting
+  leaves setting =
+      leaves_at (MoreTurns more) setting
+      (record {
         acts_alike = λ {A = A} at act. from_later (λ s. done_alike at s (act s.machine));
-        decides = λ place. decided_alike (slice_get program.routines place);
-      }
-
-  leaves : (program : TypedProgram) → Leaves R program
-  leaves program = leaves_at (MoreTurns more) program (pace_leaves program)
+        decides = λ place. decided_alike (slice_get setting.routines place);
+      })
 
   turns_alike : (s : State) (n : ℕ) → s.turns ≡ n → Alike R Units (turn_from n s) (turn_from (n + more) (later more s))
   turns_alike s zero is = tt
@@ -90,23 +87,12 @@ module _ (more : ℕ) where
   turn_alike : Follows R Units turn turn
   turn_alike = from_later (λ s. turns_alike s s.turns refl)
 
-  again_alike : (program : TypedProgram) (fuel : ℕ) → Agains R (again_within program fuel) (again_within program fuel)
-  again_alike program zero =
-      record { turns = λ function it. record { go = λ s t is. tt }; calls = λ place at a b is. record { go = λ s t is. tt } }
-  again_alike program (suc fuel) =
-      record {
-        turns = λ function it. thens turn_alike (λ m n so.
-            statements.next_turn_follows R program (leaves program) (again_within program fuel) (again_within program fuel) (again_alike program fuel) function it);
-        calls = λ place at a b is. thens turn_alike (λ m n so.
-            calls.called_follows R program (leaves program) (again_within program fuel) (again_within program fuel) (again_alike program fuel) at a b
-            (slice_get program.functions place) is);
-      }
-
   pub alike_with_more_turns : (program : TypedProgram) (input : Input) (schedule : List Decision) (fuel turns : ℕ)
       → Alike R Same (ran_within fuel program input schedule turns) (ran_within fuel program input schedule (turns + more))
   alike_with_more_turns program input schedule fuel turns =
-      (calls.main_follows R program (leaves program) (again_within program fuel) (again_within program fuel) (again_alike program fuel)
-      (slice_get program.functions program.main)).go (starting program input schedule turns) (starting program input schedule (turns + more)) refl
+      (calls.runs_follow R (setting_of program) (leaves (setting_of program)) program.functions turn_alike (record { go = λ s t is. tt }) fuel
+      (slice_get program.functions program.main)).go (starting (setting_of program) input schedule turns)
+      (starting (setting_of program) input schedule (turns + more)) refl
 
 -- ---- the law
 
