@@ -2,6 +2,19 @@
 --     IsUnmoved its, AreUnmoved cells       a pointer, a value, cells
 --     IsStillMachine machine                the whole machine
 --     IsStillDone fact its                  what an operation comes to: it keeps the machine so, and is no misuse
+pub mod Accesses
+pub mod Blocks
+pub mod Evaluation
+pub mod Fine
+pub mod Frames
+pub mod Handles
+pub mod Lists
+pub mod Operations
+pub mod Plain
+pub mod Pointers
+pub mod Roles
+pub mod Starts
+pub mod Values
 use Rattle.std.proofs.Common.{◌≡◌, ℕ, Bool, true, false, List, [], ◌∷◌, Option, Some, None}
 use Rattle.std.specs.List.{AllByRecursion}
 use Rattle.hs_heap.specs.Blocks.{Block}
