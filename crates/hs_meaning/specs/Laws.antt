@@ -4,5 +4,6 @@ pub mod Handles
 pub mod Paces
 pub mod Schedules
 pub mod Shifts
+pub mod Still
 pub mod Turns
 pub mod Unmoved
