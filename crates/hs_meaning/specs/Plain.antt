@@ -213,7 +213,7 @@ result_of types size id machine = result_by types size (number_kind types id) (p
 
 -- ---- the routine
 
--- a stop leaves the machine as it was; otherwise what follows
+-- a stop leaves that machine; otherwise what follows
 abbrev pub then_unless : {A : Type 0} → Option Stop → Machine → Done A → Done A
 then_unless None machine rest = rest
 then_unless (Some why) machine rest = stopped why machine

@@ -100,11 +100,17 @@ run program input schedule turns = ending_of (ran program input schedule turns)
 abbrev pub still_run : TypedProgram → Input → ℕ → Ending
 still_run program input turns = run program input [] turns
 
--- the run stopped at a use of a stale pointer or of a purged handle
+-- a use of a stale pointer or of a purged handle
+abbrev pub IsMisuseStop : Stop → Type 0
+IsMisuseStop stop.Stale = Unit {0}
+IsMisuseStop stop.Purged = Unit {0}
+IsMisuseStop _ = ⊥
+
+-- the run stopped at one
 abbrev pub IsMisuse : Outcome → Type 0
-IsMisuse (Stopped stop.Stale at) = Unit {0}
-IsMisuse (Stopped stop.Purged at) = Unit {0}
-IsMisuse _ = ⊥
+IsMisuse (Finished value) = ⊥
+IsMisuse (Stopped why at) = IsMisuseStop why
+IsMisuse TurnsSpent = ⊥
 
 -- for every input, every schedule and every number of turns
 abbrev pub IsSafe : TypedProgram → Type 0

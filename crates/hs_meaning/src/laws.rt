@@ -6,9 +6,9 @@ ghost use Rattle.hs_heap.specs.ShiftLaws.{NameAlike};
 ghost use Rattle.hs_heap.specs.declared.cell.Pointer.TheVariants.{Handle};
 ghost use Rattle.hs_heap.specs.declared.decision.Decision.{Decision};
 ghost use Rattle.hs_meaning.specs.Accesses.{loaded, stored};
-ghost use Rattle.hs_meaning.specs.Laws.Schedules.{AreStill};
+ghost use Rattle.hs_meaning.specs.Laws.Schedules.{AreStill, HasNoMovers};
 ghost use Rattle.hs_meaning.specs.Machine.{Machine, stopped};
-ghost use Rattle.hs_meaning.specs.Runs.{ran_within, run, still_run};
+ghost use Rattle.hs_meaning.specs.Runs.{IsMisuse, IsSafe, ran_within, run, still_run};
 ghost use Rattle.hs_meaning.specs.Steps.{State, after_decision, next_decision};
 ghost use Rattle.hs_meaning.specs.Values.{Access, Value, of_number, of_struct, store_stop};
 ghost use Rattle.hs_meaning.specs.declared.input.Input.{Input};
@@ -53,4 +53,14 @@ pub fn handles_are_read_as_pointers_alone()
     ensures no_struct { (size block : ℕ) (machine : Machine) → loaded (of_struct size) (Handle block) machine ≡ stopped BadLoad machine }
     ensures no_store { (access : Access) (block : ℕ) (value : Value) (machine : Machine) → store_stop access value ≡ None
         → stored access (Handle block) value machine ≡ stopped BadLoad machine }
+{}
+
+/// A run on the heap that never moves stops at no stale pointer and at no purged handle, whatever the program does.
+pub fn still_runs_are_no_misuse()
+    ensures { (program : TypedProgram) (input : Input) (turns : ℕ) → ¬ (IsMisuse (still_run program input turns).outcome) }
+{}
+
+/// A program without a routine that moves or purges is safe: no schedule changes its runs.
+pub fn programs_without_movers_are_safe()
+    ensures { (program : TypedProgram) → HasNoMovers program → IsSafe program }
 {}

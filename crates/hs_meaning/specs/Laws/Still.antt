@@ -12,7 +12,7 @@ use Rattle.hs_meaning.specs.Beside.Statements as statements
 use Rattle.hs_meaning.specs.Evaluation.{Flow, onward, breaks, continues, returned, Location, in_slot, at_pointer, variable_at, address_of, decided_by, powers_of, returned_value}
 use Rattle.hs_meaning.specs.Frames.{missing_value, opened}
 use Rattle.hs_meaning.specs.Laws.Schedules.{AreStill, decision_stays, HasNoMovers, movers_alone_see_schedules}
-use Rattle.hs_meaning.specs.Laws.Unmoved.{IsUnmoved, IsStillMachine, IsMisuseStop, IsStillDone, IsUnmovedLocation, IsUnmovedFlow}
+use Rattle.hs_meaning.specs.Laws.Unmoved.{IsUnmoved, IsStillMachine, IsStillDone, IsUnmovedLocation, IsUnmovedFlow}
 use Rattle.hs_meaning.specs.Laws.Unmoved.Evaluation.{used_still, variable_still, address_still, returned_still}
 use Rattle.hs_meaning.specs.Laws.Unmoved.Fine.{Anything}
 use Rattle.hs_meaning.specs.Laws.Unmoved.Frames.{AreUnmovedBindings, opened_still, closed_still, owned_still, missing_still}
@@ -86,16 +86,10 @@ locations_of (at_pointer a) is = (refl, is)
 
 -- ---- what the machine does
 
--- a stop that is no misuse ends a run so
-no_misuse : (why : Stop) (at : Pos) → IsMisuse (Stopped why at) → IsMisuseStop why
-no_misuse stop.Stale at is = is
-no_misuse stop.Purged at is = is
-no_misuse why at is = is
-
 module _ {A : Type 0} (fact : A → Type 0) (same : A → A → Type 0) (itself : (a : A) → fact a → same a a) where
   ran_still : (at : Pos) (s : State) (its : Done A) → IsStillDone fact its → s.schedule ≡ [] → Alike Still same (ran_at at s its) (ran_at at s its)
   ran_still at s (done it machine) is planned = (itself it is.0, (refl, is.1, planned))
-  ran_still at s (stopped why machine) is planned = λ misuse. is (no_misuse why at misuse)
+  ran_still at s (stopped why machine) is planned = is
 
   -- an act that keeps the machine still, of one state
   acts_still : (at : Pos) (act : Machine → Done A) → ((machine : Machine) → IsStillMachine machine → IsStillDone fact (act machine))

@@ -1,4 +1,4 @@
--- What is never moved: no block was moved or purged, and each pointer into a block was read since.
+-- What is never moved: no block was moved or purged, and each pointer into a block is of its first epoch.
 --     IsUnmoved its, AreUnmoved cells       a pointer, a value, cells
 --     IsStillMachine machine                the whole machine
 --     IsStillDone fact its                  what an operation comes to: it keeps the machine so, and is no misuse
@@ -24,10 +24,9 @@ use Rattle.hs_heap.specs.declared.cell.Pointer.{Pointer}
 use Rattle.hs_heap.specs.declared.presence.Presence.{Presence}
 use Rattle.hs_heap.specs.declared.presence.Presence.TheVariants.{Present, Emptied, Purged, Disposed}
 use Rattle.hs_meaning.specs.Evaluation.{Flow, onward, breaks, continues, returned, Location, in_slot, at_pointer}
+use Rattle.hs_meaning.specs.Runs.{IsMisuseStop}
 use Rattle.hs_meaning.specs.Machine.{Machine, Object, Binding, slot, object_at, Done, done, stopped}
 use Rattle.hs_meaning.specs.Values.{Value, number, pointer, state, structure, epoch_of}
-use Rattle.hs_meaning.specs.declared.outcome.Stop.{Stop}
-use Rattle.hs_meaning.specs.declared.outcome.Stop.TheVariants as stop
 
 -- it is of the first epoch
 abbrev pub IsUnmovedPointer : Pointer → Type 0
@@ -73,12 +72,6 @@ pub record IsStillMachine (machine : Machine) : Type 0 where
   pub objects : AllByRecursion IsUnmovedObject machine.objects
   pub globals : AllByRecursion IsUnmovedBinding machine.globals
   pub locals : AllByRecursion IsUnmovedBinding machine.locals
-
--- a use of a stale pointer or of a purged handle
-abbrev pub IsMisuseStop : Stop → Type 0
-IsMisuseStop stop.Stale = Unit {0}
-IsMisuseStop stop.Purged = Unit {0}
-IsMisuseStop _ = ⊥
 
 -- an operation gives something that is so, on a machine that stays still, or stops, and not for a misuse
 abbrev pub IsStillDone : {A : Type 0} → (A → Type 0) → Done A → Type 0

@@ -5,7 +5,8 @@
 use Rattle.std.proofs.Common.{Bool, true, false, [], ◌∷◌, Option, Some, None}
 use Rattle.std.specs.List.{AllByRecursion}
 use Rattle.hs_meaning.specs.Accesses.{by_stop, unless_stopped}
-use Rattle.hs_meaning.specs.Laws.Unmoved.{IsMisuseStop, IsStillMachine, IsStillDone}
+use Rattle.hs_meaning.specs.Runs.{IsMisuseStop}
+use Rattle.hs_meaning.specs.Laws.Unmoved.{IsStillMachine, IsStillDone}
 use Rattle.hs_meaning.specs.Machine.{Machine, Done, done, stopped, and_then}
 use Rattle.hs_meaning.specs.Plain.{then_unless}
 use Rattle.hs_meaning.specs.Stops.{Stops, stops_if, first_stop}
