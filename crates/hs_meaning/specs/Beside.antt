@@ -10,7 +10,7 @@
 pub mod Calls
 pub mod Expressions
 pub mod Statements
-use Rattle.std.specs.Prelude.{◌≡◌, ℕ, Bool, true, false, List, [], ◌∷◌, slice_get}
+use Rattle.std.specs.Prelude.{◌≡◌, ℤ, ℕ, Bool, true, false, List, [], ◌∷◌, slice_get}
 use Rattle.hs_base.specs.declared.pos.Pos.{Pos}
 use Rattle.hs_meaning.specs.Evaluation.{Flow, onward, breaks, continues, returned, Job, turn_of, call_of, Location, in_slot, at_pointer, variable_at, address_of, decided_by, returned_value}
 use Rattle.hs_meaning.specs.Frames.{missing_value, opened}
@@ -21,7 +21,7 @@ use Rattle.hs_meaning.specs.Runs.{own_locals, closes}
 use Rattle.hs_meaning.specs.Steps.{State, Ran, went, over, Step, ◌>>=◌, then_with, give, ends, either, acts, perform, used}
 use Rattle.hs_meaning.specs.Values.{Value, pointer, pointer_in}
 use Rattle.hs_meaning.specs.declared.outcome.Outcome.{Outcome}
-use Rattle.hs_meaning.specs.declared.outcome.Outcome.TheVariants.{Stopped}
+use Rattle.hs_meaning.specs.declared.outcome.Outcome.TheVariants.{Finished, Stopped}
 use Rattle.hs_meaning.specs.declared.outcome.Stop.TheVariants as stop
 use Rattle.hs_meaning.specs.Settings.{Setting}
 use Rattle.hs_tree.specs.Trees.{TypedStatement, TypedFunction}
@@ -110,7 +110,7 @@ module _ (R : Relation) where
 -- ---- operations and jobs
 
 -- what a relation says of each operation
-pub record Leaves (R : Relation) (setting : Setting) : Type 0 where
+pub record Leaves (R : Relation) (setting : Setting) : Type 1 where
   -- constants correspond to themselves
   pub constant : (its : Constant) → R.values (constant_value setting its) (constant_value setting its)
   pub pointed : (a b : Value) → R.values a b → R.values (pointer (pointer_in a)) (pointer (pointer_in b))
@@ -126,7 +126,9 @@ pub record Leaves (R : Relation) (setting : Setting) : Type 0 where
   pub opens : (at : Pos) (parameters : ℕ) (variables : List VariableDecl) (a b : List Value) → Lists R a b
       → Follows R Units (acts at (opened setting parameters variables a)) (acts at (opened setting parameters variables b))
   pub closes_to : (at : Pos) (a b : List Binding) → R.bindings a b → Follows R Units (acts at (closes a)) (acts at (closes b))
-  pub uncalled : (at : Pos) → Follows R (Flows R) (ends (Stopped stop.BadPointer at)) (ends (Stopped stop.BadPointer at))
+  -- ends of a run
+  pub fails : {A : Type 0} → (at : Pos) (s t : State) → R.states s t → R.ended {A = A} (Stopped stop.BadPointer at) s (over (Stopped stop.BadPointer at) t)
+  pub finishes : {A : Type 0} → (value : ℤ) (s t : State) → R.states s t → R.ended {A = A} (Finished value) s (over (Finished value) t)
 
 -- and of each job
 pub record Agains (R : Relation) (again other : Job → Step Flow) : Type 0 where

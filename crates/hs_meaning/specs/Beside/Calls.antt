@@ -20,7 +20,7 @@ use Rattle.hs_tree.specs.Trees.{TypedFunction}
 module _ (R : Relation) (setting : Setting) (leaves : Leaves R setting) (again other : Job → Step Flow) (agains : Agains R again other) where
   pub called_follows : (at : Pos) (a b : List Value) (function : Option TypedFunction) → Lists R a b
       → Follows R (Flows R) (called setting again at a function) (called setting other at b function)
-  called_follows at a b None is = leaves.uncalled at
+  called_follows at a b None is = record { go = λ s t corresponds. leaves.fails {A = Flow} at s t corresponds }
   called_follows at a b (Some function) is =
       thens (leaves.owned at) (λ c d owned. thens (leaves.opens at function.parameters function.variables a b is) (λ m n so.
       thens (statements.body_follows R setting leaves again other agains function) (λ v w flow.

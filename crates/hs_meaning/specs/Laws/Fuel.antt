@@ -17,6 +17,7 @@ use Rattle.hs_meaning.specs.Steps.{State, Ran, went, over, Step, then_with, eith
 use Rattle.hs_meaning.specs.Values.{Value}
 use Rattle.hs_meaning.specs.declared.input.Input.{Input}
 use Rattle.hs_meaning.specs.declared.outcome.Outcome.{Outcome}
+use Rattle.hs_meaning.specs.declared.outcome.Outcome.TheVariants.{Finished}
 use Rattle.hs_tree.specs.Trees.{TypedFunction, TypedStatement, TypedProgram}
 use Rattle.hs_tree.specs.declared.function.BoundRoutine.{BoundRoutine}
 
@@ -73,6 +74,7 @@ module _ (most : ℕ) where
       leaves_at (Bounded most) setting
       (record {
         acts_alike = λ {A = A} at act. from_one (λ s bound. done_alike at s (act s.machine) bound);
+        finishes = λ {A = A} value s t is. ap (over (Finished value)) is.0;
         decides = λ place. decided_alike (slice_get setting.routines place);
       })
 

@@ -3,7 +3,7 @@
 --     at_pace pace               the relation: values and variables are equal
 --     PaceLeaves pace setting    what is asked of what the machine does, and of decisions
 --     leaves_at pace setting its     that is all that is asked
-use Rattle.std.proofs.Common.{◌≡◌, ℕ, List, [], ◌∷◌, slice_get, refl, ap, ◌∙◌, subst}
+use Rattle.std.proofs.Common.{◌≡◌, ℤ, ℕ, List, [], ◌∷◌, slice_get, refl, ap, ◌∙◌, subst}
 use Rattle.hs_base.specs.declared.pos.Pos.{Pos}
 use Rattle.hs_meaning.specs.Beside.{Relation, Follows, Units, Same, Lists, Locations, Flows, Leaves}
 use Rattle.hs_meaning.specs.Evaluation.{Flow, onward, breaks, continues, returned, Location, in_slot, at_pointer, variable_at, address_of, decided_by, returned_value}
@@ -14,7 +14,7 @@ use Rattle.hs_meaning.specs.Runs.{own_locals, closes}
 use Rattle.hs_meaning.specs.Steps.{State, Ran, went, over, Step, then_with, ends, acts, perform, used, number_used}
 use Rattle.hs_meaning.specs.Values.{Value, pointer, pointer_in}
 use Rattle.hs_meaning.specs.declared.outcome.Outcome.{Outcome}
-use Rattle.hs_meaning.specs.declared.outcome.Outcome.TheVariants.{Stopped}
+use Rattle.hs_meaning.specs.declared.outcome.Outcome.TheVariants.{Finished}
 use Rattle.hs_meaning.specs.declared.outcome.Stop.TheVariants as stop
 use Rattle.hs_meaning.specs.Settings.{Setting}
 
@@ -36,6 +36,7 @@ at_pace pace =
 
 pub record PaceLeaves (pace : Pace) (setting : Setting) : Type 1 where
   pub acts_alike : {A : Type 0} → (at : Pos) (act : Machine → Done A) → Follows (at_pace pace) Same (acts at act) (acts at act)
+  pub finishes : {A : Type 0} → (value : ℤ) (s t : State) → pace.states s t → pace.ended {A = A} (Finished value) s (over (Finished value) t)
   pub decides : (place : ℕ)
       → Follows (at_pace pace) Units (decided_by (slice_get setting.routines place)) (decided_by (slice_get setting.routines place))
 
@@ -111,5 +112,6 @@ module _ (pace : Pace) where
             by_equal (λ vs. acts at (opened setting parameters variables vs)) a b (lists_same a b is)
             (follows_wider (λ m n same. tt) (its.acts_alike at (opened setting parameters variables a)));
         closes_to = λ at a b is. by_equal (λ c. acts at (closes c)) a b is (follows_wider (λ m n same. tt) (its.acts_alike at (closes a)));
-        uncalled = λ at. record { go = λ s t corresponds. (its.acts_alike {A = Flow} at (λ machine. stopped stop.BadPointer machine)).go s t corresponds };
+        fails = λ {A = A} at s t corresponds. (its.acts_alike {A = A} at (λ machine. stopped stop.BadPointer machine)).go s t corresponds;
+        finishes = λ {A = A} value s t corresponds. its.finishes {A = A} value s t corresponds;
       }

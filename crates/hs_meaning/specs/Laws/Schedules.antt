@@ -64,6 +64,7 @@ module _ (P : List Decision → List Decision → Type 0) (program : TypedProgra
       leaves_at (Unscheduled P) (setting_of program)
       (record {
         acts_alike = λ {A = A} at act. record { go = λ s t is. done_alike at s t (act s.machine) (act t.machine) (ap act is.0) is.1 is.2 };
+        finishes = λ {A = A} value s t is. (t, refl, is.0);
         decides = decides;
       })
 

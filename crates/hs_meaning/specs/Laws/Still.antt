@@ -183,7 +183,8 @@ leaves setting =
       closes_to = λ at a b is.
           of_equal Units (λ caller. acts at (closes caller)) a b is.0
           (acts_still Anything Units (λ it so. tt) at (closes a) (λ machine still. closed_still a machine is.1 still));
-      uncalled = λ at. record { go = λ s t is. λ misuse. misuse };
+      fails = λ {A = A} at s t is. λ misuse. misuse;
+      finishes = λ {A = A} value s t is. λ misuse. misuse;
     }
 
 turns_still : (s : State) (n : ℕ) → IsStillMachine s.machine → s.schedule ≡ [] → Alike Still Units (turn_from n s) (turn_from n s)

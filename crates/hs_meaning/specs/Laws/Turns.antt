@@ -68,11 +68,12 @@ module _ (more : ℕ) where
       shifted : (powers : Powers) → Follows R Units (shifted_by powers) (shifted_by powers)
       shifted powers = chosen powers _
 
-  leaves : (setting : Setting) → Leaves R setting
+  pub leaves : (setting : Setting) → Leaves R setting
   leaves setting =
       leaves_at (MoreTurns more) setting
       (record {
         acts_alike = λ {A = A} at act. from_later (λ s. done_alike at s (act s.machine));
+        finishes = λ {A = A} value s t is. ap (over (Finished value)) is;
         decides = λ place. decided_alike (slice_get setting.routines place);
       })
 
@@ -84,7 +85,7 @@ module _ (more : ℕ) where
       the_sum : (left : ℕ) → suc left + more ≡ suc (left + more)
       the_sum left = omega arith
 
-  turn_alike : Follows R Units turn turn
+  pub turn_alike : Follows R Units turn turn
   turn_alike = from_later (λ s. turns_alike s s.turns refl)
 
   pub alike_with_more_turns : (program : TypedProgram) (input : Input) (schedule : List Decision) (fuel turns : ℕ)

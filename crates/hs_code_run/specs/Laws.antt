@@ -1,0 +1,3 @@
+-- Laws of code runs.
+pub mod OneWay
+pub mod Turns
