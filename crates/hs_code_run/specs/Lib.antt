@@ -1,3 +1,4 @@
+pub mod Beside
 pub mod Codes
 pub mod Laws
 pub mod Runs

@@ -122,6 +122,7 @@ pub record Leaves (R : Relation) (setting : Setting) : Type 1 where
   pub missing : (at : Pos) (id : TypeId) → Follows R R.values (acts at (missing_value setting id)) (acts at (missing_value setting id))
   pub decided : (place : ℕ) → Follows R Units (decided_by (slice_get setting.routines place)) (decided_by (slice_get setting.routines place))
   -- calls
+  pub no_bindings : R.bindings [] []
   pub owned : (at : Pos) → Follows R R.bindings (acts at own_locals) (acts at own_locals)
   pub opens : (at : Pos) (parameters : ℕ) (variables : List VariableDecl) (a b : List Value) → Lists R a b
       → Follows R Units (acts at (opened setting parameters variables a)) (acts at (opened setting parameters variables b))

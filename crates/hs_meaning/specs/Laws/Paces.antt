@@ -41,10 +41,10 @@ pub record PaceLeaves (pace : Pace) (setting : Setting) : Type 1 where
       → Follows (at_pace pace) Units (decided_by (slice_get setting.routines place)) (decided_by (slice_get setting.routines place))
 
 module _ (pace : Pace) where
-  abbrev R : Relation
+  abbrev pub R : Relation
   R = at_pace pace
 
-  lists_same : (a b : List Value) → Lists R a b → a ≡ b
+  pub lists_same : (a b : List Value) → Lists R a b → a ≡ b
   lists_same [] [] is = refl
   lists_same [] (b ∷ others) is = absurd is
   lists_same (a ∷ rest) [] is = absurd is
@@ -107,6 +107,7 @@ module _ (pace : Pace) where
         result = λ at a b is. by_equal (λ f. acts at (returned_value f)) a b (flows_same a b is) (its.acts_alike at (returned_value a));
         missing = λ at id. its.acts_alike at (missing_value setting id);
         decided = its.decides;
+        no_bindings = refl;
         owned = λ at. its.acts_alike at own_locals;
         opens = λ at parameters variables a b is.
             by_equal (λ vs. acts at (opened setting parameters variables vs)) a b (lists_same a b is)

@@ -178,6 +178,7 @@ leaves setting =
           acts_still IsUnmoved Still.values unmoved_itself at (missing_value setting id)
           (λ machine still. missing_still setting id machine still);
       decided = λ place. decided_still (slice_get setting.routines place);
+      no_bindings = (refl, tt);
       owned = λ at. acts_still AreUnmovedBindings Still.bindings (λ all are. (refl, are)) at own_locals (λ machine still. owned_still machine still);
       opens = λ at parameters variables a b is. opened_follows setting at parameters variables a b (lists_unmoved a b is);
       closes_to = λ at a b is.
