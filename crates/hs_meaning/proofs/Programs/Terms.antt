@@ -3,20 +3,20 @@
 --     local, global                       variables
 --     get, put, num, long_num             the value of a local, an assignment to one, and numbers
 --     program types ..                    a program with one function
-use Rattle.std.specs.Prelude.{ℕ, ℤ, pos, Bool, true, false, List, [], ◌∷◌, Option, Some, None, codes}
+use Rattle.std.specs.Prelude.{ℕ, ℤ, pos, Bool, true, false, List, [], ◌∷◌, Some, codes}
 use Rattle.hs_base.specs.declared.pos.Pos.{Pos}
 use Rattle.hs_heap.specs.declared.decision.Decision.{Decision}
 use Rattle.hs_heap.specs.declared.decision.Which.TheVariants.{All, These}
+use Rattle.hs_meaning.specs.Runs.{Ending}
 use Rattle.hs_meaning.specs.declared.input.Input.{Input}
 use Rattle.hs_meaning.specs.declared.outcome.Outcome.TheVariants.{Finished, Stopped}
-use Rattle.hs_meaning.specs.Runs.{Ending}
 use Rattle.hs_meaning.specs.declared.outcome.Stop.{Stop}
 use Rattle.hs_table.specs.declared.role.Role.{Role}
 use Rattle.hs_table.specs.declared.role.Role.TheVariants as role
 use Rattle.hs_tokens.specs.declared.place.Place.{Place}
 use Rattle.hs_tokens.specs.declared.token.Origin.TheVariants as origin
-use Rattle.hs_tree.specs.Trees as tree
 use Rattle.hs_tree.specs.Trees.{RightValue, LeftValue, RightValues, TypedStatement, TypedStatements, TypedBlock, TypedFunction, TypedProgram}
+use Rattle.hs_tree.specs.Trees as tree
 use Rattle.hs_tree.specs.declared.function.BoundRoutine.{BoundRoutine}
 use Rattle.hs_tree.specs.declared.globals.Global.{Global}
 use Rattle.hs_tree.specs.declared.head.Head.{Head}
@@ -112,6 +112,14 @@ routines =
     ∷ routine (codes "HPurge") role.Purge false void_id (char_handle_id ∷ [])
     ∷ routine (codes "HGetState") role.GetState false char (char_handle_id ∷ [])
     ∷ routine (codes "HSetState") role.SetState false void_id (char_handle_id ∷ char ∷ [])
+    ∷ routine (codes "DisposeHandle") role.DisposeHandle false void_id (char_handle_id ∷ [])
+    ∷ routine (codes "GetHandleSize") role.GetSize false long (char_handle_id ∷ [])
+    ∷ routine (codes "SetHandleSize") role.SetSize true void_id (char_handle_id ∷ long ∷ [])
+    ∷ routine (codes "EmptyHandle") role.Empty false void_id (char_handle_id ∷ [])
+    ∷ routine (codes "ReallocateHandle") role.Realloc true void_id (char_handle_id ∷ long ∷ [])
+    ∷ routine (codes "NewPtr") role.NewPtr true char_pointer_id (long ∷ [])
+    ∷ routine (codes "DisposPtr") role.DisposePtr false void_id (char_pointer_id ∷ [])
+    ∷ routine (codes "BlockMove") role.BlockMove false void_id (char_pointer_id ∷ char_pointer_id ∷ long ∷ [])
     ∷ []
 
 abbrev pub new_handle : ℕ → ℕ → ℕ → RightValue
