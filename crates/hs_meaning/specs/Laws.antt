@@ -1,4 +1,5 @@
 -- Laws of runs.
+pub mod Epochs
 pub mod Fuel
 pub mod Handles
 pub mod Paces
