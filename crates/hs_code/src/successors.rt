@@ -34,10 +34,26 @@ fn following(op: Op, at: u32) -> Successors
 {
     let next = Some(at + 1);
     match op {
-        Op::Jump(target) => Successors { next: None, jump: Some(target), cases: (0, 0) },
-        Op::Zero(target) | Op::Pick(target) => Successors { next, jump: Some(target), cases: (0, 0) },
-        Op::Choose(goal) => Successors { next: None, jump: Some(goal.default), cases: (goal.first, goal.end) },
-        Op::Return => Successors { next: None, jump: None, cases: (0, 0) },
+        Op::Jump(target) => Successors {
+            next: None,
+            jump: Some(target),
+            cases: (0, 0),
+        },
+        Op::Zero(target) | Op::Pick(target) => Successors {
+            next,
+            jump: Some(target),
+            cases: (0, 0),
+        },
+        Op::Choose(goal) => Successors {
+            next: None,
+            jump: Some(goal.default),
+            cases: (goal.first, goal.end),
+        },
+        Op::Return => Successors {
+            next: None,
+            jump: None,
+            cases: (0, 0),
+        },
         Op::Num(_)
         | Op::Nil
         | Op::Address(_)
@@ -61,6 +77,10 @@ fn following(op: Op, at: u32) -> Successors
         | Op::Call(_)
         | Op::Turn
         | Op::Mark
-        | Op::Bring(_) => Successors { next, jump: None, cases: (0, 0) },
+        | Op::Bring(_) => Successors {
+            next,
+            jump: None,
+            cases: (0, 0),
+        },
     }
 }

@@ -1,3 +1,4 @@
 -- Laws of code runs.
+pub mod Epochs
 pub mod OneWay
 pub mod Turns

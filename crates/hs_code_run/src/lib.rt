@@ -4,4 +4,4 @@
 
 mod laws;
 
-pub use laws::runs_are_functions;
+pub use laws::{a_run_stays_with_more_turns, only_shifts_move, runs_are_functions};

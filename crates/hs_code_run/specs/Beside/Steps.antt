@@ -81,14 +81,14 @@ module _ (R : Relation) (program : CodeProgram) (leaves : Leaves R program.setti
           at = refl;
           stack = tt;
           waiting = (
-              record {
-                code = refl;
-                at = refl;
-                stack = below_alike R function.parameters point.frame.stack b is;
-                locals = locals;
-                arguments = taken_alike R function.parameters point.frame.stack b is;
-              },
-              waiting,
+            record {
+              code = refl;
+              at = refl;
+              stack = below_alike R function.parameters point.frame.stack b is;
+              locals = locals;
+              arguments = taken_alike R function.parameters point.frame.stack b is;
+            },
+            waiting,
           );
           choices = refl;
         }
