@@ -33,27 +33,27 @@ fn following(op: Op, at: u32) -> Successors
     ensures { result ≡ successors_of op at }
 {
     let next = Some(at + 1);
+    let none = Successors {
+        next: None,
+        jump: None,
+        cases: (0, 0),
+    };
     match op {
         Op::Jump(target) => Successors {
-            next: None,
             jump: Some(target),
-            cases: (0, 0),
+            ..none
         },
         Op::Zero(target) | Op::Pick(target) => Successors {
             next,
             jump: Some(target),
-            cases: (0, 0),
+            ..none
         },
         Op::Choose(goal) => Successors {
-            next: None,
             jump: Some(goal.default),
             cases: (goal.first, goal.end),
+            ..none
         },
-        Op::Return => Successors {
-            next: None,
-            jump: None,
-            cases: (0, 0),
-        },
+        Op::Return => none,
         Op::Num(_)
         | Op::Nil
         | Op::Address(_)
@@ -77,10 +77,6 @@ fn following(op: Op, at: u32) -> Successors
         | Op::Call(_)
         | Op::Turn
         | Op::Mark
-        | Op::Bring(_) => Successors {
-            next,
-            jump: None,
-            cases: (0, 0),
-        },
+        | Op::Bring(_) => Successors { next, ..none },
     }
 }
