@@ -20,7 +20,7 @@ pub record IsCase (cases : List Case) (first end target : ℕ) : Type 0 where
   pub there : slice_get cases place ≡ Some its
   pub goes : its.target ≡ target
 
--- control goes on behind an operation, unless it says otherwise
+-- control goes on after an operation, unless it says otherwise
 abbrev pub IsNext : Op → List Case → ℕ → ℕ → Type 0
 IsNext (op.Jump target) cases at next = next ≡ target
 IsNext (op.Zero target) cases at next = (next ≡ suc at) ⊎ (next ≡ target)
@@ -42,7 +42,7 @@ Follows code at next = IsNextOf (slice_get code.ops at) code.cases at next
 abbrev pub IsAmong : Successors → List Case → ℕ → Type 0
 IsAmong its cases next = (its.next ≡ Some next) ⊎ (its.jump ≡ Some next) ⊎ IsCase cases its.cases.0 its.cases.1 next
 
--- the one behind it alone
+-- the next one alone
 abbrev pub only_next : ℕ → Successors
 only_next at = record { next = Some (suc at); jump = None; cases = (0, 0) }
 

@@ -5,6 +5,8 @@
 mod function_code;
 mod op;
 mod successors;
+#[cfg(test)]
+mod tests;
 
 pub use function_code::{Case, Cases, FunctionCode, Operations, Placed};
 pub use op::{Access, Binary, Goal, Object, Op, Unary};

@@ -8,7 +8,7 @@ use crate::{FunctionCode, Op};
 /// The operations that can follow one, by their numbers.
 #[derive(Clone, Copy, Debug, PartialEq, Eq)]
 pub struct Successors {
-    /// The one behind it.
+    /// The next one.
     pub next: Option<u32>,
     /// The one to which it jumps, or the default of a switch.
     pub jump: Option<u32>,

@@ -12,17 +12,21 @@ ghost use Rattle.hs_meaning.specs.declared.outcome.Outcome.TheVariants.{TurnsSpe
 /// A run of code is a function of its arguments: from one point and state it ends in one way.
 pub fn runs_are_functions()
     ensures { (program : CodeProgram) (point : Point) (s after other : State) (outcome ended : Outcome)
-        → Comes program point s outcome after → Comes program point s ended other → (outcome ≡ ended) × (after ≡ other) }
+        → Comes program point s outcome after → Comes program point s ended other
+        → (outcome ≡ ended) × (after ≡ other) }
 {}
 
 /// A run of code that is not spent ends in the same way with more turns, and has them left.
 pub fn a_run_stays_with_more_turns()
-    ensures { (program : CodeProgram) (more : ℕ) (point : Point) (s after : State) (outcome : Outcome) → ¬ (outcome ≡ TurnsSpent)
-        → Comes program point s outcome after → Comes program point (later more s) outcome (later more after) }
+    ensures { (program : CodeProgram) (more : ℕ) (point : Point) (s after : State) (outcome : Outcome)
+        → ¬ (outcome ≡ TurnsSpent)
+        → Comes program point s outcome after
+        → Comes program point (later more s) outcome (later more after) }
 {}
 
 /// A step that is no Shift changes no epoch: each block has the epoch that it had, and blocks may be added.
 pub fn only_shifts_move()
     ensures { (program : CodeProgram) (point : Point) (s : State)
-        → is_shift_at (slice_get point.frame.code.ops point.frame.at) ≡ false → RanKeeps s (stepped program point s) }
+        → is_shift_at (slice_get point.frame.code.ops point.frame.at) ≡ false
+        → RanKeeps s (stepped program point s) }
 {}

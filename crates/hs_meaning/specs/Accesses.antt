@@ -60,10 +60,12 @@ cells_from at count cells = take count (drop (start_at at) cells)
 abbrev pub with_cells_from : ℤ → List Cell → List Cell → List Cell
 with_cells_from at new cells = take (start_at at) cells ++ new ++ drop (start_at at + length new) cells
 
+-- of an object that is there
 abbrev pub cells_of_object : Option Object → List Cell
 cells_of_object None = []
 cells_of_object (Some its) = its.cells
 
+-- of a block that is there
 abbrev pub cells_of_block : Option Block → List Cell
 cells_of_block None = []
 cells_of_block (Some block) = block.cells

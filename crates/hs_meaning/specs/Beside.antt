@@ -30,13 +30,15 @@ use Rattle.hs_tree.specs.declared.head.Variable.{Variable}
 use Rattle.hs_tree.specs.declared.head.VariableDecl.{VariableDecl}
 use Rattle.hs_types.specs.declared.row.TypeId.{TypeId}
 
+-- which values, variables and states correspond, and what a run that has ended says of the other one
 pub record Relation : Type 1 where
   pub values : Value → Value → Type 0
   pub bindings : List Binding → List Binding → Type 0
   pub states : State → State → Type 0
   -- a run has ended so, and the other one comes to that
   pub ended : {A : Type 0} → Outcome → State → Ran A → Type 0
-  pub ended_then : {A B : Type 0} → (outcome : Outcome) (s : State) (r : Ran A) (next : A → Step B) → ended outcome s r → ended outcome s (then_with next r)
+  pub ended_then : {A B : Type 0} → (outcome : Outcome) (s : State) (r : Ran A) (next : A → Step B) → ended outcome s r
+      → ended outcome s (then_with next r)
 
 -- both go on with things that correspond, or the first has ended
 abbrev pub Alike : (R : Relation) → {A : Type 0} → (A → A → Type 0) → Ran A → Ran A → Type 0
@@ -50,6 +52,7 @@ pub record Follows (R : Relation) {A : Type 0} (same : A → A → Type 0) (firs
 
 -- ---- steps
 
+-- a step that does nothing
 pub gives : {R : Relation} → {A : Type 0} → {same : A → A → Type 0} → {a b : A} → same a b → Follows R same (give a) (give b)
 gives is = record { go = λ s t corresponds. (is, corresponds) }
 
@@ -59,12 +62,14 @@ alike_then R same same' f g (went a s) (went b t) is next = (next a b is.0).go s
 alike_then R same same' f g (went a s) (over outcome t) is next = absurd is
 alike_then R same same' f g (over outcome s) r is next = R.ended_then outcome s r g is
 
+-- one after the other
 pub thens : {R : Relation} → {A B : Type 0} → {same : A → A → Type 0} → {same' : B → B → Type 0} → {first second : Step A}
     → {f g : A → Step B} → Follows R same first second → ((a b : A) → same a b → Follows R same' (f a) (g b))
     → Follows R same' (first >>= f) (second >>= g)
 thens {R = R} {same = same} {same' = same'} {first = first} {second = second} {f = f} {g = g} before next =
     record { go = λ s t corresponds. alike_then R same same' f g (first s) (second t) (before.go s t corresponds) next }
 
+-- one of two steps, by one test
 pub eithers : {R : Relation} → {A : Type 0} → {same : A → A → Type 0} → {f f' g g' : Step A} → (b : Bool) → Follows R same f f'
     → Follows R same g g' → Follows R same (either b f g) (either b f' g')
 eithers true first second = first
@@ -128,7 +133,8 @@ pub record Leaves (R : Relation) (setting : Setting) : Type 1 where
       → Follows R Units (acts at (opened setting parameters variables a)) (acts at (opened setting parameters variables b))
   pub closes_to : (at : Pos) (a b : List Binding) → R.bindings a b → Follows R Units (acts at (closes a)) (acts at (closes b))
   -- ends of a run
-  pub fails : {A : Type 0} → (at : Pos) (s t : State) → R.states s t → R.ended {A = A} (Stopped stop.BadPointer at) s (over (Stopped stop.BadPointer at) t)
+  pub fails : {A : Type 0} → (at : Pos) (s t : State) → R.states s t
+      → R.ended {A = A} (Stopped stop.BadPointer at) s (over (Stopped stop.BadPointer at) t)
   pub finishes : {A : Type 0} → (value : ℤ) (s t : State) → R.states s t → R.ended {A = A} (Finished value) s (over (Finished value) t)
 
 -- and of each job

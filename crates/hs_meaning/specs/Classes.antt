@@ -1,5 +1,6 @@
--- The classes of a program, in the order in which it first names them (own). What a load or a store of a pointer reaches names its class, after its operands; so do the constants with which
--- objects start, and parameters that are objects.
+-- The classes of a program, in the order in which it first names them (own). What a load or a store of a pointer reaches names its class,
+-- after its operands; so do the constants with which objects start, and parameters that are objects. The words that begin with `named` are
+-- the classes that a part of the program names, in the order of the text.
 --     class_of_type, class_of_scalar      the class of a pointer that is no field, and of a scalar inside an object
 --     classes_of program                  all classes, in their order
 use Rattle.indexmap.specs.IndexSet.{insert_key}
@@ -38,6 +39,7 @@ abbrev pub class_if : Bool → Class → List Class
 class_if true its = its ∷ []
 class_if false its = []
 
+-- none or one
 abbrev pub listed : {A : Type 0} → Option A → List A
 listed None = []
 listed (Some it) = it ∷ []
@@ -47,6 +49,7 @@ abbrev pub is_slot_declared : TypeTable → Option VariableDecl → Bool
 is_slot_declared types None = false
 is_slot_declared types (Some variable) = is_slot types variable
 
+-- the lvalue is a variable that is a slot
 abbrev pub in_slot : TypedProgram → TypedFunction → LeftValue → Bool
 in_slot program function (tree.variable head name) = is_slot_declared program.types (declared program function name)
 in_slot program function (tree.literal head place) = false
@@ -63,6 +66,7 @@ module _ (program : TypedProgram) (function : TypedFunction) where
   accessed e = if in_slot program function e then [] else listed (class_of program.types program.same program.taken e)
 
   abbrev mutual
+    -- the classes that the evaluation of an expression names
     pub named : RightValue → List Class
     named (tree.number head bits) = []
     named (tree.nil head) = []
@@ -92,6 +96,7 @@ module _ (program : TypedProgram) (function : TypedFunction) where
     named (tree.call head number routine arguments) = named_all arguments
     named (tree.call_routine head number arguments) = named_all arguments
 
+    -- of an lvalue: of its address alone
     pub named_left : LeftValue → List Class
     named_left (tree.variable head name) = []
     named_left (tree.literal head place) = []
@@ -100,6 +105,7 @@ module _ (program : TypedProgram) (function : TypedFunction) where
     named_left (tree.member head field offset object) = named_left object
     named_left (tree.arrow head field offset pointer) = named pointer
 
+    -- of a list of expressions
     pub named_all : RightValues → List Class
     named_all tree.no_values = []
     named_all (tree.more_values e rest) = named e ++ named_all rest
@@ -131,28 +137,34 @@ abbrev pub named_object : TypedProgram → VariableDecl → List Class
 named_object program variable =
     class_if (is_pointer program.types variable.type_id && not (is_slot program.types variable)) (class_of_type program.same variable.type_id)
 
+-- of a variable that is there
 abbrev pub named_variable : TypedProgram → Option VariableDecl → List Class
 named_variable program None = []
 named_variable program (Some variable) = named_object program variable
 
+-- of all of them
 abbrev pub named_variables : TypedProgram → List VariableDecl → List Class
 named_variables program [] = []
 named_variables program (variable ∷ rest) = named_object program variable ++ named_variables program rest
 
 module _ (program : TypedProgram) (function : TypedFunction) where
+  -- of a first value
   abbrev pub named_start : Option VariableDecl → Starting → List Class
   named_start variable (tree.value e) = named program function e ++ named_variable program variable
   named_start variable (tree.parts its) = named_inside program variable
 
+  -- of the variables of a declaration
   abbrev pub named_items : List TypedItem → List Class
   named_items [] = []
   named_items (item ∷ items) = named_start (slice_get function.variables item.variable) item.start ++ named_items items
 
+  -- of all declarations
   abbrev pub named_declarations : List TypedDeclaration → List Class
   named_declarations [] = []
   named_declarations (it ∷ rest) = named_items it.items ++ named_declarations rest
 
   abbrev mutual
+    -- of a statement
     pub named_in : TypedStatement → List Class
     named_in (tree.block it) = named_block it
     named_in (tree.expression at e) = named program function e
@@ -168,24 +180,29 @@ module _ (program : TypedProgram) (function : TypedFunction) where
     named_in (tree.continue_ at) = []
     named_in (tree.return_ at e) = named_if program function e
 
+    -- of a block
     pub named_block : TypedBlock → List Class
     named_block (tree.compound opening declarations list closing) = named_declarations declarations ++ named_statements list
 
+    -- of a list of statements
     pub named_statements : TypedStatements → List Class
     named_statements tree.no_statements = []
     named_statements (tree.more_statements labels it rest) = named_in it ++ named_statements rest
 
 -- ---- of the whole program
 
+-- of the objects of the program
 abbrev pub named_globals : TypedProgram → List Global → List Class
 named_globals program [] = []
 named_globals program (it ∷ rest) = (if is_slot program.types it.variable then [] else named_parts program it.parts) ++ named_globals program rest
 
+-- of its functions
 abbrev pub named_functions : TypedProgram → List TypedFunction → List Class
 named_functions program [] = []
 named_functions program (it ∷ rest) =
     named_variables program (take it.parameters it.variables) ++ named_block program it it.body ++ named_functions program rest
 
+-- the same field or type
 abbrev pub same_class : Class → Class → Bool
 same_class = (class_eq.ghosts).eq
 

@@ -42,6 +42,7 @@ pub data Job : Type 0 where
   turn_of : TypedFunction → TypedStatement → Job
   call_of : ℕ → List Value → Pos → Job
 
+-- where an object is: in a slot, or where a pointer reaches
 pub data Location : Type 0 where
   in_slot : Variable → Location
   at_pointer : Pointer → Location
@@ -54,6 +55,7 @@ located name None machine = stopped stop.BadPointer machine
 located name (Some (slot value)) machine = done (in_slot name) machine
 located name (Some (object_at place)) machine = done (at_pointer (Fixed place (pos 0))) machine
 
+-- of a variable that is there
 abbrev pub variable_at : Variable → Machine → Done Location
 variable_at name machine = located name (binding_of name machine) machine
 
@@ -114,6 +116,7 @@ module _ (setting : Setting) (again : Job → Step Flow) where
   abbrev pub on_one : Head → Operation → Step Value → Step Value
   on_one head its first = first >>= (λ a. perform setting head.at.pos its (a ∷ []))
 
+  -- of two operands
   abbrev pub on_two : Head → Operation → Step Value → Step Value → Step Value
   on_two head its first second = operands first second >>= (λ both. perform setting head.at.pos its (both.0 ∷ both.1 ∷ []))
 
@@ -129,6 +132,7 @@ module _ (setting : Setting) (again : Job → Step Flow) where
       perform setting head.at.pos (operation.step stride true) (before ∷ by ∷ []) >>= (λ value. written setting head.at.pos access place value)
 
   abbrev mutual
+    -- the value of an expression (3.3)
     pub value_of : RightValue → Step Value
     value_of (tree.number head bits) = give (number bits)
     value_of (tree.nil head) = give (pointer Nil)
@@ -179,6 +183,7 @@ module _ (setting : Setting) (again : Job → Step Flow) where
     value_of (tree.call_routine head place arguments) =
         values_of arguments >>= (λ values. decided_by (slice_get setting.routines place) >> perform setting head.at.pos (operation.routine place) values)
 
+    -- the object that an lvalue designates (3.2.2.1)
     pub location_of : LeftValue → Step Location
     location_of (tree.variable head name) = acts head.at.pos (variable_at name)
     location_of (tree.literal head place) = give (at_pointer (Fixed (object_of_base setting (base.Literal place)) (pos 0)))

@@ -43,6 +43,7 @@ abbrev pub with_result : ℕ → Result Block HeapStop → Machine → Machine
 with_result block (Ok after) machine = with_blocks (put_block machine.blocks block after) machine
 with_result block (Err why) machine = machine
 
+-- of the block of that number
 abbrev pub changed_in : (Block → Result Block HeapStop) → ℕ → Option Block → Machine → Machine
 changed_in role block None machine = machine
 changed_in role block (Some before) machine = with_result block (role before) machine
@@ -54,10 +55,12 @@ changed_by role (Fixed object at) machine = machine
 changed_by role (Spot its) machine = machine
 changed_by role (Handle block) machine = changed_in role block (block_at machine.blocks block) machine
 
+-- or 0
 abbrev pub answer_in : Result ℕ HeapStop → ℕ
 answer_in (Ok answer) = answer
 answer_in (Err why) = 0
 
+-- of a block that is there
 abbrev pub answer_of_block : (Block → Result ℕ HeapStop) → Option Block → ℕ
 answer_of_block role None = 0
 answer_of_block role (Some block) = answer_in (role block)
@@ -105,6 +108,7 @@ reshaped_in lives role block None machine = machine
 reshaped_in lives role block (Some before) machine =
     if lives before && has_room_after block (role before) machine then with_result block (role before) machine else machine
 
+-- by the handle of the block
 abbrev pub reshaped_by : (Block → Bool) → (Block → Result Block HeapStop) → Pointer → Machine → Machine
 reshaped_by lives role Nil machine = machine
 reshaped_by lives role (Fixed object at) machine = machine
@@ -125,9 +129,11 @@ emptied_once block = if block.life == 4294967295 then changed (λ block. block) 
 
 -- ---- blocks and objects that are made
 
+-- a block of that size is made
 abbrev pub makes_block : Value → Machine → Bool
 makes_block value machine = is_granted value machine && has_room machine.blocks (size_for value)
 
+-- an object of that size is made
 abbrev pub makes_object : Value → Machine → Bool
 makes_object value machine = is_granted value machine && has_room_for (size_for value) machine
 
@@ -156,12 +162,14 @@ abbrev pub may_dispose : ℤ → Option Object → Bool
 may_dispose at None = false
 may_dispose at (Some its) = int_eq at (pos 0) && is_allocated its.storage
 
+-- NIL is left alone
 abbrev pub dispose_stop : Pointer → Machine → Option Stop
 dispose_stop Nil machine = None
 dispose_stop (Fixed object at) machine = stops_if (not (may_dispose at (slice_get machine.objects object))) stop.BadPointer
 dispose_stop (Handle block) machine = Some stop.BadPointer
 dispose_stop (Spot its) machine = Some stop.BadPointer
 
+-- the object has ended
 abbrev pub disposed_object : Pointer → Machine → Machine
 disposed_object Nil machine = machine
 disposed_object (Fixed object at) machine = with_object object ended_object machine

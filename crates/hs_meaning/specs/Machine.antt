@@ -22,6 +22,7 @@ pub data Storage : Type 0 where
   allocated : Storage
   ended : Storage
 
+-- cells, and how long they are there
 pub record Object : Type 0 where
   pub cells : List Cell
   pub storage : Storage
@@ -31,6 +32,7 @@ pub data Binding : Type 0 where
   slot : Option Value → Binding
   object_at : ℕ → Binding
 
+-- all that a run is at, but for its schedule and its turns
 pub record Machine : Type 0 where
   -- numbered from 1
   pub blocks : List Block
@@ -77,9 +79,11 @@ with_value (name.Local place) value machine = record machine { locals = slice_se
 
 -- ---- objects
 
+-- with other blocks
 abbrev pub with_blocks : List Block → Machine → Machine
 with_blocks blocks machine = record machine { blocks = blocks }
 
+-- with another object of that number
 abbrev pub with_object : ℕ → Object → Machine → Machine
 with_object place its machine = record machine { objects = slice_set machine.objects place its }
 
@@ -91,18 +95,21 @@ new_object storage cells machine = record machine { objects = machine.objects ++
 abbrev pub ended_object : Object
 ended_object = record { cells = []; storage = ended }
 
+-- its life has ended
 abbrev pub has_ended : Storage → Bool
 has_ended permanent = false
 has_ended automatic = false
 has_ended allocated = false
 has_ended ended = true
 
+-- it belongs to a call
 abbrev pub is_automatic : Storage → Bool
 is_automatic permanent = false
 is_automatic automatic = true
 is_automatic allocated = false
 is_automatic ended = false
 
+-- a routine made it
 abbrev pub is_allocated : Storage → Bool
 is_allocated permanent = false
 is_allocated automatic = false

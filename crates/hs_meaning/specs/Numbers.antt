@@ -75,5 +75,6 @@ truth false = 0
 abbrev pub signed : ℕ → ℤ
 signed bits = cast_signed w32 bits
 
+-- the low 32 bits
 abbrev pub bits_of : ℤ → ℕ
 bits_of number = cast_unsigned w32 number

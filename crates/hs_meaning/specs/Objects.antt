@@ -80,6 +80,7 @@ with_parts setting (part ∷ parts) cells =
 abbrev pub starting_object : Setting → Global → Object
 starting_object setting it = record { cells = with_parts setting it.parts (replicate it.size (Byte 0)); storage = permanent }
 
+-- the variables of the program that are objects
 abbrev pub starting_objects : Setting → List Global → List Object
 starting_objects setting [] = []
 starting_objects setting (it ∷ rest) =
@@ -90,6 +91,7 @@ abbrev pub starting_value : Setting → TypeId → List Part → Value
 starting_value setting id [] = if is_pointer setting.types id then pointer Nil else number 0
 starting_value setting id (part ∷ parts) = constant_value setting part.value
 
+-- what the variables of the program are, if the next object has that number
 abbrev pub starting_bindings : Setting → ℕ → List Global → List Binding
 starting_bindings setting next [] = []
 starting_bindings setting next (it ∷ rest) =

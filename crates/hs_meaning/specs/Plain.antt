@@ -78,6 +78,7 @@ abbrev pub decimal_of : Bool → ℕ → List ℕ
 decimal_of true bits = signed_decimal (signed bits)
 decimal_of false bits = decimal bits
 
+-- a type with numbers below 0
 abbrev pub is_signed_kind : Option Integer → Bool
 is_signed_kind None = false
 is_signed_kind (Some kind) = is_signed kind
@@ -107,6 +108,7 @@ answers zero words = []
 answers (suc more) [] = 0 ∷ answers more []
 answers (suc more) (word ∷ words) = word ∷ answers more words
 
+-- those after so many
 abbrev pub later_words : ℕ → List ℕ → List ℕ
 later_words zero words = words
 later_words (suc more) [] = []
@@ -128,10 +130,12 @@ abbrev pub argument : {A : Type 0} → ℕ → List A → Option A
 argument zero items = None
 argument (suc place) items = slice_get items place
 
+-- or no bytes
 abbrev pub or_zero : Option ℕ → ℕ
 or_zero None = 0
 or_zero (Some size) = size
 
+-- of what a pointer of that type points to
 abbrev pub pointed_size : TypeTable → Option TypeId → Option ℕ
 pointed_size types None = None
 pointed_size types (Some id) = size_at types (pointed types id)
@@ -160,9 +164,11 @@ abbrev pub next_word : List ℕ → ℕ
 next_word [] = 0
 next_word (word ∷ words) = word
 
+-- the next word was taken
 abbrev pub one_word_less : Machine → Machine
 one_word_less machine = record machine { words = later_words 1 machine.words }
 
+-- or one byte
 abbrev pub or_one : Option ℕ → ℕ
 or_one None = 1
 or_one (Some size) = size

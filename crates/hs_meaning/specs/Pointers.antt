@@ -51,6 +51,7 @@ offsets_of (Fixed object at) (Fixed other at') = offsets_if (object == other) at
 offsets_of (Spot its) (Spot other) = offsets_if (its.block == other.block) its.offset other.offset
 offsets_of a b = None
 
+-- they do not
 abbrev pub are_apart : Option (ℤ × ℤ) → Bool
 are_apart None = true
 are_apart (Some both) = false
@@ -117,6 +118,7 @@ moved_stop bytes (Handle block) = Some stop.BadPointer
 moved_stop bytes (Fixed object at) = stops_if (not (is_near (at +ℤ bytes))) stop.BadPointer
 moved_stop bytes (Spot its) = stops_if (not (is_near (its.offset +ℤ bytes))) stop.BadPointer
 
+-- so many bytes on
 abbrev pub moved_by : ℤ → Pointer → Pointer
 moved_by bytes Nil = Nil
 moved_by bytes (Handle block) = Handle block

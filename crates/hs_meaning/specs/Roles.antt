@@ -19,6 +19,7 @@ use Rattle.hs_meaning.specs.declared.outcome.Stop.TheVariants as stop
 use Rattle.hs_table.specs.declared.role.Role.{Role}
 use Rattle.hs_table.specs.declared.role.Role.TheVariants.{NewHandle, DisposeHandle, GetSize, SetSize, Lock, Unlock, Purge, NoPurge, GetState, SetState, Empty, Realloc, NewPtr, DisposePtr, BlockMove, Getchar, Putchar, Plain}
 
+-- the address of a master pointer
 abbrev pub is_handle : Pointer → Bool
 is_handle Nil = false
 is_handle (Fixed object at) = false
@@ -32,6 +33,7 @@ state_stop (pointer its) = Some stop.BadByte
 state_stop (state byte) = None
 state_stop (structure cells) = Some stop.BadByte
 
+-- the byte itself
 abbrev pub state_in : Value → ℕ
 state_in (number bits) = 0
 state_in (pointer its) = 0
@@ -43,6 +45,7 @@ abbrev pub next_byte : List ℕ → ℕ
 next_byte [] = 4294967295
 next_byte (byte ∷ rest) = byte
 
+-- the bytes after the next one
 abbrev pub later : List ℕ → List ℕ
 later [] = []
 later (first ∷ rest) = rest

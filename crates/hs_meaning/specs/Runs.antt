@@ -80,6 +80,7 @@ ran_in setting functions main fuel input schedule turns =
 abbrev pub ran_within : ℕ → TypedProgram → Input → List Decision → ℕ → Ran ℤ
 ran_within fuel program input schedule turns = ran_in (setting_of program) program.functions program.main fuel input schedule turns
 
+-- with one job more inside one another than there are turns
 abbrev pub ran : TypedProgram → Input → List Decision → ℕ → Ran ℤ
 ran program input schedule turns = ran_within (suc turns) program input schedule turns
 
@@ -88,6 +89,7 @@ pub record Ending : Type 0 where
   pub output : List ℕ
   pub outcome : Outcome
 
+-- of what the run has come to
 abbrev pub ending_of : Ran ℤ → Ending
 ending_of (went value s) = record { output = s.machine.output; outcome = Finished value }
 ending_of (over outcome s) = record { output = s.machine.output; outcome = outcome }

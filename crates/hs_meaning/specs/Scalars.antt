@@ -10,6 +10,7 @@ use Rattle.hs_types.specs.declared.row.Row.{Row}
 use Rattle.hs_types.specs.declared.row.Row.TheVariants.{Void, Integer, Pointer, Enumeration, Struct, Array, OpenArray, Function}
 use Rattle.hs_types.specs.declared.row.TypeId.{TypeId}
 
+-- a number or a pointer inside an object
 pub record Scalar : Type 0 where
   pub offset : ℕ
   pub type_id : TypeId
@@ -30,6 +31,7 @@ of_fields found at number place [] = []
 of_fields found at number place (its ∷ rest) =
     found (at + its.offset) its.type_id (Some (record { of = number; place = place })) ++ of_fields found at number (suc place) rest
 
+-- of a struct whose body has come
 abbrev pub of_body : Finding → ℕ → ℕ → Option Body → List Scalar
 of_body found at number None = []
 of_body found at number (Some body) = of_fields found at number 0 body.fields

@@ -19,6 +19,7 @@ use Rattle.hs_types.specs.declared.integer.Integer.{Integer}
 use Rattle.hs_types.specs.declared.row.FieldId.{FieldId}
 use Rattle.hs_types.specs.declared.row.TypeId.{TypeId}
 
+-- what a run needs of a program besides the bodies of its functions
 pub record Setting : Type 0 where
   pub types : TypeTable
   pub globals : List Global

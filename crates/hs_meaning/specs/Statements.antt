@@ -35,10 +35,12 @@ pub data Entry : Type 0 where
   from_start : Entry
   from_label : (Label → Bool) → Entry
 
+-- the case of that number
 abbrev pub is_case : ℕ → Label → Bool
 is_case bits (label.Case at its) = its == bits
 is_case bits (label.Default at) = false
 
+-- the default
 abbrev pub is_default : Label → Bool
 is_default (label.Case at its) = false
 is_default (label.Default at) = true
@@ -53,6 +55,7 @@ abbrev pub entry_if : Bool → ℕ → Entry
 entry_if true bits = from_label (is_case bits)
 entry_if false bits = from_label is_default
 
+-- of a list of statements
 abbrev pub entry_for : ℕ → TypedStatements → Entry
 entry_for bits list = entry_if (has_label (is_case bits) list) bits
 
@@ -101,6 +104,7 @@ abbrev pub zero_of : Bool → Value
 zero_of true = pointer Nil
 zero_of false = number 0
 
+-- the constant, or 0 or NIL
 abbrev pub scalar_value : Setting → TypeId → Option Part → Value
 scalar_value setting id None = zero_of (is_pointer setting.types id)
 scalar_value setting id (Some part) = constant_value setting part.value
@@ -142,15 +146,18 @@ module _ (setting : Setting) (again : Job → Step Flow) (function : TypedFuncti
       value_of setting again e >>= (λ value. written setting at (access_of_type setting id (class_of_type setting.same id)) place value) >> give tt
   value_started at id (tree.parts its) place = scalars_started at place its (scalars_of setting.types id)
 
+  -- a variable of the function
   abbrev pub started : TypedItem → Step (Unit {0})
   started item =
       acts item.at.pos (variable_at (name.Local item.variable))
       >>= value_started item.at.pos (type_in (slice_get function.variables item.variable)) item.start
 
+  -- the variables of a declaration
   abbrev pub items_started : List TypedItem → Step (Unit {0})
   items_started [] = give tt
   items_started (item ∷ items) = started item >> items_started items
 
+  -- all declarations
   abbrev pub declarations_started : List TypedDeclaration → Step (Unit {0})
   declarations_started [] = give tt
   declarations_started (it ∷ rest) = items_started it.items >> declarations_started rest
@@ -177,6 +184,7 @@ module _ (setting : Setting) (again : Job → Step Flow) (function : TypedFuncti
   returns at (Some e) = value_of setting again e >>= (λ value. give (returned value at))
 
   abbrev mutual
+    -- a statement (3.6)
     pub executed : TypedStatement → Step Flow
     executed (tree.block it) = executed_block it
     executed (tree.expression at e) = value_of setting again e >> give onward
@@ -203,6 +211,7 @@ module _ (setting : Setting) (again : Job → Step Flow) (function : TypedFuncti
     pub executed_switch : ℕ → TypedBlock → Step Flow
     executed_switch bits (tree.compound opening declarations list closing) = executed_all (entry_for bits list) list
 
+    -- a list of statements
     pub executed_all : Entry → TypedStatements → Step Flow
     executed_all entry tree.no_statements = give onward
     executed_all entry (tree.more_statements labels it rest) =
@@ -234,5 +243,6 @@ module _ (setting : Setting) (again : Job → Step Flow) (function : TypedFuncti
   ended_at at breaks = returns at None
   ended_at at continues = returns at None
 
+  -- the body of the function
   abbrev pub body_of : Step Flow
   body_of = executed_block function.body >>= ended_at (closing_of function.body)

@@ -21,6 +21,7 @@ use Rattle.hs_meaning.specs.Values.{Value, bits_in, number_stop}
 use Rattle.hs_meaning.specs.declared.outcome.Outcome.{Outcome}
 use Rattle.hs_meaning.specs.declared.outcome.Outcome.TheVariants.{Finished, Stopped, TurnsSpent}
 
+-- where a run is
 pub record State : Type 0 where
   pub machine : Machine
   pub schedule : List Decision
@@ -35,9 +36,11 @@ pub data Ran (A : Type 0) : Type 0 where
 abbrev pub Step : Type 0 → Type 0
 Step A = State → Ran A
 
+-- a step that does nothing
 abbrev pub give : {A : Type 0} → A → Step A
 give it s = went it s
 
+-- the run ends
 abbrev pub ends : {A : Type 0} → Outcome → Step A
 ends outcome s = over outcome s
 
@@ -80,6 +83,7 @@ perform setting at operation values = acts at (operate setting operation values)
 abbrev pub number_used : Value → Machine → Done ℕ
 number_used value machine = by_stop (number_stop value) (bits_in value) machine machine
 
+-- as a step
 abbrev pub used : Pos → Value → Step ℕ
 used at value = acts at (number_used value)
 
@@ -100,6 +104,7 @@ abbrev pub next_decision : List Decision → Decision
 next_decision [] = record { moves = These []; purges = These [] }
 next_decision (decision ∷ rest) = decision
 
+-- those after the next one
 abbrev pub later_decisions : List Decision → List Decision
 later_decisions [] = []
 later_decisions (decision ∷ rest) = rest
@@ -125,5 +130,6 @@ abbrev pub turn_from : ℕ → Step (Unit {0})
 turn_from zero s = over TurnsSpent s
 turn_from (suc left) s = went tt (record s { turns = left })
 
+-- one turn is taken
 abbrev pub turn : Step (Unit {0})
 turn s = turn_from s.turns s

@@ -127,12 +127,14 @@ store_stop (of_pointer class) (pointer its) = None
 store_stop (of_struct size) (structure cells) = None
 store_stop access value = Some stop.BadPointer
 
+-- nothing was stored there
 abbrev pub is_undefined : Cell → Bool
 is_undefined Undefined = true
 is_undefined (Byte byte) = false
 is_undefined (State byte) = false
 is_undefined (Part place its class) = false
 
+-- it holds a byte
 abbrev pub is_byte : Cell → Bool
 is_byte Undefined = false
 is_byte (Byte byte) = true
@@ -169,6 +171,7 @@ abbrev pub whole_in : ℕ → List Cell → Option Pointer
 whole_in class (a ∷ b ∷ c ∷ d ∷ []) = joined (joined (joined (part_in class 0 a) (part_in class 1 b)) (part_in class 2 c)) (part_in class 3 d)
 whole_in class cells = None
 
+-- it holds the byte 0
 abbrev pub is_zero : Cell → Bool
 is_zero cell = is_byte cell && (byte_in cell == 0)
 
@@ -202,6 +205,7 @@ asks_values (of_number kind) = true
 asks_values (of_pointer class) = true
 asks_values (of_struct size) = false
 
+-- there is no value
 abbrev pub is_missing : Option Value → Bool
 is_missing None = true
 is_missing (Some value) = false

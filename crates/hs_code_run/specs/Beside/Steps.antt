@@ -12,7 +12,7 @@ use Rattle.hs_code_run.specs.Beside.Stacks.{taken_alike, below_alike, holds_alik
 use Rattle.hs_code_run.specs.Codes.{CodeFunction, CodeProgram, Waiting, Point}
 use Rattle.hs_code_run.specs.Steps as steps
 use Rattle.hs_code_run.specs.Steps.{stepped, stepped_at, by_stack, by_operation, operates_if, routine_called, function_called, returned_to, misfits, operation_of, routine_arguments, taken, below, holds, brought, address_at, onward, onto, onto_if, next_choice, later_choices, case_for, entered}
-use Rattle.hs_heap.specs.declared.cell.Pointer.TheVariants.{Fixed}
+use Rattle.hs_heap.specs.declared.cell.Pointer.TheVariants.{Nil}
 use Rattle.hs_meaning.specs.Beside.{Relation, Alike, Follows, gives, thens, Units, Same, Lists, Locations, Leaves}
 use Rattle.hs_meaning.specs.Evaluation.{variable_at, address_of}
 use Rattle.hs_meaning.specs.Machine.{Binding}
@@ -33,7 +33,7 @@ module _ (R : Relation) (program : CodeProgram) (leaves : Leaves R program.setti
   -- ---- points
 
   module _ (point : Point) (others : List Waiting) (waiting : Waitings R point.waiting others) where
-    -- behind the operation
+    -- after the operation
     onward_alike : (b a' b' : List Value) → Lists R a' b' → Points R (onward point a') (onward (with_values point b others) b')
     onward_alike b a' b' is = record { code = refl; at = refl; stack = is; waiting = waiting; choices = refl }
 
@@ -129,7 +129,7 @@ module _ (R : Relation) (program : CodeProgram) (leaves : Leaves R program.setti
   address_alike (object.Literal place) = gives (leaves.constant (constant.Address (base.Literal place) (Rattle.std.proofs.Common.pos 0)))
 
   module _ (point : Point) (others : List Waiting) (waiting : Waitings R point.waiting others) (b : List Value) (is : Lists R point.frame.stack b) where
-    -- behind the operation, with these stacks
+    -- after the operation, with these stacks
     goes : (c d : List Value) → Lists R c d → Follows R (Points R) (give (onward point c)) (give (onward (with_values point b others) d))
     goes c d so = gives (onward_alike point others waiting b c d so)
 
@@ -140,7 +140,7 @@ module _ (R : Relation) (program : CodeProgram) (leaves : Leaves R program.setti
         → Follows R (Points R) (by_stack program at point its c) (by_stack program at (with_values point b others) its d)
     by_stack_alike (op.Num bits) c d so = goes (number bits ∷ c) (number bits ∷ d) (leaves.constant (constant.Number bits), so)
     by_stack_alike op.Nil c d so =
-        goes (pointer Rattle.hs_heap.specs.declared.cell.Pointer.TheVariants.Nil ∷ c) (pointer Rattle.hs_heap.specs.declared.cell.Pointer.TheVariants.Nil ∷ d)
+        goes (pointer Nil ∷ c) (pointer Nil ∷ d)
         (leaves.constant constant.Nil, so)
     by_stack_alike (op.Address its) c d so = thens (address_alike its) (λ v w value. goes (v ∷ c) (w ∷ d) (value, so))
     by_stack_alike op.Drop [] [] so = misses
@@ -163,7 +163,8 @@ module _ (R : Relation) (program : CodeProgram) (leaves : Leaves R program.setti
     by_stack_alike (op.Zero target) [] (w ∷ d) so = absurd so
     by_stack_alike (op.Zero target) (v ∷ c) [] so = absurd so
     by_stack_alike (op.Zero target) (v ∷ c) (w ∷ d) so =
-        thens (leaves.used_as at v w so.0) (λ m n same. gives (onto_if_alike point others waiting b (m == 0) (n == 0) target c d (ap (λ k. k == 0) same) so.1))
+        thens (leaves.used_as at v w so.0) (λ m n same. gives (onto_if_alike point others waiting b (m == 0) (n == 0) target c d
+        (ap (λ k. k == 0) same) so.1))
     by_stack_alike (op.Choose goal) [] [] so = misses
     by_stack_alike (op.Choose goal) [] (w ∷ d) so = absurd so
     by_stack_alike (op.Choose goal) (v ∷ c) [] so = absurd so

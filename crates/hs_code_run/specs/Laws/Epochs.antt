@@ -31,6 +31,7 @@ abbrev pub RanKeeps : {A : Type 0} → State → Ran A → Type 0
 RanKeeps before (went it after) = EpochsStay before.machine after.machine
 RanKeeps before (over outcome after) = EpochsStay before.machine after.machine
 
+-- the same of a step, from any state
 pub record Keeps {A : Type 0} (step : Step A) : Type 0 where
   pub from : (s : State) → RanKeeps s (step s)
 
@@ -38,7 +39,8 @@ both_keep : {A : Type 0} → (before s : State) (r : Ran A) → EpochsStay befor
 both_keep before s (went it t) is so = stay_then before.machine s.machine t.machine is so
 both_keep before s (over outcome t) is so = stay_then before.machine s.machine t.machine is so
 
-then_from : {A B : Type 0} → (before : State) (next : A → Step B) (r : Ran A) → RanKeeps before r → ((it : A) → Keeps (next it)) → RanKeeps before (then_with next r)
+then_from : {A B : Type 0} → (before : State) (next : A → Step B) (r : Ran A) → RanKeeps before r → ((it : A) → Keeps (next it))
+    → RanKeeps before (then_with next r)
 then_from before next (went it s) is after = both_keep before s (next it s) is ((after it).from s)
 then_from before next (over outcome s) is after = is
 
@@ -69,13 +71,16 @@ turn_keeps = record { from = λ s. by_turns s s.turns }
 
 -- ---- steps
 
+-- the operation takes a decision
 abbrev pub is_shift : Op → Bool
 is_shift (op.Shift place) = true
 is_shift its = false
 
 module _ (program : CodeProgram) (at : Pos) (point : Point) where
   operates_keep : (b : Bool) (count : ℕ) (its : Operation) → Keeps (operates_if program at point b count its)
-  operates_keep true count its = thens (act_keeps at (operate program.setting its (taken count point.frame.stack)) (λ machine. operate_keeps program.setting its (taken count point.frame.stack) machine)) (λ value. gives)
+  operates_keep true count its =
+      thens (act_keeps at (operate program.setting its (taken count point.frame.stack))
+      (λ machine. operate_keeps program.setting its (taken count point.frame.stack) machine)) (λ value. gives)
   operates_keep false count its = over_keeps
 
   routine_keeps : (place : ℕ) (count : Option ℕ) → Keeps (routine_called program at point place count)
@@ -97,13 +102,15 @@ module _ (program : CodeProgram) (at : Pos) (point : Point) where
 
   returned_keeps : (value : Value) (waiting : List Waiting) → Keeps (returned_to program at point value waiting)
   returned_keeps value [] =
-      thens (act_keeps at (closes []) (λ machine. closed_keeps [] machine)) (λ it. thens (act_keeps at (number_used value) (λ machine. used_keeps value machine)) (λ bits. over_keeps {outcome = Finished (signed bits)}))
+      thens (act_keeps at (closes []) (λ machine. closed_keeps [] machine)) (λ it. thens
+      (act_keeps at (number_used value) (λ machine. used_keeps value machine)) (λ bits. over_keeps {outcome = Finished (signed bits)}))
   returned_keeps value (caller ∷ rest) =
       thens (act_keeps at (closes caller.locals) (λ machine. closed_keeps caller.locals machine)) (λ it. gives {it = resumed value caller rest})
 
   address_at_keeps : (its : Object) → Keeps (address_at at program.setting its)
   address_at_keeps (object.Variable name) =
-      thens (act_keeps at (variable_at name) (λ machine. variable_keeps name machine)) (λ place. act_keeps at (address_of place) (λ machine. address_keeps place machine))
+      thens (act_keeps at (variable_at name) (λ machine. variable_keeps name machine))
+      (λ place. act_keeps at (address_of place) (λ machine. address_keeps place machine))
   address_at_keeps (object.Literal place) = gives
 
   operation_keeps : (its : Option (ℕ × Operation)) → Keeps (by_operation program at point its)

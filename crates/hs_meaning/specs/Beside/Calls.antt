@@ -70,6 +70,7 @@ module _ (R : Relation) (setting : Setting) (leaves : Leaves R setting) (functio
 
   -- and in the whole
   pub runs_follow : (fuel : ℕ) (function : Option TypedFunction)
-      → Follows R Same (main_called setting (again_within setting functions fuel) function) (main_called setting (again_within setting functions fuel) function)
+      → Follows R Same (main_called setting (again_within setting functions fuel) function)
+      (main_called setting (again_within setting functions fuel) function)
   runs_follow fuel function =
       main_follows R setting leaves (again_within setting functions fuel) (again_within setting functions fuel) (agains_within fuel) function

@@ -124,6 +124,7 @@ module _ (R : Relation) (setting : Setting) (leaves : Leaves R setting) where
     -- ---- expressions
 
     mutual
+      -- the value of an expression
       pub value_follows : (e : RightValue) → Follows R R.values (value_of setting again e) (value_of setting other e)
       value_follows (tree.number head bits) = gives (number_follows bits)
       value_follows (tree.nil head) = gives (leaves.constant constant.Nil)
@@ -176,6 +177,7 @@ module _ (R : Relation) (setting : Setting) (leaves : Leaves R setting) where
       value_follows (tree.call_routine head place arguments) =
           thens (values_follow arguments) (λ a b is. thens (leaves.decided place) (λ m n so. leaves.performed head.at.pos (operation.routine place) a b is))
 
+      -- the object that it designates
       pub location_follows : (e : LeftValue) → Follows R (Locations R) (location_of setting again e) (location_of setting other e)
       location_follows (tree.variable head name) = leaves.variable head.at.pos name
       location_follows (tree.literal head place) = gives (leaves.constant (constant.Address (base.Literal place) (pos 0)))
@@ -189,10 +191,12 @@ module _ (R : Relation) (setting : Setting) (leaves : Leaves R setting) where
       location_follows (tree.arrow head field bytes its) =
           thens (on_one_follows head (operation.offset bytes) (value_follows its)) (λ a b is. gives (reached_alike a b is))
 
+      -- arguments
       pub values_follow : (its : RightValues) → Follows R (Lists R) (values_of setting again its) (values_of setting other its)
       values_follow tree.no_values = gives tt
       values_follow (tree.more_values e rest) = thens (operands_follow (value_follows e) (values_follow rest)) (λ a b is. gives (is.0, is.1))
 
+      -- the left operands of a comma
       pub each_follows : (its : RightValues) → Follows R Units (each_of setting again its) (each_of setting other its)
       each_follows tree.no_values = gives tt
       each_follows (tree.more_values e rest) = thens (value_follows e) (λ a b is. each_follows rest)

@@ -30,10 +30,6 @@ module _ (R : Relation) (setting : Setting) (leaves : Leaves R setting) (again o
       → Follows R Same (value_of setting again e >>= condition at) (value_of setting other e >>= condition at)
   condition_of at e = thens (value_of_follows e) (λ a b is. expressions.condition_follows R setting leaves at a b is)
 
-  chosen_by : {A : Type 0} → {same : A → A → Type 0} → {f f' g g' : Step A} → (a b : Bool) → a ≡ b → Follows R same f f'
-      → Follows R same g g' → Follows R same (either a f g) (either b f' g')
-  chosen_by a b is first second = expressions.chosen R setting leaves a b is first second
-
   after_follows : {f f' : Step Flow} → (a b : Flow) → Flows R a b → Follows R (Flows R) f f' → Follows R (Flows R) (after f a) (after f' b)
   after_follows onward onward is next = next
   after_follows onward breaks is next = absurd is
@@ -146,7 +142,7 @@ module _ (R : Relation) (setting : Setting) (leaves : Leaves R setting) (again o
 
   turns_follow : (it : TypedStatement) (a b : Bool) → a ≡ b
       → Follows R (Flows R) (turns_if setting again function it a) (turns_if setting other function it b)
-  turns_follow it a b is = chosen_by a b is (agains.turns function it) (gives tt)
+  turns_follow it a b is = expressions.chosen R setting leaves a b is (agains.turns function it) (gives tt)
 
   returns_follow : (at : Pos) (e : Option RightValue)
       → Follows R (Flows R) (returns setting again function at e) (returns setting other function at e)
@@ -154,13 +150,15 @@ module _ (R : Relation) (setting : Setting) (leaves : Leaves R setting) (again o
   returns_follow at (Some e) = thens (value_of_follows e) (λ a b is. gives (is, refl))
 
   mutual
+    -- a statement
     pub executed_follows : (it : TypedStatement) → Follows R (Flows R) (executed setting again function it) (executed setting other function it)
     executed_follows (tree.block it) = block_follows it
     executed_follows (tree.expression at e) = thens (value_of_follows e) (λ a b is. gives tt)
     executed_follows (tree.empty at) = gives tt
-    executed_follows (tree.if_ at test first) = thens (condition_of at.pos test) (λ a b is. chosen_by a b is (executed_follows first) (gives tt))
+    executed_follows (tree.if_ at test first) =
+        thens (condition_of at.pos test) (λ a b is. expressions.chosen R setting leaves a b is (executed_follows first) (gives tt))
     executed_follows (tree.if_else at test first second) =
-        thens (condition_of at.pos test) (λ a b is. chosen_by a b is (executed_follows first) (executed_follows second))
+        thens (condition_of at.pos test) (λ a b is. expressions.chosen R setting leaves a b is (executed_follows first) (executed_follows second))
     executed_follows (tree.while_ at test body) = thens (condition_of at.pos test) (λ a b is. turns_follow (tree.while_ at test body) a b is)
     executed_follows (tree.do_ at body test) = agains.turns function (tree.do_ at body test)
     executed_follows (tree.for_ at first test next body) =
@@ -173,6 +171,7 @@ module _ (R : Relation) (setting : Setting) (leaves : Leaves R setting) (again o
     executed_follows (tree.continue_ at) = gives tt
     executed_follows (tree.return_ at e) = returns_follow at.pos e
 
+    -- a block
     pub block_follows : (it : TypedBlock) → Follows R (Flows R) (executed_block setting again function it) (executed_block setting other function it)
     block_follows (tree.compound opening declarations list closing) =
         thens (declarations_follow declarations) (λ m n so. all_follow from_start list)

@@ -8,7 +8,7 @@ use Rattle.hs_meaning.specs.Beside.{Relation, Alike, Follows, gives, Units, Same
 use Rattle.hs_meaning.specs.Beside.Calls as calls
 use Rattle.hs_meaning.specs.Beside.Statements as statements
 use Rattle.hs_meaning.specs.Evaluation.{Flow, Job, turn_of, call_of, decided_by, powers_of}
-use Rattle.hs_meaning.specs.Laws.Paces.{Pace, at_pace, leaves_at}
+use Rattle.hs_meaning.specs.Laws.Paces.{Pace, at_pace, leaves_at, decides_by}
 use Rattle.hs_meaning.specs.Machine.{Machine, Done, done, stopped}
 use Rattle.hs_meaning.specs.Runs.{work, called, again_within, starting, ran_within}
 use Rattle.hs_meaning.specs.Statements.{next_turn}
@@ -25,6 +25,7 @@ use Rattle.hs_tree.specs.declared.function.BoundRoutine.{BoundRoutine}
 abbrev pub IsEnding : {A : Type 0} → Outcome → State → Ran A → Type 0
 IsEnding outcome s r = r ≡ over outcome s
 
+-- and so it has after what follows
 pub ending_then : {A B : Type 0} → (outcome : Outcome) (s : State) (r : Ran A) (next : A → Step B) → IsEnding outcome s r
     → IsEnding outcome s (then_with next r)
 ending_then outcome s r next is = ap (then_with next) is
@@ -49,33 +50,26 @@ looser same most (went a s) (over outcome t) is = absurd is
 looser same most (over outcome s) r is = is
 
 module _ (most : ℕ) where
-  abbrev R : Relation
-  R = at_pace (Bounded most)
+  abbrev relation : Relation
+  relation = at_pace (Bounded most)
 
   -- from the state itself it is enough
-  from_one : {A : Type 0} → {same : A → A → Type 0} → {f g : Step A} → ((s : State) → s.turns ≤ most → Alike R same (f s) (g s)) → Follows R same f g
+  from_one : {A : Type 0} → {same : A → A → Type 0} → {f g : Step A} → ((s : State) → s.turns ≤ most → Alike relation same (f s) (g s))
+      → Follows relation same f g
   from_one {same = same} {f = f} {g = g} each =
-      record { go = λ s t is. subst (λ x. Alike R same (f s) (g x)) (sym is.0) (each s is.1) }
+      record { go = λ s t is. subst (λ x. Alike relation same (f s) (g x)) (sym is.0) (each s is.1) }
 
-  done_alike : {A : Type 0} → (at : Pos) (s : State) (its : Done A) → s.turns ≤ most → Alike R Same (ran_at at s its) (ran_at at s its)
+  done_alike : {A : Type 0} → (at : Pos) (s : State) (its : Done A) → s.turns ≤ most → Alike relation Same (ran_at at s its) (ran_at at s its)
   done_alike at s (done it machine) bound = (refl, (refl, bound))
   done_alike at s (stopped why machine) bound = refl
 
-  decided_alike : (it : Option BoundRoutine) → Follows R Units (decided_by it) (decided_by it)
-  decided_alike None = gives tt
-  decided_alike (Some it) = chosen _
-    where
-      chosen : (b : _) → Follows R Units (either b (decided (powers_of it)) (λ s. went tt s)) (either b (decided (powers_of it)) (λ s. went tt s))
-      chosen Rattle.std.specs.Prelude.true = from_one (λ s bound. (tt, (refl, bound)))
-      chosen Rattle.std.specs.Prelude.false = from_one (λ s bound. (tt, (refl, bound)))
-
-  leaves : (setting : Setting) → Leaves R setting
+  leaves : (setting : Setting) → Leaves relation setting
   leaves setting =
       leaves_at (Bounded most) setting
       (record {
         acts_alike = λ {A = A} at act. from_one (λ s bound. done_alike at s (act s.machine) bound);
         finishes = λ {A = A} value s t is. ap (over (Finished value)) is.0;
-        decides = λ place. decided_alike (slice_get setting.routines place);
+        decides = λ place. decides_by (Bounded most) (λ powers. from_one (λ s bound. (tt, (refl, bound)))) (slice_get setting.routines place);
       })
 
 -- a job with its turn, if what follows the turn is so with one turn less
@@ -106,7 +100,8 @@ module _ (setting : Setting) (functions : List TypedFunction) where
 
   -- jobs whose turn is one of so many, if what follows the turn is so with one turn less
   jobs_alike : (most : ℕ) (again other : Job → Step Flow)
-      → ((fewer : ℕ) → most ≡ suc fewer → Agains (at_pace (Bounded fewer)) again other) → Agains (at_pace (Bounded most)) (work setting functions again) (work setting functions other)
+      → ((fewer : ℕ) → most ≡ suc fewer → Agains (at_pace (Bounded fewer)) again other)
+      → Agains (at_pace (Bounded most)) (work setting functions again) (work setting functions other)
   jobs_alike most again other inner =
       record {
         turns = λ function it. from_one most (λ s bound. worked most (next_turn setting again function it) (next_turn setting other function it)
@@ -123,7 +118,8 @@ module _ (setting : Setting) (functions : List TypedFunction) where
   enough_again (suc most) zero enough = absurd (omega (arith, enough))
   enough_again (suc most) (suc fuel) enough =
       jobs_alike (suc most) (again_within setting functions (suc most)) (again_within setting functions (suc fuel))
-      (λ fewer is. subst (λ n. Agains (at_pace (Bounded n)) (again_within setting functions (suc most)) (again_within setting functions (suc fuel))) (less fewer is)
+      (λ fewer is. subst (λ n. Agains (at_pace (Bounded n)) (again_within setting functions (suc most))
+      (again_within setting functions (suc fuel))) (less fewer is)
       (enough_again most fuel within))
     where
       within : most ≤ fuel

@@ -13,7 +13,7 @@ use Rattle.hs_heap.specs.declared.decision.Which.TheVariants.{These}
 use Rattle.hs_meaning.specs.Beside.{Relation, Alike, Follows, gives, thens, Units, Same, Leaves}
 use Rattle.hs_meaning.specs.Beside.Calls as calls
 use Rattle.hs_meaning.specs.Evaluation.{decided_by, powers_of}
-use Rattle.hs_meaning.specs.Laws.Paces.{Pace, at_pace, leaves_at}
+use Rattle.hs_meaning.specs.Laws.Paces.{Pace, at_pace, leaves_at, decides_by}
 use Rattle.hs_meaning.specs.Machine.{Machine, Done, done, stopped, with_blocks}
 use Rattle.hs_meaning.specs.Runs.{starting, ran_within, run, still_run, ending_of}
 use Rattle.hs_meaning.specs.Settings.{Setting, setting_of}
@@ -31,10 +31,12 @@ nothing = record { moves = These []; purges = These [] }
 abbrev pub EndsLikewise : {A : Type 0} → Outcome → State → Ran A → Type 0
 EndsLikewise outcome s r = (t : State) × (r ≡ over outcome t) × (s.machine ≡ t.machine)
 
+-- and so they have after what follows
 pub likewise_then : {A B : Type 0} → (outcome : Outcome) (s : State) (r : Ran A) (next : A → Step B) → EndsLikewise outcome s r
     → EndsLikewise outcome s (then_with next r)
 likewise_then outcome s r next is = (is.0, ap (then_with next) is.1, is.2)
 
+-- the machines are the same, and the schedules are as P says
 abbrev pub Unscheduled : (List Decision → List Decision → Type 0) → Pace
 Unscheduled P =
     record {
@@ -46,20 +48,20 @@ Unscheduled P =
 module _ (P : List Decision → List Decision → Type 0) (program : TypedProgram)
     (decides : (place : ℕ)
     → Follows (at_pace (Unscheduled P)) Units (decided_by (slice_get program.routines place)) (decided_by (slice_get program.routines place))) where
-  abbrev R : Relation
-  R = at_pace (Unscheduled P)
+  abbrev relation : Relation
+  relation = at_pace (Unscheduled P)
 
   one_alike : {A : Type 0} → (at : Pos) (s t : State) (its : Done A) → s.turns ≡ t.turns → P s.schedule t.schedule
-      → Alike R Same (ran_at at s its) (ran_at at t its)
+      → Alike relation Same (ran_at at s its) (ran_at at t its)
   one_alike at s t (done it machine) turns planned = (refl, (refl, turns, planned))
   one_alike at s t (stopped why machine) turns planned = (record t { machine = machine }, refl, refl)
 
   done_alike : {A : Type 0} → (at : Pos) (s t : State) (its other : Done A) → its ≡ other → s.turns ≡ t.turns → P s.schedule t.schedule
-      → Alike R Same (ran_at at s its) (ran_at at t other)
+      → Alike relation Same (ran_at at s its) (ran_at at t other)
   done_alike at s t its other is turns planned =
-      subst (λ x. Alike R Same (ran_at at s its) (ran_at at t x)) is (one_alike at s t its turns planned)
+      subst (λ x. Alike relation Same (ran_at at s its) (ran_at at t x)) is (one_alike at s t its turns planned)
 
-  leaves : Leaves R (setting_of program)
+  leaves : Leaves relation (setting_of program)
   leaves =
       leaves_at (Unscheduled P) (setting_of program)
       (record {
@@ -69,7 +71,7 @@ module _ (P : List Decision → List Decision → Type 0) (program : TypedProgra
       })
 
   turns_alike : (s t : State) (n m : ℕ) → n ≡ m → s.machine ≡ t.machine → P s.schedule t.schedule
-      → Alike R Units (turn_from n s) (turn_from m t)
+      → Alike relation Units (turn_from n s) (turn_from m t)
   turns_alike s t zero zero is same planned = (t, refl, same)
   turns_alike s t zero (suc m) is same planned = absurd cc
   turns_alike s t (suc n) zero is same planned = absurd cc
@@ -78,10 +80,10 @@ module _ (P : List Decision → List Decision → Type 0) (program : TypedProgra
       one_less : suc n ≡ suc m → n ≡ m
       one_less is = omega (Rattle.std.proofs.Common.arith, is)
 
-  turn_alike : Follows R Units turn turn
+  turn_alike : Follows relation Units turn turn
   turn_alike = record { go = λ s t is. turns_alike s t s.turns t.turns is.1 is.0 is.2 }
 
-  same_ending : (r r' : Ran ℤ) → Alike R Same r r' → ending_of r ≡ ending_of r'
+  same_ending : (r r' : Ran ℤ) → Alike relation Same r r' → ending_of r ≡ ending_of r'
   same_ending (went a s) (went b t) is =
       ap (λ value. ending_of (went value s)) is.0 ∙ ap (λ m. ending_of (went b (record s { machine = m }))) is.1.0
   same_ending (went a s) (over outcome t) is = absurd is
@@ -92,7 +94,7 @@ module _ (P : List Decision → List Decision → Type 0) (program : TypedProgra
       → run program input schedule turns ≡ run program input other turns
   one_ending input schedule other turns planned =
       same_ending (ran_within (suc turns) program input schedule turns) (ran_within (suc turns) program input other turns)
-      ((calls.runs_follow R (setting_of program) leaves program.functions turn_alike (record { go = λ s t is. (t, refl, is.0) }) (suc turns)
+      ((calls.runs_follow relation (setting_of program) leaves program.functions turn_alike (record { go = λ s t is. (t, refl, is.0) }) (suc turns)
       (slice_get program.functions program.main)).go (starting (setting_of program) input schedule turns)
       (starting (setting_of program) input other turns) (refl, refl, planned))
 
@@ -125,38 +127,34 @@ later_still : (schedule : List Decision) → AreStill schedule → AreStill (lat
 later_still [] are = tt
 later_still (decision ∷ rest) are = are.1
 
+-- a decision that names no block leaves the machine as it is
 pub decision_stays : (powers : Powers) (s : State) → AreStill s.schedule → (after_decision powers s).machine ≡ s.machine
 decision_stays powers s are =
     ap (λ decision. with_blocks (shift powers decision s.machine.blocks) s.machine) (next_nothing s.schedule are)
     ∙ ap (λ blocks. with_blocks blocks s.machine) (stay_shifted powers 1 s.machine.blocks)
 
+-- both schedules name nothing
 abbrev pub BothStill : List Decision → List Decision → Type 0
 BothStill schedule other = AreStill schedule × AreStill other
 
-still_decides : (it : Option BoundRoutine) → Follows (at_pace (Unscheduled BothStill)) Units (decided_by it) (decided_by it)
-still_decides None = gives tt
-still_decides (Some it) = chosen _
-  where
-    chosen : (b : Bool) → Follows (at_pace (Unscheduled BothStill)) Units (either b (decided (powers_of it)) (λ s. went tt s))
-        (either b (decided (powers_of it)) (λ s. went tt s))
-    chosen true =
-        record {
-          go = λ s t is. (
-            tt,
-            (
-              decision_stays (powers_of it) s is.2.0 ∙ is.0 ∙ sym (decision_stays (powers_of it) t is.2.1),
-              is.1,
-              (later_still s.schedule is.2.0, later_still t.schedule is.2.1),
-            ),
-          );
-        }
-    chosen false = gives tt
+still_decides : (powers : Powers) → Follows (at_pace (Unscheduled BothStill)) Units (decided powers) (decided powers)
+still_decides powers =
+    record {
+      go = λ s t is. (
+        tt,
+        (
+          decision_stays powers s is.2.0 ∙ is.0 ∙ sym (decision_stays powers t is.2.1),
+          is.1,
+          (later_still s.schedule is.2.0, later_still t.schedule is.2.1),
+        ),
+      );
+    }
 
 -- a schedule of decisions that name nothing is the empty one: such a run is the still run
 pub still_schedules_are_one : (program : TypedProgram) (input : Input) (schedule : List Decision) (turns : ℕ) → AreStill schedule
     → run program input schedule turns ≡ still_run program input turns
 still_schedules_are_one program input schedule turns are =
-    one_ending BothStill program (λ place. still_decides (slice_get program.routines place)) input schedule [] turns (are, tt)
+    one_ending BothStill program (λ place. decides_by (Unscheduled BothStill) still_decides (slice_get program.routines place)) input schedule [] turns (are, tt)
 
 -- ---- programs without movers
 
@@ -164,6 +162,7 @@ still_schedules_are_one program input schedule turns are =
 abbrev pub HasNoMovers : TypedProgram → Type 0
 HasNoMovers program = AllByRecursion (λ it. (it.routine.moves || it.routine.purges) ≡ false) program.routines
 
+-- nothing is asked of the schedules
 abbrev pub AnySchedules : List Decision → List Decision → Type 0
 AnySchedules schedule other = Unit {0}
 

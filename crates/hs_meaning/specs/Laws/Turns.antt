@@ -10,7 +10,7 @@ use Rattle.hs_meaning.specs.Beside.{Relation, Alike, Follows, gives, thens, Unit
 use Rattle.hs_meaning.specs.Beside.Calls as calls
 use Rattle.hs_meaning.specs.Evaluation.{decided_by, powers_of}
 use Rattle.hs_meaning.specs.Laws.Fuel.{enough_fuel}
-use Rattle.hs_meaning.specs.Laws.Paces.{Pace, at_pace, leaves_at}
+use Rattle.hs_meaning.specs.Laws.Paces.{Pace, at_pace, leaves_at, decides_by}
 use Rattle.hs_meaning.specs.Machine.{Machine, Done, done, stopped}
 use Rattle.hs_meaning.specs.Runs.{starting, ran_within, run, Ending, ending_of}
 use Rattle.hs_meaning.specs.Settings.{Setting, setting_of}
@@ -21,6 +21,7 @@ use Rattle.hs_meaning.specs.declared.outcome.Outcome.TheVariants.{Finished, Stop
 use Rattle.hs_tree.specs.Trees.{TypedProgram}
 use Rattle.hs_tree.specs.declared.function.BoundRoutine.{BoundRoutine}
 
+-- the same state, with so many turns more
 abbrev pub later : ℕ → State → State
 later more s = record s { turns = s.turns + more }
 
@@ -30,12 +31,14 @@ IsKept more TurnsSpent s r = Unit {0}
 IsKept more (Finished value) s r = r ≡ over (Finished value) (later more s)
 IsKept more (Stopped why at) s r = r ≡ over (Stopped why at) (later more s)
 
+-- and so it is after what follows
 pub kept_then : {A B : Type 0} → (more : ℕ) (outcome : Outcome) (s : State) (r : Ran A) (next : A → Step B) → IsKept more outcome s r
     → IsKept more outcome s (then_with next r)
 kept_then more TurnsSpent s r next is = tt
 kept_then more (Finished value) s r next is = ap (then_with next) is
 kept_then more (Stopped why at) s r next is = ap (then_with next) is
 
+-- the second run has so many turns more
 abbrev pub MoreTurns : ℕ → Pace
 MoreTurns more =
     record {
@@ -45,39 +48,29 @@ MoreTurns more =
     }
 
 module _ (more : ℕ) where
-  abbrev R : Relation
-  R = at_pace (MoreTurns more)
+  abbrev relation : Relation
+  relation = at_pace (MoreTurns more)
 
   -- from the state itself it is enough
-  from_later : {A : Type 0} → {same : A → A → Type 0} → {f g : Step A} → ((s : State) → Alike R same (f s) (g (later more s))) → Follows R same f g
+  from_later : {A : Type 0} → {same : A → A → Type 0} → {f g : Step A} → ((s : State) → Alike relation same (f s) (g (later more s)))
+      → Follows relation same f g
   from_later {same = same} {f = f} {g = g} each =
-      record { go = λ s t is. subst (λ x. Alike R same (f s) (g x)) (sym is) (each s) }
+      record { go = λ s t is. subst (λ x. Alike relation same (f s) (g x)) (sym is) (each s) }
 
-  done_alike : {A : Type 0} → (at : Pos) (s : State) (its : Done A) → Alike R Same (ran_at at s its) (ran_at at (later more s) its)
+  done_alike : {A : Type 0} → (at : Pos) (s : State) (its : Done A) → Alike relation Same (ran_at at s its) (ran_at at (later more s) its)
   done_alike at s (done it machine) = (refl, refl)
   done_alike at s (stopped why machine) = refl
 
-  decided_alike : (it : Option BoundRoutine) → Follows R Units (decided_by it) (decided_by it)
-  decided_alike None = gives tt
-  decided_alike (Some it) = shifted (powers_of it)
-    where
-      chosen : (powers : Powers) (b : Bool) → Follows R Units (either b (decided powers) (λ s. went tt s)) (either b (decided powers) (λ s. went tt s))
-      chosen powers true = from_later (λ s. (tt, refl))
-      chosen powers false = from_later (λ s. (tt, refl))
-
-      shifted : (powers : Powers) → Follows R Units (shifted_by powers) (shifted_by powers)
-      shifted powers = chosen powers _
-
-  pub leaves : (setting : Setting) → Leaves R setting
+  pub leaves : (setting : Setting) → Leaves relation setting
   leaves setting =
       leaves_at (MoreTurns more) setting
       (record {
         acts_alike = λ {A = A} at act. from_later (λ s. done_alike at s (act s.machine));
         finishes = λ {A = A} value s t is. ap (over (Finished value)) is;
-        decides = λ place. decided_alike (slice_get setting.routines place);
+        decides = λ place. decides_by (MoreTurns more) (λ powers. from_later (λ s. (tt, refl))) (slice_get setting.routines place);
       })
 
-  turns_alike : (s : State) (n : ℕ) → s.turns ≡ n → Alike R Units (turn_from n s) (turn_from (n + more) (later more s))
+  turns_alike : (s : State) (n : ℕ) → s.turns ≡ n → Alike relation Units (turn_from n s) (turn_from (n + more) (later more s))
   turns_alike s zero is = tt
   turns_alike s (suc left) is =
       rw (the_sum left) (tt, refl)
@@ -85,13 +78,13 @@ module _ (more : ℕ) where
       the_sum : (left : ℕ) → suc left + more ≡ suc (left + more)
       the_sum left = omega arith
 
-  pub turn_alike : Follows R Units turn turn
+  pub turn_alike : Follows relation Units turn turn
   turn_alike = from_later (λ s. turns_alike s s.turns refl)
 
   pub alike_with_more_turns : (program : TypedProgram) (input : Input) (schedule : List Decision) (fuel turns : ℕ)
-      → Alike R Same (ran_within fuel program input schedule turns) (ran_within fuel program input schedule (turns + more))
+      → Alike relation Same (ran_within fuel program input schedule turns) (ran_within fuel program input schedule (turns + more))
   alike_with_more_turns program input schedule fuel turns =
-      (calls.runs_follow R (setting_of program) (leaves (setting_of program)) program.functions turn_alike (record { go = λ s t is. tt }) fuel
+      (calls.runs_follow relation (setting_of program) (leaves (setting_of program)) program.functions turn_alike (record { go = λ s t is. tt }) fuel
       (slice_get program.functions program.main)).go (starting (setting_of program) input schedule turns)
       (starting (setting_of program) input schedule (turns + more)) refl
 

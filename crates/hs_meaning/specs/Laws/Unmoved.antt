@@ -32,21 +32,25 @@ use Rattle.hs_meaning.specs.Values.{Value, number, pointer, state, structure, ep
 abbrev pub IsUnmovedPointer : Pointer → Type 0
 IsUnmovedPointer its = epoch_of its ≡ 0
 
+-- a part of such a pointer, or no part
 abbrev pub IsUnmovedCell : Cell → Type 0
 IsUnmovedCell Undefined = Unit {0}
 IsUnmovedCell (Byte byte) = Unit {0}
 IsUnmovedCell (State byte) = Unit {0}
 IsUnmovedCell (Part place its class) = IsUnmovedPointer its
 
+-- all of the cells
 abbrev pub AreUnmoved : List Cell → Type 0
 AreUnmoved cells = AllByRecursion IsUnmovedCell cells
 
+-- a value without another pointer
 abbrev pub IsUnmoved : Value → Type 0
 IsUnmoved (number bits) = Unit {0}
 IsUnmoved (pointer its) = IsUnmovedPointer its
 IsUnmoved (state byte) = Unit {0}
 IsUnmoved (structure cells) = AreUnmoved cells
 
+-- a slot with such a value, or none
 abbrev pub IsUnmovedBinding : Binding → Type 0
 IsUnmovedBinding (slot None) = Unit {0}
 IsUnmovedBinding (slot (Some value)) = IsUnmoved value
@@ -59,14 +63,17 @@ IsUnpurged Emptied = Unit {0}
 IsUnpurged Purged = ⊥
 IsUnpurged Disposed = Unit {0}
 
+-- it was neither moved nor purged
 pub record IsUnmovedBlock (block : Block) : Type 0 where
   pub epoch : block.epoch ≡ 0
   pub presence : IsUnpurged block.presence
   pub cells : AreUnmoved block.cells
 
+-- an object without another pointer
 abbrev pub IsUnmovedObject : Object → Type 0
 IsUnmovedObject its = AreUnmoved its.cells
 
+-- the whole machine
 pub record IsStillMachine (machine : Machine) : Type 0 where
   pub blocks : AllByRecursion IsUnmovedBlock machine.blocks
   pub objects : AllByRecursion IsUnmovedObject machine.objects
@@ -78,10 +85,12 @@ abbrev pub IsStillDone : {A : Type 0} → (A → Type 0) → Done A → Type 0
 IsStillDone fact (done it machine) = fact it × IsStillMachine machine
 IsStillDone fact (stopped why machine) = ¬ (IsMisuseStop why)
 
+-- where such a pointer reaches
 abbrev pub IsUnmovedLocation : Location → Type 0
 IsUnmovedLocation (in_slot name) = Unit {0}
 IsUnmovedLocation (at_pointer its) = IsUnmovedPointer its
 
+-- a return of such a value
 abbrev pub IsUnmovedFlow : Flow → Type 0
 IsUnmovedFlow onward = Unit {0}
 IsUnmovedFlow breaks = Unit {0}
