@@ -1,13 +1,14 @@
 -- The code of one small program, as it is written by hand, runs to the ending that the program has:
 --     h = NewHandle(4); **h = 65; p = *h; g = NewHandle(4); putchar(*p); return 0;
-use Rattle.std.proofs.Common.{◌≡◌, ℕ, pos, true, false, List, [], ◌∷◌, Some, None, refl}
+use Rattle.std.proofs.Common.{◌≡◌, ℕ, pos, ◌==◌, true, false, List, [], ◌∷◌, length, Option, Some, None, if◌then◌else◌, refl}
 use Rattle.std.specs.Prelude.{codes}
 use Rattle.hs_base.specs.declared.pos.Pos.{Pos}
+use Rattle.hs_code.specs.Stacks.{Kind, number, pointer, structure, kinds_after}
 use Rattle.hs_code.specs.declared.function_code.Placed.{Placed}
 use Rattle.hs_code.specs.declared.op.Access.TheVariants as access
 use Rattle.hs_code.specs.declared.op.Op.{Op}
 use Rattle.hs_code.specs.declared.op.Op.TheVariants as op
-use Rattle.hs_code_run.specs.Codes.{CodeFunction, CodeProgram, Point}
+use Rattle.hs_code_run.specs.Codes.{CodeFunction, CodeProgram, Point, scope_of}
 use Rattle.hs_code_run.specs.Runs.{begun, steps}
 use Rattle.hs_heap.specs.declared.decision.Decision.{Decision}
 use Rattle.hs_heap.specs.declared.decision.Which.TheVariants.{All, These}
@@ -172,7 +173,7 @@ operations =
     ∷ []))
 
 abbrev main_code : CodeFunction
-main_code = record { opening = spot 3 1; parameters = 0; variables = variables; code = record { ops = operations; cases = [] } }
+main_code = record { opening = spot 3 1; result = int; parameters = 0; variables = variables; code = record { ops = operations; cases = [] } }
 
 abbrev code : CodeProgram
 code = record { setting = setting_of program; functions = main_code ∷ []; main = 0 }
@@ -207,3 +208,42 @@ it_is_stale = refl
 
 it_is_stale_as_the_program : code_run (nothing ∷ everything ∷ []) ≡ run program no_input (nothing ∷ everything ∷ []) 0
 it_is_stale_as_the_program = refl
+
+-- ---- the kinds on its stack
+
+abbrev kinds_of_one : Op → List Kind → Option (List Kind)
+kinds_of_one its kinds = kinds_after (scope_of code main_code) its kinds
+
+-- the kinds after an operation, if it notes how many values there are, and has its operands
+abbrev next_kinds : Placed → Option (List Kind) → Option (List Kind)
+next_kinds its None = None
+next_kinds its (Some kinds) = if its.places == length kinds then kinds_of_one its.op kinds else None
+
+-- after those operations, one after the other
+abbrev kinds_along : List Placed → Option (List Kind) → Option (List Kind)
+kinds_along [] kinds = kinds
+kinds_along (its ∷ rest) kinds = kinds_along rest (next_kinds its kinds)
+
+it_has_its_operands : kinds_along operations (Some []) ≡ Some []
+it_has_its_operands = refl
+
+a_count_is_wrong : kinds_along (placed 3 1 1 op.Mark ∷ []) (Some []) ≡ None
+a_count_is_wrong = refl
+
+nothing_is_popped_from_an_empty_stack : kinds_of_one op.Drop [] ≡ None
+nothing_is_popped_from_an_empty_stack = refl
+
+a_number_is_no_address : kinds_of_one (op.Load (access.Pointer 0)) (number ∷ []) ≡ None
+a_number_is_no_address = refl
+
+a_routine_takes_its_arguments : kinds_of_one (op.Routine 0) (number ∷ structure ∷ []) ≡ Some (pointer ∷ structure ∷ [])
+a_routine_takes_its_arguments = refl
+
+a_pointer_is_no_number : kinds_of_one (op.Routine 0) (pointer ∷ []) ≡ None
+a_pointer_is_no_number = refl
+
+a_slot_is_given_its_kind : kinds_of_one (op.Set (name.Local 0)) (number ∷ []) ≡ None
+a_slot_is_given_its_kind = refl
+
+the_second_is_brought : kinds_of_one (op.Bring 2) (number ∷ pointer ∷ structure ∷ []) ≡ Some (pointer ∷ number ∷ structure ∷ [])
+the_second_is_brought = refl

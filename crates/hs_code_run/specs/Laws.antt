@@ -1,4 +1,5 @@
 -- Laws of code runs.
+pub mod Depths
 pub mod Epochs
 pub mod OneWay
 pub mod Turns

@@ -1,11 +1,13 @@
 //! Laws of the runs of code. Each is a function without a body, so that a caller can name it.
-ghost use Rattle.std.specs.Prelude.{◌≡◌, ℕ, Bool, false, List, slice_get};
-ghost use Rattle.hs_code_run.specs.Codes.{CodeProgram, Point};
+ghost use Rattle.std.specs.Prelude.{◌≡◌, ℕ, Bool, false, List, length, slice_get, Some};
+ghost use Rattle.hs_code.specs.declared.function_code.Placed.{Placed};
+ghost use Rattle.hs_code_run.specs.Codes.{CodeFunction, CodeProgram, Point};
+ghost use Rattle.hs_code_run.specs.Depths.{AreStacked, IsDeepPoint};
 ghost use Rattle.hs_code_run.specs.Laws.Epochs.{RanKeeps, is_shift_at};
-ghost use Rattle.hs_code_run.specs.Runs.{Comes};
+ghost use Rattle.hs_code_run.specs.Runs.{Comes, starting_point};
 ghost use Rattle.hs_code_run.specs.Steps.{stepped};
 ghost use Rattle.hs_meaning.specs.Laws.Turns.{later};
-ghost use Rattle.hs_meaning.specs.Steps.{State};
+ghost use Rattle.hs_meaning.specs.Steps.{State, went};
 ghost use Rattle.hs_meaning.specs.declared.outcome.Outcome.{Outcome};
 ghost use Rattle.hs_meaning.specs.declared.outcome.Outcome.TheVariants.{TurnsSpent};
 
@@ -29,4 +31,23 @@ pub fn only_shifts_move()
     ensures { (program : CodeProgram) (point : Point) (s : State)
         → is_shift_at (slice_get point.frame.code.ops point.frame.at) ≡ false
         → RanKeeps s (stepped program point s) }
+{}
+
+/// Steps keep the depth, in a program whose operations have their operands: a run begins at an operation that is reached with nothing on the
+/// stack, and after a step each call is at an operation that is reached with as many values as are on its stack. The operation that is next
+/// notes that number.
+pub fn steps_keep_the_depth()
+    ensures begins { (program : CodeProgram) (function : CodeFunction) (choices : List Bool)
+        → slice_get program.functions program.main ≡ Some function
+        → IsDeepPoint program (starting_point function choices) }
+    ensures keeps { (program : CodeProgram) (point next : Point) (s t : State)
+        → AreStacked program
+        → IsDeepPoint program point
+        → stepped program point s ≡ went next t
+        → IsDeepPoint program next }
+    ensures notes { (program : CodeProgram) (point : Point) (its : Placed)
+        → AreStacked program
+        → IsDeepPoint program point
+        → slice_get point.frame.code.ops point.frame.at ≡ Some its
+        → length point.frame.stack ≡ its.places }
 {}

@@ -1,5 +1,5 @@
 -- Parts of stacks that correspond do.
-use Rattle.std.proofs.Common.{◌≡◌, ℕ, zero, suc, Bool, true, false, List, [], ◌∷◌, Option, Some, None, refl}
+use Rattle.std.proofs.Common.{◌≡◌, ℕ, zero, suc, List, [], ◌∷◌, Option, Some, None, refl}
 use Rattle.hs_code_run.specs.Steps.{taken_onto, taken, below, holds, under, picked, on_top, brought}
 use Rattle.hs_meaning.specs.Beside.{Relation, Lists}
 use Rattle.hs_meaning.specs.Values.{Value}

@@ -2,7 +2,6 @@
 use Rattle.std.proofs.Common.{◌≡◌, ℤ, ℕ, zero, suc, ◌==◌, Bool, true, false, List, [], ◌∷◌, slice_get, Option, Some, None, refl, sym, ap, ◌∙◌, subst}
 use Rattle.hs_base.specs.declared.pos.Pos.{Pos}
 use Rattle.hs_code.specs.declared.function_code.Placed.{Placed}
-use Rattle.hs_code.specs.declared.op.Goal.{Goal}
 use Rattle.hs_code.specs.declared.op.Object.{Object}
 use Rattle.hs_code.specs.declared.op.Object.TheVariants as object
 use Rattle.hs_code.specs.declared.op.Op.{Op}
@@ -10,17 +9,14 @@ use Rattle.hs_code.specs.declared.op.Op.TheVariants as op
 use Rattle.hs_code_run.specs.Beside.{IsWaitingAlike, Waitings, Points, with_values}
 use Rattle.hs_code_run.specs.Beside.Stacks.{taken_alike, below_alike, holds_alike, brought_alike}
 use Rattle.hs_code_run.specs.Codes.{CodeFunction, CodeProgram, Waiting, Point}
-use Rattle.hs_code_run.specs.Steps as steps
 use Rattle.hs_code_run.specs.Steps.{stepped, stepped_at, by_stack, by_operation, operates_if, routine_called, function_called, returned_to, misfits, operation_of, routine_arguments, taken, below, holds, brought, address_at, onward, onto, onto_if, next_choice, later_choices, case_for, entered}
 use Rattle.hs_heap.specs.declared.cell.Pointer.TheVariants.{Nil}
-use Rattle.hs_meaning.specs.Beside.{Relation, Alike, Follows, gives, thens, Units, Same, Lists, Locations, Leaves}
-use Rattle.hs_meaning.specs.Evaluation.{variable_at, address_of}
+use Rattle.hs_meaning.specs.Beside.{Relation, Follows, gives, thens, Units, Lists, Leaves}
 use Rattle.hs_meaning.specs.Machine.{Binding}
 use Rattle.hs_meaning.specs.Numbers.{signed}
 use Rattle.hs_meaning.specs.Operations as operation
 use Rattle.hs_meaning.specs.Operations.{Operation}
-use Rattle.hs_meaning.specs.Settings.{Setting}
-use Rattle.hs_meaning.specs.Steps.{State, Ran, went, over, Step, ◌>>=◌, give, ends, acts, turn}
+use Rattle.hs_meaning.specs.Steps.{give, ends, turn}
 use Rattle.hs_meaning.specs.Values.{Value, number, pointer}
 use Rattle.hs_meaning.specs.declared.outcome.Outcome.TheVariants.{Finished}
 use Rattle.hs_tree.specs.declared.constant.Base.TheVariants as base

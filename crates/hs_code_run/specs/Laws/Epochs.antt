@@ -2,7 +2,7 @@
 --     RanKeeps before ran         each block has the epoch that it had before
 --     Keeps step                  the same of a step, from any state
 --     only_shifts_move            the law
-use Rattle.std.proofs.Common.{◌≡◌, ℕ, zero, suc, ◌==◌, Bool, true, false, List, [], ◌∷◌, slice_get, Option, Some, None, refl, ap, subst}
+use Rattle.std.proofs.Common.{◌≡◌, ℕ, zero, suc, Bool, true, false, List, [], ◌∷◌, slice_get, Option, Some, None}
 use Rattle.hs_base.specs.declared.pos.Pos.{Pos}
 use Rattle.hs_code.specs.declared.function_code.Placed.{Placed}
 use Rattle.hs_code.specs.declared.op.Object.{Object}
@@ -10,7 +10,7 @@ use Rattle.hs_code.specs.declared.op.Object.TheVariants as object
 use Rattle.hs_code.specs.declared.op.Op.{Op}
 use Rattle.hs_code.specs.declared.op.Op.TheVariants as op
 use Rattle.hs_code_run.specs.Codes.{CodeFunction, CodeProgram, Waiting, Point}
-use Rattle.hs_code_run.specs.Steps.{stepped, stepped_at, by_stack, by_operation, operates_if, routine_called, function_called, returned_to, misfits, operation_of, routine_arguments, taken, holds, address_at}
+use Rattle.hs_code_run.specs.Steps.{stepped, stepped_at, by_stack, by_operation, operates_if, routine_called, function_called, returned_to, operation_of, routine_arguments, taken, holds, address_at}
 use Rattle.hs_meaning.specs.Evaluation.{variable_at, address_of}
 use Rattle.hs_meaning.specs.Frames.{opened}
 use Rattle.hs_meaning.specs.Laws.Epochs.{EpochsStay, KeepsEpochs, same_stay, stay_then}
