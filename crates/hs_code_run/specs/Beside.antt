@@ -25,6 +25,7 @@ module _ (R : Relation) where
   Waitings (a ∷ rest) [] = ⊥
   Waitings (a ∷ rest) (b ∷ others) = IsWaitingAlike a b × Waitings rest others
 
+  -- one point
   pub record Points (a b : Point) : Type 0 where
     pub code : a.frame.code ≡ b.frame.code
     pub at : a.frame.at ≡ b.frame.at

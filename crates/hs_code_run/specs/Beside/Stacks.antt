@@ -32,6 +32,7 @@ module _ (R : Relation) where
   holds_alike (suc more) (v ∷ a) [] is = absurd is
   holds_alike (suc more) (v ∷ a) (w ∷ b) is = holds_alike more a b is.1
 
+  -- what was picked, and the others
   abbrev Picks : Option (Value × List Value) → Option (Value × List Value) → Type 0
   Picks None None = Unit {0}
   Picks None (Some b) = ⊥
