@@ -27,3 +27,9 @@ mod Uses
 mod Powers
 mod Nested
 mod Between
+mod Comparisons
+mod Cells
+mod Order
+mod Allocations
+mod Fills
+mod Branches
