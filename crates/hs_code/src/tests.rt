@@ -1,6 +1,7 @@
 //! What can follow an operation, on the code of a small function.
 
-use crate::{Case, Cases, FunctionCode, Goal, Op, Operations, Placed, Successors, succ};
+use crate::{Case, Cases, Effects, FunctionCode, Goal, Op, Operations, Placed, Successors, succ};
+use bitflags::Flags;
 use hs_base::Pos;
 use std::alloc::{AllocError, Global};
 use std::test::Fail;
@@ -74,5 +75,16 @@ fn control_goes_on_as_the_operation_says(rt: HostRuntime) -> Result<(), Fail> {
         }),
     ];
     assert_eq!(rt; successors(rt.alloc()).ok(), Some(wanted));
+    Ok(())
+}
+
+// Own: docs/CODE.md, "What a function may do".
+#[test]
+fn effects_are_a_set(rt: HostRuntime) -> Result<(), Fail> {
+    let both = Effects::MOVES.union(Effects::PURGES);
+    assert_eq!(rt; both.contains(Effects::MOVES), true);
+    assert_eq!(rt; both.contains(Effects::PURGES), true);
+    assert_eq!(rt; both.intersects(Effects::UNLOCKS), false);
+    assert_eq!(rt; both.bits(), 3);
     Ok(())
 }

@@ -1,7 +1,8 @@
 //! Laws of the runs of code. Each is a function without a body, so that a caller can name it.
 ghost use Rattle.std.specs.Prelude.{◌≡◌, ℕ, Bool, false, List, length, slice_get, Some};
+ghost use Rattle.hs_code.specs.Codes.{view_program};
 ghost use Rattle.hs_code.specs.declared.function_code.Placed.{Placed};
-ghost use Rattle.hs_code_run.specs.Codes.{CodeFunction, CodeProgram, Point};
+ghost use Rattle.hs_code_run.specs.Codes.{CodeFunction, CodeProgram, Point, code_program};
 ghost use Rattle.hs_code_run.specs.Depths.{AreStacked, IsDeepPoint};
 ghost use Rattle.hs_code_run.specs.Laws.Epochs.{RanKeeps, is_shift_at};
 ghost use Rattle.hs_code_run.specs.Runs.{Comes, starting_point};
@@ -10,6 +11,8 @@ ghost use Rattle.hs_meaning.specs.Laws.Turns.{later};
 ghost use Rattle.hs_meaning.specs.Steps.{State, went};
 ghost use Rattle.hs_meaning.specs.declared.outcome.Outcome.{Outcome};
 ghost use Rattle.hs_meaning.specs.declared.outcome.Outcome.TheVariants.{TurnsSpent};
+
+use hs_code::Code;
 
 /// A run of code is a function of its arguments: from one point and state it ends in one way.
 pub fn runs_are_functions()
@@ -50,4 +53,9 @@ pub fn steps_keep_the_depth()
         → IsDeepPoint program point
         → slice_get point.frame.code.ops point.frame.at ≡ Some its
         → length point.frame.stack ≡ its.places }
+{}
+
+/// The code of a program, as its type keeps it, has its operands. So in its runs the steps keep the depth.
+pub fn code_has_its_operands(code: &Code)
+    ensures { ∥ AreStacked (code_program (view_program code.now.program.now) code.now.functions.items) ∥₁ }
 {}

@@ -1,3 +1,4 @@
 pub mod Control
+pub mod Programs
 pub mod Stacks
 pub mod Steps

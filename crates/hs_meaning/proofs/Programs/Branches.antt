@@ -61,9 +61,12 @@ return_of_switch = (grind (arith), refl)
 
 -- int i = 5, j = i + 1; return j; the names of a declaration in their order
 two_names : starts_with
-    (record { at = at 4 5; items =
-    record { variable = 5; at = at 4 9; start = tree.value (num 4 13 5) }
-    ∷ record { variable = 6; at = at 4 16; start = tree.value (of_ints 4 22 Add (get 4 20 int 5) (num 4 24 1)) } ∷ [] } ∷ [])
+    (record {
+      at = at 4 5;
+      items =
+          record { variable = 5; at = at 4 9; start = tree.value (num 4 13 5) }
+          ∷ record { variable = 6; at = at 4 16; start = tree.value (of_ints 4 22 Add (get 4 20 int 5) (num 4 24 1)) } ∷ [];
+    } ∷ [])
     (return 6 (get 6 12 int 6) ∷ [])
     comes_to finished [] (pos 6)
 two_names = (grind (arith), refl)

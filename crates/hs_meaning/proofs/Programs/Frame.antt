@@ -5,6 +5,7 @@ use Rattle.hs_meaning.proofs.Programs.Forms.{as_kind, assigned, through, moves}
 use Rattle.hs_meaning.proofs.Programs.Row.{run, ◌comes_to◌}
 use Rattle.hs_meaning.proofs.Programs.Terms.{char, get, put, num, at_pointer, done_by, return, new_handle, lock, unlock, putchar, variable, program, no_input}
 use Rattle.hs_meaning.proofs.Programs.Terms.{nothing, everything, finished, stopped}
+use Rattle.hs_meaning.specs.Runs.{IsSafe}
 use Rattle.hs_meaning.specs.declared.outcome.Stop.TheVariants as stop
 use Rattle.hs_tree.specs.Trees.{TypedProgram, TypedStatement}
 use Rattle.hs_tree.specs.declared.head.VariableDecl.{VariableDecl}
@@ -43,6 +44,10 @@ it_prints = (grind (arith), refl)
 
 it_is_stale : run kept no_input (nothing ∷ everything ∷ []) 0 comes_to stopped [] stop.Stale 11 13
 it_is_stale = (grind (arith), refl)
+
+-- so it is not safe
+it_is_not_safe : ¬ IsSafe kept
+it_is_not_safe safe = (safe no_input (nothing ∷ everything ∷ []) 0).1 tt
 
 -- an input that refuses the first allocation
 it_is_nil : run kept (record { bytes = []; words = []; refused = 1 ∷ [] }) [] 0 comes_to stopped [] stop.Nil 7 6
