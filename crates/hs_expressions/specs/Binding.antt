@@ -21,6 +21,7 @@ use Rattle.hs_syntax.specs.Trees.{Expression}
 use Rattle.hs_tree.specs.Fitting.{declared, is_taken_variable, types_of, prototype_in, InRange, FitsFunction, FitsRoutine, IsFieldTaken, IsMarked}
 use Rattle.hs_tree.specs.Kinds.{AreAlike}
 use Rattle.hs_tree.specs.Inside.{Node, EachRight, EachLeft}
+use Rattle.hs_tree.specs.Sameness.{AreOne}
 use Rattle.hs_tree.specs.Trees.{TypedFunction, TypedProgram}
 use Rattle.hs_tree.specs.declared.function.Prototype.{Prototype}
 use Rattle.hs_types.specs.TypeTables.{TypeTable, row_of, Grows}
@@ -54,25 +55,34 @@ abbrev pub IsSignature : TypeTable → TypeId → List TypeId → TypeId → Typ
 IsSignature types id parameters result =
     (list : ListId) × (row_of types id ≡ Some (row.Function result list)) × IsList types list parameters
 
--- as many types, each like the other one
+-- as many types, each `alike` to the other one
+abbrev pub AllBy : (TypeId → TypeId → Type 0) → List TypeId → List TypeId → Type 0
+AllBy alike [] [] = Unit {0}
+AllBy alike [] (other ∷ others) = ⊥
+AllBy alike (one ∷ ones) [] = ⊥
+AllBy alike (one ∷ ones) (other ∷ others) = alike one other × AllBy alike ones others
+
+-- of the same categories
 abbrev pub AllAlike : TypeTable → List TypeId → List TypeId → Type 0
-AllAlike types [] [] = Unit {0}
-AllAlike types [] (other ∷ others) = ⊥
-AllAlike types (one ∷ ones) [] = ⊥
-AllAlike types (one ∷ ones) (other ∷ others) = AreAlike types one other × AllAlike types ones others
+AllAlike types ones others = AllBy (AreAlike types) ones others
 
--- the type is that of a function with parameters and a result like these, by the types of the program
+-- the type is that of a function with parameters and a result that are `alike` to these
+abbrev pub IsLikeBy : (TypeId → TypeId → Type 0) → TypeTable → TypeId → List TypeId → TypeId → Type 0
+IsLikeBy alike types id parameters result =
+    (its : List TypeId) × ((gives : TypeId) × IsSignature types id its gives × AllBy alike its parameters × alike gives result)
+
+-- of the same categories, by the types of the program
 abbrev pub IsLike : TypeTable → TypeTable → TypeId → List TypeId → TypeId → Type 0
-IsLike within types id parameters result =
-    (its : List TypeId) × ((gives : TypeId) × IsSignature types id its gives × AllAlike within its parameters × AreAlike within gives result)
+IsLike within types id parameters result = IsLikeBy (AreAlike within) types id parameters result
 
--- a defined function of a type like that
-abbrev pub IsDefined : TypeTable → TypeTable → TypeId → Option TypedFunction → Type 0
-IsDefined within types id None = ⊥
-IsDefined within types id (Some its) = IsLike within types id (types_of (take its.parameters its.variables)) its.result
+-- a defined function of a type that is one with that, in the program
+abbrev pub IsDefined : TypedProgram → TypeTable → TypeId → Option TypedFunction → Type 0
+IsDefined program types id None = ⊥
+IsDefined program types id (Some its) =
+    IsLikeBy (AreOne program.same program.types) types id (types_of (take its.parameters its.variables)) its.result
 
 abbrev pub BindsAs : TypedProgram → TypeTable → TypeId → Bound → Type 0
-BindsAs program types id (bound.Function number) = IsDefined program.types types id (slice_get program.functions number)
+BindsAs program types id (bound.Function number) = IsDefined program types id (slice_get program.functions number)
 BindsAs program types id (bound.Routine number) = number < length program.routines
 BindsAs program types id bound.Nothing = Unit {0}
 
@@ -86,13 +96,13 @@ BindsName program function types (entity.Typedef id) = Unit {0}
 abbrev pub Binds : TypedProgram → TypedFunction → Typer → Type 0
 Binds program function s = AllByRecursion (λ it. BindsName program function s.types it.entity) s.names.declarations
 
--- the declaration of a routine that is called is like the program's
-abbrev pub IsPrototype : TypeTable → TypeTable → TypeId → Option Prototype → Type 0
-IsPrototype within types id None = ⊥
-IsPrototype within types id (Some its) = IsLike within types id its.parameters its.result
+-- the declaration of a routine that is called is one with the program's
+abbrev pub IsPrototype : (TypeId → TypeId → Type 0) → TypeTable → TypeId → Option Prototype → Type 0
+IsPrototype alike types id None = ⊥
+IsPrototype alike types id (Some its) = IsLikeBy alike types id its.parameters its.result
 
 abbrev pub IsNotedCall : TypedProgram → TypeTable → RoutineCall → Type 0
-IsNotedCall program types call = IsPrototype program.types types call.type_id (prototype_in (slice_get program.routines call.routine))
+IsNotedCall program types call = IsPrototype (AreOne program.same program.types) types call.type_id (prototype_in (slice_get program.routines call.routine))
 
 -- what the address is taken of is marked, if it is there
 abbrev pub IsNotedAddress : TypedProgram → TypedFunction → Taken → Type 0

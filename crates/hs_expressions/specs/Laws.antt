@@ -19,13 +19,18 @@ use Rattle.hs_tree.specs.Trees.{TypedFunction, TypedProgram}
 use Rattle.hs_types.specs.TypeTables.{IsRight, Grows}
 pub mod Always
 pub mod Applied
+pub mod Bodies
+pub mod Braces
+pub mod Entries
 pub mod Extending
 pub mod Grown
 pub mod Keeping
 pub mod Leaves
 pub mod Operating
+pub mod Origins
 pub mod Primary
 pub mod Reached
+pub mod Traced
 pub mod Typing
 
 -- an enumeration constant

@@ -82,7 +82,7 @@ module _ (start : TypeTable) (id of : TypeId) (types : TypeTable) (grows : Grows
   ended_alike : (at : Place) (given : Result (TypeId × TypeTable) TypeEnd) → MadeAlike start types id given → Growing types given
       → AlikeSized start id (untyped_end at given)
   unfolding MadeAlike AlikeSized
-  ended_alike at (Ok p) is further = is further
+  ended_alike at (Ok p) is further = is further.0
   ended_alike at (Err why) is further = tt
 
 sized_by_alike : (start : TypeTable) (at : Place) (id : TypeId) (count : ℕ) (types : TypeTable) (it : Option Row) → Grows start types

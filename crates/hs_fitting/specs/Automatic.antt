@@ -3,6 +3,7 @@
 --     unless_grown_walks              a test of what is known, of which the types go on to those of the whole program
 --     automatic_walks                 an automatic variable: from one place of the text to the last one, where its type is known
 use Rattle.std.proofs.Common.{◌≡◌, ℕ, Bool, true, false, not, ◌||◌, List, [], ◌∷◌, ◌++◌, length, slice_get, Option, Some, None, is_some, Result, Ok, Err, refl, sym, ap, subst, ◌∙◌, if◌then◌else◌}
+use Rattle.hs_expressions.specs.Laws.Traced.{traced_same}
 use Rattle.hs_declarations.specs.Declarations.{is_object, given, new_local, local_typed, local_started, automatic}
 use Rattle.hs_expressions.specs.Binding.Keeping.{IsNoted, KnowsBound, Giving, IsBound}
 use Rattle.hs_expressions.specs.Laws.{IsConstant, IsScoped, Knows}
@@ -12,12 +13,12 @@ use Rattle.hs_fitting.specs.Alike.{IsAlike, AlikeGiven, starting_alike}
 use Rattle.hs_fitting.specs.Blocks.{types_with, local_moves, local_of, typed_last}
 use Rattle.hs_fitting.specs.Bodies.{stands_locals, proceeds_still, first_same, rest_same}
 use Rattle.hs_fitting.specs.Changing.{stands_changed}
-use Rattle.hs_fitting.specs.Claims.{Claims, IsVariableAt, IsVariableIn, Stands}
+use Rattle.hs_fitting.specs.Claims.{IsOfClaim, Claims, IsVariableAt, IsVariableIn, Stands}
 use Rattle.hs_fitting.specs.ConstantNumbers.{HasWideKinds}
 use Rattle.hs_fitting.specs.Declaring.{renamed_always}
 use Rattle.hs_fitting.specs.Initialised.{alike_later}
 use Rattle.hs_fitting.specs.Initialising.{starting_always}
-use Rattle.hs_fitting.specs.Known.{IsOfClaim, knows_names, names_allow, stands_typer, stands_reached}
+use Rattle.hs_fitting.specs.Known.{knows_names, names_allow, stands_typer, stands_reached}
 use Rattle.hs_fitting.specs.Lasting.{endures_typer}
 use Rattle.hs_fitting.specs.Leaving.{local_later}
 use Rattle.hs_fitting.specs.Links.{objects_self}
@@ -251,7 +252,7 @@ module _ (here : List ℕ → Bool) (program : TypedProgram) (function : TypedFu
   stands_named made is =
       stands_locals program here its (variables word id m scoped made) (record m { typer = first_typer }) (variables word id m scoped made)
       (stands_typer program here its m first_typer refl refl m.locals (variables word id m scoped made)
-      (grows_self m.typer.types) (tt, stands.names) (
+      (grows_self m.typer.types) (traced_same m.typer first_typer refl refl refl) (tt, stands.typedefs) (tt, stands.names) (
         last_variable program.types m.locals word made id is,
         all_so (λ it. IsVariableIn program.types m.locals it.entity) (λ it. IsVariableIn program.types (variables word id m scoped made) it.entity)
             (λ it is. local_later program.types m.locals (variables word id m scoped made) it.entity
@@ -308,7 +309,7 @@ module _ (here : List ℕ → Bool) (program : TypedProgram) (function : TypedFu
     stands_ended =
         stands_changed program here its (record (with_variable p.0.0) { typer = p.1 })
         (declared word.text (entity.Variable (variable.Local (length m.locals)) p.0.0) p.1.names) m.objects (objects_self program.types m.objects)
-        (variables word id m scoped p.0.0) stands_started (tt, stands_started.names)
+        (variables word id m scoped p.0.0) stands_started (tt, stands_started.typedefs) (tt, stands_started.names)
         (last_variable program.types m.locals word p.0.0 p.0.0 (refl, λ whole. refl), stands_started.locals) stands_started.objects
 
     -- What it starts with fits it, in a function that this place goes on to.

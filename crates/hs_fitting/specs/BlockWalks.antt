@@ -19,13 +19,14 @@ use Rattle.hs_fitting.specs.Claims.{Claims, RefersTo, IsVariableIn, Stands}
 use Rattle.hs_fitting.specs.Declaring.{either_moved, new_object_moved, tag_always}
 use Rattle.hs_fitting.specs.Initialised.{initialised_walks}
 use Rattle.hs_fitting.specs.Known.{typing_walks}
-use Rattle.hs_fitting.specs.LinkedNames.{IsObject, refers_kept, kept_walks, placed_object_walks, define_object_walks, named_walks, renamed_walks, linked_walks}
-use Rattle.hs_fitting.specs.Linking.{MayMake}
+use Rattle.hs_fitting.specs.LinkedNames.{IsObject, MayLink, refers_kept, kept_walks, placed_object_walks, define_object_walks, named_walks, renamed_walks, linked_walks}
 use Rattle.hs_fitting.specs.Making.{designates_makes}
 use Rattle.hs_fitting.specs.Noting.{NamesAllow, Noting, Notes, same_noted}
 use Rattle.hs_fitting.specs.NotingCalm.{begun_struct_notes}
-use Rattle.hs_fitting.specs.NotingDeclaring.{front_notes, item_type_notes}
+use Rattle.hs_fitting.specs.NotingDeclaring.{front_notes}
 use Rattle.hs_fitting.specs.NotingInitialising.{inline_words_notes}
+use Rattle.hs_fitting.specs.OwnWalks.{OwnId, own_over, own_through, item_own_walks, front_own_walks}
+use Rattle.hs_fitting.specs.Owning.{IsOwnName}
 use Rattle.hs_fitting.specs.Phrases.{IsRightItem}
 use Rattle.hs_fitting.specs.Tests.{true_false, not_false}
 use Rattle.hs_fitting.specs.Walk.{Anywhere, Nothing, Walking, Walks, passes_walks, stops_walks, unless_walks, then_walks, so_walks}
@@ -123,7 +124,7 @@ module _ {here : List ℕ → Bool} {program : TypedProgram} {function : TypedFu
 
   -- a function that is declared, at any level
   pub function_declared_walks : (static : Bool) (word : Word) (id : TypeId) (it : Option Initialising) → (static ≡ true → here word.text ≡ true)
-      → Walks here program function (λ its m. MayMake program m id) (function_declared static word id it) Nothing (λ done. Unit {0})
+      → Walks here program function (λ its m. MayLink program its m id) (function_declared static word id it) Nothing (λ done. Unit {0})
   function_declared_walks static word id it inside =
       then_walks {holds = λ its. Unit {0}} (linked static word id) (linked_walks static word id inside)
       (λ its. so_walks {holds = λ done. Unit {0}} (λ its m met. tt) (λ its m done is. tt) (λ done is before. tt) (words_walks it))
@@ -154,13 +155,13 @@ module _ {here : List ℕ → Bool} {program : TypedProgram} {function : TypedFu
 
   -- an object with linkage
   pub extern_object_walks : (word : Word) (id : TypeId) (it : Option Initialising)
-      → Walks here program function Anywhere (extern_object word id it) Nothing (IsRightItemIf program function)
+      → Walks here program function (λ its m. OwnId id its m) (extern_object word id it) Nothing (IsRightItemIf program function)
   extern_object_walks word id it =
-      then_walks (is_object word id) (object_walks word id)
+      then_walks (is_object word id) (own_over id (object_walks {pre = Anywhere} word id))
       (λ may. then_walks {holds = λ done. Unit {0}} (not_started it)
-      (not_started_walks {pre = λ its m. category_of program.types id ≡ Some of_function → ⊥} it)
+      (not_started_walks {pre = λ its m. (category_of program.types id ≡ Some of_function → ⊥) × OwnId id its m} it)
       (λ none. then_walks {holds = λ its. Unit {0}} (linked false word id)
-      (so_walks (λ its m no_function other. no_function) (λ its m made is. is) (λ made is. is) (linked_walks false word id (λ is. absurd (false_true is))))
+      (so_walks (λ its m is. (λ other. is.0, is.1)) (λ its m made is. is) (λ made is. is) (linked_walks false word id (λ is. absurd (false_true is))))
       (λ its. passes_walks None (λ its m is. tt) (λ a b c. tt))))
 
   -- an object without linkage is a new one
@@ -179,12 +180,15 @@ module _ {here : List ℕ → Bool} {program : TypedProgram} {function : TypedFu
       → Walks here program function (λ its m. RefersTo program.types its m.objects it × IsObject id it) (typing (declare word it))
       (λ its m done. RefersTo program.types its m.objects it × IsObject id it) (λ done. Unit {0})
   object_named_walks word id it =
-      so_walks (λ its m is. ((is.0, no_local m.locals is.1), is)) (λ its m done is. is.1) (λ done is. is)
+      so_walks (λ its m is. ((is.0, no_local m.locals is.1, no_typedef its.base m.typer.types is.1), is)) (λ its m done is. is.1) (λ done is. is)
       (kept_walks (λ its m. RefersTo program.types its m.objects it × IsObject id it)
       (λ its more m n proceeds moves is. (refers_kept program it its more m n proceeds is.0, is.1)) (named_walks word it))
     where
       no_local : (locals : List VariableDecl) → IsObject id it → IsVariableIn program.types locals it
       no_local locals is = subst (IsVariableIn program.types locals) (sym is.1) tt
+
+      no_typedef : (base : ℕ) (types : TypeTable) → IsObject id it → IsOwnName base types it
+      no_typedef base types is = subst (IsOwnName base types) (sym is.1) tt
 
   module _ (sound : IsRight program.types) where
     -- its initialiser
@@ -205,7 +209,7 @@ module _ {here : List ℕ → Bool} {program : TypedProgram} {function : TypedFu
         {holds = λ done. Unit {0}} (define_object place p.0 p.1)
         (so_walks (λ its m is. ((is.1 ∙ ap Some (sym is.0.1), is.0.0), is.1 ∙ ap Some (sym is.0.1))) (λ its m done is. is.1) (λ done is. is)
         (referring_walks (entity.Variable (variable.Global place) p.0) (define_object_walks place p.0 p.1)))
-        (λ done. so_walks {holds = λ done. Unit {0}} (λ its m is. (is, tt)) (λ its m made is. tt) (λ made is a b c. tt)
+        (λ done. so_walks {holds = λ done. Unit {0}} (λ its m is. (is, tt, tt)) (λ its m made is. tt) (λ made is a b c. tt)
         (renamed_walks word (entity.Variable (variable.Global place) p.0)))))
 
     -- of the object that the declaration made
@@ -237,64 +241,68 @@ module _ {here : List ℕ → Bool} {program : TypedProgram} {function : TypedFu
 
     -- by the storage word
     block_object_walks : (storage : Option Storage) (word : Word) (id : TypeId) (it : Option Initialising)
-        → Walks here program function Anywhere (block_object storage word id it) Nothing (IsRightItemIf program function)
-    block_object_walks None word id it = automatic_walks sound word id it
-    block_object_walks (Some storage.Typedef) word id it = automatic_walks sound word id it
+        → Walks here program function (λ its m. OwnId id its m) (block_object storage word id it) Nothing (IsRightItemIf program function)
+    block_object_walks None word id it =
+        so_walks (λ its m own. tt) (λ its m made is. is) (λ made is. is) (automatic_walks sound word id it)
+    block_object_walks (Some storage.Typedef) word id it =
+        so_walks (λ its m own. tt) (λ its m made is. is) (λ made is. is) (automatic_walks sound word id it)
     block_object_walks (Some storage.Extern) word id it = extern_object_walks word id it
-    block_object_walks (Some storage.Static) word id it = static_local_walks word id it
+    block_object_walks (Some storage.Static) word id it =
+        so_walks (λ its m own. tt) (λ its m made is. is) (λ made is. is) (static_local_walks word id it)
 
     -- a function that a block declares
     block_function_walks : (stored : Place) (storage : Option Storage) (word : Word) (id : TypeId) (it : Option Initialising)
-        → Walks here program function (λ its m. Unit {0} × (is_function m.typer.types id ≡ true)) (block_function stored storage word id it) Nothing
+        → Walks here program function (λ its m. OwnId id its m × (is_function m.typer.types id ≡ true)) (block_function stored storage word id it) Nothing
         (IsRightItemIf program function)
     block_function_walks stored storage word id it =
-        then_walks {after = λ its m done. MayMake program m id} {holds = λ done. Unit {0}} (unless (Untyped stored) (λ m. is_static storage))
-        (unless_walks (Untyped stored) (λ m. is_static storage) (λ its m met failed other. absurd (true_false (is_function m.typer.types id) met.1 other)))
+        then_walks {after = λ its m done. MayLink program its m id} {holds = λ done. Unit {0}} (unless (Untyped stored) (λ m. is_static storage))
+        (unless_walks (Untyped stored) (λ m. is_static storage)
+        (λ its m met failed. (λ other. absurd (true_false (is_function m.typer.types id) met.1 other), met.0)))
         (λ may. then_walks {holds = λ done. Unit {0}} (function_declared false word id it)
         (function_declared_walks false word id it (λ is. absurd (true_false false is refl)))
         (λ done. passes_walks None (λ its m is. tt) (λ a b. tt)))
 
     -- by its type
     block_entity_walks : (stored : Place) (storage : Option Storage) (word : Word) (id : TypeId) (it : Option Initialising)
-        → Walks here program function Anywhere (block_entity stored storage word id it) Nothing (IsRightItemIf program function)
+        → Walks here program function (λ its m. OwnId id its m) (block_entity stored storage word id it) Nothing (IsRightItemIf program function)
     block_entity_walks stored storage word id it =
         either_known_walks (λ m. is_function m.typer.types id) (block_function stored storage word id it) (block_object storage word id it)
         (block_function_walks stored storage word id it)
-        (so_walks (λ its m met. tt) (λ its m made is. is) (λ made is. is) (block_object_walks storage word id it))
+        (so_walks (λ its m met. met.0) (λ its m made is. is) (λ made is. is) (block_object_walks storage word id it))
 
     -- a declarator names something
     block_item_as_walks : (at stored : Place) (storage : Option Storage) (word : Option Word) (id : TypeId) (it : Option Initialising)
-        → Walks here program function Anywhere (block_item_as at stored storage word id it) Nothing (IsRightItemIf program function)
+        → Walks here program function (λ its m. OwnId id its m) (block_item_as at stored storage word id it) Nothing (IsRightItemIf program function)
     block_item_as_walks at stored storage None id it = stops_walks (Untyped at)
     block_item_as_walks at stored storage (Some word) id it = block_entity_walks stored storage word id it
 
     -- one declarator of a block
     block_item_walks : (at stored : Place) (said : Front) (it : Declaring)
-        → Walks here program function Anywhere (block_item at stored said it) Nothing (IsRightItemIf program function)
+        → Walks here program function (λ its m. OwnId said.type_id its m) (block_item at stored said it) Nothing (IsRightItemIf program function)
     block_item_walks at stored said it =
-        then_walks {after = Nothing} {holds = λ id. Unit {0}} (typing (item_type at said.type_id it.declarator))
-        (typing_walks (item_type at said.type_id it.declarator) (λ Q. item_type_notes Q program.types at said.type_id it.declarator)
-        (λ s scoped counts knows binds p given noted. tt))
-        (λ id. so_walks {holds = IsRightItemIf program function} (λ its m met. tt) (λ its m made is. tt) (λ made is before. is)
+        then_walks {after = λ its m id. OwnId id its m} {holds = λ id. Unit {0}} (typing (item_type at said.type_id it.declarator))
+        (item_own_walks at said.type_id it.declarator)
+        (λ id. so_walks {holds = IsRightItemIf program function} (λ its m met. met) (λ its m made is. tt) (λ made is before. is)
         (block_item_as_walks at stored said.storage (word_of it.declarator) id it.initialiser))
 
     -- those of a declaration, in their order
     block_items_walks : (at stored : Place) (said : Front) (done : List TypedItem) (its : List Declaring)
-        → Walks here program function Anywhere (block_items at stored said done its) Nothing
+        → Walks here program function (λ its m. OwnId said.type_id its m) (block_items at stored said done its) Nothing
         (λ made. AllByRecursion (IsRightItem program function) done → AllByRecursion (IsRightItem program function) made)
     block_items_walks at stored said done [] = passes_walks done (λ its m met. tt) (λ are. are)
     block_items_walks at stored said done (it ∷ rest) =
-        then_walks (block_item at stored said it) (block_item_walks at stored said it)
-        (λ next. so_walks (λ its m met. tt) (λ its m made met. tt) (λ made so is are. so (given_right program function done next is are))
+        then_walks (block_item at stored said it) (own_through said.type_id (block_item_walks at stored said it))
+        (λ next. so_walks (λ its m met. met) (λ its m made met. tt) (λ made so is are. so (given_right program function done next is are))
         (block_items_walks at stored said (with_given done next) rest))
 
     -- no typedef
     block_items_as_walks : (at stored : Place) (its : List Declaring) (said : Front)
-        → Walks here program function Anywhere (block_items_as at stored its said) Nothing (λ made. AllByRecursion (IsRightItem program function) made)
+        → Walks here program function (λ its m. OwnId said.type_id its m) (block_items_as at stored its said) Nothing
+        (λ made. AllByRecursion (IsRightItem program function) made)
     block_items_as_walks at stored its said =
-        then_walks {after = Nothing} {holds = λ done. Unit {0}} (unless (Untyped stored) (λ m. is_typedef_word said.storage))
-        (unless_walks (Untyped stored) (λ m. is_typedef_word said.storage) (λ its m met failed. tt))
-        (λ may. so_walks (λ its m met. tt) (λ its m made met. tt) (λ made so before. so tt) (block_items_walks at stored said [] its))
+        then_walks {after = λ its m done. OwnId said.type_id its m} {holds = λ done. Unit {0}} (unless (Untyped stored) (λ m. is_typedef_word said.storage))
+        (unless_walks (Untyped stored) (λ m. is_typedef_word said.storage) (λ its m met failed. met))
+        (λ may. so_walks (λ its m met. met) (λ its m made met. tt) (λ made so before. so tt) (block_items_walks at stored said [] its))
 
     -- with or without declarators
     block_declared_at_walks : (at : Place) (words : Specification) (its : List Declaring)
@@ -303,9 +311,8 @@ module _ {here : List ℕ → Bool} {program : TypedProgram} {function : TypedFu
         then_walks (nothing_named at words (lone_tag words)) (nothing_named_walks at words (lone_tag words))
         (λ done. passes_walks [] (λ its m met. tt) (λ before. tt))
     block_declared_at_walks at words (it ∷ rest) =
-        then_walks {after = Nothing} {holds = λ said. Unit {0}} (typing (front at words))
-        (typing_walks (front at words) (λ Q. front_notes Q program.types at words) (λ s scoped counts knows binds p given noted. tt))
-        (λ said. so_walks {holds = λ made. AllByRecursion (IsRightItem program function) made} (λ its m met. tt) (λ its m made met. tt)
+        then_walks {after = λ its m said. OwnId said.type_id its m} {holds = λ said. Unit {0}} (typing (front at words)) (front_own_walks at words)
+        (λ said. so_walks {holds = λ made. AllByRecursion (IsRightItem program function) made} (λ its m met. met) (λ its m made met. tt)
         (λ made are before. are) (block_items_as_walks at (storage_place at words) (it ∷ rest) said))
 
 -- A declaration of a block: all names refer to what was claimed, and what it gives its variables fits them.

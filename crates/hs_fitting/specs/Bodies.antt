@@ -8,22 +8,27 @@ use Rattle.std.proofs.Common.{◌≡◌, ℕ, suc, Bool, true, false, List, [], 
 use Rattle.std.specs.Prelude.{◌==◌, take}
 use Rattle.std.proofs.lemmas.List.{append-nil}
 use Rattle.std.specs.List.{AllByRecursion}
+use Rattle.hs_typer.specs.declared.typer.Entity.TheVariants as meaning
+use Rattle.hs_operands.specs.declared.operand.Bound.TheVariants as bound
+use Rattle.hs_fitting.specs.Owning.{IsOwnName}
+use Rattle.hs_fitting.specs.LinkedNames.{IsPlainName}
+use Rattle.hs_fitting.specs.Entities.{IsAmong}
+use Rattle.hs_fitting.specs.Accounts.{all_accounted}
 use Rattle.hs_declarations.specs.Declarations.{block_declared}
-use Rattle.hs_expressions.specs.Binding.{IsSignature, IsLike, IsDefined}
+use Rattle.hs_expressions.specs.Binding.{IsSignature}
 use Rattle.hs_expressions.specs.Expressions.{leave}
 use Rattle.hs_expressions.specs.Laws.Always.{Anything}
 use Rattle.hs_expressions.specs.Laws.Reached.{IsAllowedAt, all_so, left_entered}
 use Rattle.hs_fitting.specs.Claims.{Claims, RefersTo, IsVariableIn, IsLink, IsExternal, IsRoutineDeclared, IsMet, IsMetAs, IsRegisteredAs, category_at, Endures, IsObjectRight, Stands, Proceeds}
-use Rattle.hs_fitting.specs.Done.{AreDone, claimed_before, done_later, done_with}
+use Rattle.hs_fitting.specs.Done.{IsExactly, AreDone, claimed_before, done_later, done_with}
 use Rattle.hs_fitting.specs.Inner.{Inner, inner_moves, with_name}
 use Rattle.hs_fitting.specs.Known.{stands_typer}
 use Rattle.hs_fitting.specs.Lasting.{continues_of, endures_scopes}
-use Rattle.hs_fitting.specs.Leaving.{refers_later, local_later}
+use Rattle.hs_fitting.specs.Leaving.{leave_traced, typedefs_later, refers_later, local_later}
 use Rattle.hs_fitting.specs.Moves.{Moves}
 use Rattle.hs_fitting.specs.Moving.{Moving}
 use Rattle.hs_fitting.specs.Passes.{count_types, marked_types}
 use Rattle.hs_fitting.specs.Phrases.{IsRightPhrase, IsRightItem, body_walks}
-use Rattle.hs_fitting.specs.Shapes.{SameShape}
 use Rattle.hs_fitting.specs.Stating.{body_moved}
 use Rattle.hs_fitting.specs.Tests.{one_there, some_none}
 use Rattle.hs_fitting.specs.Walk.{Anywhere, Nothing, Walked, Walking, Walks, proceeds_then}
@@ -75,7 +80,8 @@ module _ (program : TypedProgram) (here : List ℕ → Bool) (its : Claims) (var
         names = stands.names;
         locals = stands.locals;
         links = all_so (IsLink program.types here its m) (IsLink program.types here its (record m { locals = locals }))
-            (λ it is. record { refers = is.refers; bound = is.bound; internal = is.internal; global = is.global; typed = is.typed }) m.links.declarations stands.links;
+            (λ it is. record { refers = is.refers; bound = is.bound; internal = is.internal; global = is.global; typed = is.typed; own = is.own })
+            m.links.declarations stands.links;
         externals = all_so (IsExternal program.types its m) (IsExternal program.types its (record m { locals = locals }))
             (λ it is. record { refers = is.refers; bound = is.bound; global = is.global; typed = is.typed }) m.externals stands.externals;
         routines = all_so (IsRoutineDeclared program.types its m) (IsRoutineDeclared program.types its (record m { locals = locals }))
@@ -93,6 +99,10 @@ module _ (program : TypedProgram) (here : List ℕ → Bool) (its : Claims) (var
         functions_there = stands.functions_there;
         routines_there = stands.routines_there;
         internal = stands.internal;
+        traced = stands.traced;
+        typedefs = stands.typedefs;
+        accounted = all_accounted program.types its m (record m { locals = locals }) refl refl refl refl its.entities stands.accounted;
+        closed = stands.closed;
       }
 
   -- by variables of the same types
@@ -115,6 +125,10 @@ module _ (program : TypedProgram) (here : List ℕ → Bool) (its : Claims) (var
         functions_there = stands.functions_there;
         routines_there = stands.routines_there;
         internal = stands.internal;
+        traced = stands.traced;
+        typedefs = stands.typedefs;
+        accounted = stands.accounted;
+        closed = stands.closed;
       }
 
 -- nothing that claims depend on has changed
@@ -130,6 +144,8 @@ module _ (types : TypeTable) (its : Claims) (m n : Translator) (objects : n.obje
       record {
         functions = λ number id is. is;
         routines = λ number id is. is;
+        entities = λ it is. is;
+        base = refl;
         objects = λ place is at. subst (λ all. category_at types (slice_get all place) ≡ Some is) (sym objects) at;
         met = λ it is. met_still it.internal it is;
         fresh = λ number id it claimed none at met. some_none (its.functions number) id claimed none;
@@ -168,7 +184,10 @@ pub record IsBehind (program : TypedProgram) (here : List ℕ → Bool) (its : C
   pub outside : AllByRecursion (λ it. IsVariableIn program.types [] it.entity) mid.names.declarations
   pub types : types_of c.locals ≡ ids
   pub signature : IsSignature program.types id ids gives
-  pub shape : (first : TypeId) → claims.functions (length done) ≡ Some first → SameShape program.types first id
+  pub plain : IsPlainName entity
+  pub typedefs : AllByRecursion (λ it. IsOwnName claims.base c.typer.types it.entity) mid.names.declarations
+  pub among : (first : TypeId) → claims.functions (length done) ≡ Some first
+      → IsAmong (meaning.Function id (bound.Function (length done))) claims.entities
   pub met : IsMet c one
 
 -- the first ones, and the others, of two lists that are the same
@@ -240,11 +259,20 @@ module _ (program : TypedProgram) (here : List ℕ → Bool) (sound : IsRight pr
           subst (λ scopes. AllByRecursion (λ it. IsVariableIn program.types [] it.entity) scopes.declarations) (sym names_left)
           (behind.global, behind.outside)
 
+      -- typedef names of this unit
+      typedefs_left : AllByRecursion (λ it. IsOwnName walked.claims.base n.typer.types it.entity) (left n.typer.names).declarations
+      typedefs_left =
+          subst (λ scopes. AllByRecursion (λ it. IsOwnName walked.claims.base n.typer.types it.entity) scopes.declarations) (sym names_left) (
+            behind.plain walked.claims.base n.typer.types,
+            typedefs_later claims.base walked.claims.base c.typer.types n.typer.types walked.proceeds.base moves.typer.types mid.names.declarations
+                behind.typedefs,
+          )
+
       stands_end : Stands program here walked.claims [] (end_of n)
       stands_end =
           stands_locals program here walked.claims [] (without_scope n) []
           (stands_typer program here walked.claims n (leave n.typer) refl refl n.locals []
-          (grows_self n.typer.types) refers_left outside_left walked.stands.calls walked.stands.right
+          (grows_self n.typer.types) (leave_traced n.typer) typedefs_left refers_left outside_left walked.stands.calls walked.stands.right
           (endures_scopes program walked.claims n (leave n.typer).names (leave n.typer).tags) walked.stands)
 
       proceeds_end : Proceeds program.types its m walked.claims (end_of n)
@@ -262,15 +290,17 @@ module _ (program : TypedProgram) (here : List ℕ → Bool) (sound : IsRight pr
           count : length c.locals ≡ length ids
           count = sym (count_types c.locals) ∙ ap length behind.types
 
-      -- it has the shape of what was claimed
-      claimed_shape : (first : TypeId) → walked.claims.functions (length done) ≡ Some first
-          → IsDefined program.types program.types first (Some (function_of n (length c.locals) (length c.typer.taken) made))
-      claimed_shape first claimed =
+      -- it has the results and the parameters of its type
+      exact_here : (first : TypeId) → walked.claims.functions (length done) ≡ Some first
+          → IsExactly program walked.claims (length done) (function_of n (length c.locals) (length c.typer.taken) made)
+      exact_here first claimed =
           let before : claims.functions (length done) ≡ Some first
           = claimed_before program here claims walked.claims n.locals c n moves.definitions walked.proceeds walked.stands (length done) first claimed
-          (λ other there. subst (IsMet c) (one_at other there) behind.met) in
-          subst (λ types. IsLike program.types program.types first types gives) (sym parameter_types)
-          ((behind.shape first before).back ids gives behind.signature)
+          (λ other there. subst (IsMet c) (one_at other there) behind.met) in (
+            id,
+            walked.proceeds.entities (meaning.Function id (bound.Function (length done))) (behind.among first before),
+            subst (λ types. IsSignature program.types id types gives) (sym parameter_types) behind.signature,
+          )
         where
           one_at : (other : Definition) → slice_get c.definitions (length done) ≡ Some other → one ≡ other
           one_at other there =
@@ -289,7 +319,7 @@ module _ (program : TypedProgram) (here : List ℕ → Bool) (sound : IsRight pr
             unit = inner.inside.unit ∙ inner.around.unit;
             functions = done_with program walked.claims (end_of n) done (function_of n (length c.locals) (length c.typer.taken) made)
                 (done_later program here its walked.claims [] m (end_of n) inner.definitions proceeds_end done stands_end are)
-                claimed_shape
+                exact_here
                 (λ other there. subst (IsMet (end_of n)) (one_end other there)
                 ((proceeds_still program.types walked.claims n (end_of n) refl refl refl refl).met one (walked.proceeds.met one behind.met)));
             gives = λ endures. walked.gives

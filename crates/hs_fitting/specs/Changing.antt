@@ -4,8 +4,10 @@
 --     kept_walked                         a fact that stays
 use Rattle.std.proofs.Common.{ℕ, Bool, true, false, List, slice_get, Result, Ok, Err, refl, if◌then◌else◌}
 use Rattle.std.specs.List.{AllByRecursion}
+use Rattle.hs_fitting.specs.Accounts.{all_accounted}
 use Rattle.hs_expressions.specs.Laws.Reached.{all_so}
 use Rattle.hs_fitting.specs.Claims.{Claims, ObjectsStay, RefersTo, IsVariableIn, IsLink, IsExternal, IsRoutineDeclared, IsRegisteredAs, IsMetAs, Endures, IsObjectRight, Stands, Proceeds}
+use Rattle.hs_fitting.specs.Owning.{IsOwnName}
 use Rattle.hs_fitting.specs.Links.{objects_self, refers_later}
 use Rattle.hs_fitting.specs.Moves.{Moves}
 use Rattle.hs_fitting.specs.Moving.{Moving}
@@ -52,7 +54,8 @@ module _ (program : TypedProgram) (here : List ℕ → Bool) (its : Claims) (m :
   -- names refer to what they did
   refers_still : (it : Entity) → RefersTo program.types its m.objects it → RefersTo program.types its objects it
   refers_still =
-      refers_later program.types its its m.objects objects (record { functions = λ number id is. is; routines = λ number id is. is }) stay
+      refers_later program.types its its m.objects objects
+      (record { functions = λ number id is. is; routines = λ number id is. is; entities = λ it is. is }) stay
 
   -- a program of these objects was one of those before
   endures_changed : Endures program its (changed m names objects) → Endures program its m
@@ -73,10 +76,11 @@ module _ (program : TypedProgram) (here : List ℕ → Bool) (its : Claims) (m :
 
   -- if the names that there are then do, and the objects are right
   pub stands_changed : (variables : List VariableDecl) → Stands program here its variables m
+      → AllByRecursion (λ it. IsOwnName its.base m.typer.types it.entity) names.declarations
       → AllByRecursion (λ it. RefersTo program.types its m.objects it.entity) names.declarations
       → AllByRecursion (λ it. IsVariableIn program.types variables it.entity) names.declarations
       → AllByRecursion (IsObjectRight program its m) objects → Stands program here its variables (changed m names objects)
-  stands_changed variables stands refer are right =
+  stands_changed variables stands own refer are right =
       record {
         names = all_so (λ it. RefersTo program.types its m.objects it.entity) (λ it. RefersTo program.types its objects it.entity)
             (λ it is. refers_still it.entity is) names.declarations refer;
@@ -88,11 +92,22 @@ module _ (program : TypedProgram) (here : List ℕ → Bool) (its : Claims) (m :
               internal = is.internal;
               global = is.global;
               typed = is.typed;
+              own = is.own;
             }) m.links.declarations stands.links;
         externals = all_so (IsExternal program.types its m) (IsExternal program.types its (changed m names objects))
-            (λ it is. record { refers = refers_still it.entity is.refers; bound = is.bound; global = is.global; typed = is.typed }) m.externals stands.externals;
+            (λ it is. record {
+              refers = refers_still it.entity is.refers;
+              bound = is.bound;
+              global = is.global;
+              typed = is.typed;
+            }) m.externals stands.externals;
         routines = all_so (IsRoutineDeclared program.types its m) (IsRoutineDeclared program.types its (changed m names objects))
-            (λ it is. record { refers = refers_still it.entity is.refers; routine = is.routine; typed = is.typed; signed = is.signed }) m.routines stands.routines;
+            (λ it is. record {
+              refers = refers_still it.entity is.refers;
+              routine = is.routine;
+              typed = is.typed;
+              signed = is.signed;
+            }) m.routines stands.routines;
         functions_met = λ number id it is at. registered_as it.internal m names objects it (stands.functions_met number id it is at);
         routines_met = stands.routines_met;
         right = stands.right;
@@ -101,6 +116,10 @@ module _ (program : TypedProgram) (here : List ℕ → Bool) (its : Claims) (m :
         functions_there = stands.functions_there;
         routines_there = stands.routines_there;
         internal = stands.internal;
+        traced = stands.traced;
+        typedefs = own;
+        accounted = all_accounted program.types its m (changed m names objects) refl refl refl refl its.entities stands.accounted;
+        closed = stands.closed;
       }
 
   -- claims are the same
@@ -109,6 +128,8 @@ module _ (program : TypedProgram) (here : List ℕ → Bool) (its : Claims) (m :
       record {
         functions = λ number id is. is;
         routines = λ number id is. is;
+        entities = λ it is. is;
+        base = refl;
         objects = stay;
         met = λ it is. met_as it.internal m names objects it is;
         fresh = λ number id it is free at met. some_none (its.functions number) id is free;
@@ -118,14 +139,15 @@ module _ (here : List ℕ → Bool) (program : TypedProgram) (function : TypedFu
   -- a step after which only they are others
   changed_walked : {A : Type 0} → (after : Claims → Translator → A → Type 0) (its : Claims) (m : Translator) (names : Scoped Entity)
       (objects : List StaticObject) (it : A) → ObjectsStay program.types m.objects objects → Stands program here its m.locals m
+      → AllByRecursion (λ it. IsOwnName its.base m.typer.types it.entity) names.declarations
       → AllByRecursion (λ it. RefersTo program.types its m.objects it.entity) names.declarations
       → AllByRecursion (λ it. IsVariableIn program.types m.locals it.entity) names.declarations → AllByRecursion (IsObjectRight program its m) objects
       → after its (changed m names objects) it → Walking here program function its m after (λ it. Unit {0}) (Ok (it, changed m names objects))
-  changed_walked after its m names objects it stay stands refer are right known = λ grows.
+  changed_walked after its m names objects it stay stands own refer are right known = λ grows.
       record {
         claims = its;
         proceeds = proceeds_changed program here its m names objects stay;
-        stands = stands_changed program here its m names objects stay m.locals stands refer are right;
+        stands = stands_changed program here its m names objects stay m.locals stands own refer are right;
         known = known;
         gives = λ continues. tt;
       }
@@ -135,24 +157,25 @@ module _ (here : List ℕ → Bool) (program : TypedProgram) (function : TypedFu
       → ObjectsStay program.types m.objects objects → AllByRecursion (IsObjectRight program its m) objects → Stands program here its m.locals m
       → after its (record m { objects = objects }) it → Walking here program function its m after (λ it. Unit {0}) (Ok (it, record m { objects = objects }))
   objects_walked after its m objects it stay right stands known =
-      changed_walked after its m m.typer.names objects it stay stands stands.names stands.locals right known
+      changed_walked after its m m.typer.names objects it stay stands stands.typedefs stands.names stands.locals right known
 
   -- one name more
   pub name_walked : (its : Claims) (m : Translator) (word : Word) (it : Entity) → Stands program here its m.locals m → RefersTo program.types its m.objects it
-      → IsVariableIn program.types m.locals it
+      → IsVariableIn program.types m.locals it → IsOwnName its.base m.typer.types it
       → Walking {A = Unit {0}} here program function its m Nothing (λ it. Unit {0})
       (Ok (tt, record m { typer = record m.typer { names = declared word.text it m.typer.names } }))
-  name_walked its m word it stands refers is =
-      changed_walked Nothing its m (declared word.text it m.typer.names) m.objects tt (objects_self program.types m.objects) stands (refers, stands.names)
+  name_walked its m word it stands refers is own =
+      changed_walked Nothing its m (declared word.text it m.typer.names) m.objects tt (objects_self program.types m.objects) stands
+      (own, stands.typedefs) (refers, stands.names)
       (is, stands.locals) stands.objects tt
 
   -- if nothing else has the name in its scope
   pub declare_walked : (its : Claims) (m : Translator) (word : Word) (it : Entity) (b : Bool) → Stands program here its m.locals m
-      → RefersTo program.types its m.objects it → IsVariableIn program.types m.locals it
+      → RefersTo program.types its m.objects it → IsVariableIn program.types m.locals it → IsOwnName its.base m.typer.types it
       → Walking {A = Unit {0}} here program function its m Nothing (λ it. Unit {0})
       (with_typer m (if b then Err (Untyped word.place) else Ok (tt, record m.typer { names = declared word.text it m.typer.names })))
-  declare_walked its m word it true stands refers is = tt
-  declare_walked its m word it false stands refers is = name_walked its m word it stands refers is
+  declare_walked its m word it true stands refers is own = tt
+  declare_walked its m word it false stands refers is own = name_walked its m word it stands refers is own
 
   -- the type of an object
   pub typed_walked : (its : Claims) (m : Translator) (it : Entity) → Stands program here its m.locals m → RefersTo program.types its m.objects it

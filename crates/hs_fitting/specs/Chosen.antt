@@ -8,11 +8,17 @@ use Rattle.std.proofs.Common.{◌≡◌, ◌⊎◌, inl, inr, ℕ, zero, suc, Bo
 use Rattle.std.specs.List.{AllByRecursion}
 use Rattle.hs_expressions.specs.Laws.Reached.{all_appended}
 use Rattle.hs_fitting.specs.Outcomes.{Gives, gives_unless}
-use Rattle.hs_fitting.specs.Claims.{Claims, ObjectsStay, RefersTo, IsVariableIn, IsBoundIn, IsLink, IsExternal, IsInternalLink, Stands, category_at, IsTypedIn}
-use Rattle.hs_fitting.specs.Entities.{all_agree_each, all_agree_shapes, newest_has}
+use Rattle.hs_operands.specs.Types.{is_open}
+use Rattle.hs_operands.specs.declared.operand.Bound.TheVariants as binding
+use Rattle.hs_names.specs.Scopes.{Declared, find}
+use Rattle.hs_fitting.specs.Agreeing.{agree_strict}
+use Rattle.hs_fitting.specs.Claims.{Claims, ObjectsStay, RefersAs, RefersTo, IsVariableIn, IsBoundIn, IsLink, IsExternal, IsInternalLink, Stands, category_at, IsTypedIn}
+use Rattle.hs_fitting.specs.Entities.{IsAmong, all_agree_each, all_agree_shapes, newest_has}
 use Rattle.hs_fitting.specs.Found.{same_texts, link_found}
-use Rattle.hs_fitting.specs.Links.{HasShape, objects_self, refers_typed, global_typed, bound_typed, declared_again}
+use Rattle.hs_fitting.specs.Links.{HasShape, objects_self, refers_as, refers_typed, global_typed, bound_typed, declared_again}
 use Rattle.hs_fitting.specs.Making.{function_category, IsFunction, agrees_typed, declared_function, function_typed}
+use Rattle.hs_fitting.specs.Owned.{IsOwn, own_later}
+use Rattle.hs_fitting.specs.Strict.{SameBy, AreStrict, same_self, same_turned, strict_self}
 use Rattle.hs_fitting.specs.Shapes.{SameShape, agree_shape, composite_shape, shape_turned}
 use Rattle.hs_fitting.specs.Tests.{true_false, not_false, some_same}
 use Rattle.hs_linkage.specs.Definitions.{same_name}
@@ -23,11 +29,11 @@ use Rattle.hs_linkage.specs.declared.externals.External.{External}
 use Rattle.hs_linkage.specs.declared.translator.Linked.{Linked}
 use Rattle.hs_linkage.specs.declared.translator.StaticObject.{StaticObject}
 use Rattle.hs_linkage.specs.declared.translator.Translator.{Translator}
-use Rattle.hs_names.specs.Scopes.{find}
 use Rattle.hs_syntax.specs.declared.word.Word.{Word}
 use Rattle.hs_tree.specs.Trees.{TypedProgram}
 use Rattle.hs_tree.specs.declared.head.Variable.TheVariants as variable
 use Rattle.hs_tree.specs.declared.head.VariableDecl.{VariableDecl}
+use Rattle.hs_typer.specs.declared.origins.Origins.{Origins}
 use Rattle.hs_typer.specs.declared.type_error.TypeError.TheVariants.{Untyped}
 use Rattle.hs_typer.specs.declared.typer.Entity.{Entity}
 use Rattle.hs_typer.specs.declared.typer.Entity.TheVariants as entity
@@ -39,8 +45,8 @@ use Rattle.hs_types.specs.declared.row.TypeId.{TypeId}
 
 -- both with its type and with that of the declaration it refers to what was claimed
 pub record AreReferring (types : TypeTable) (its : Claims) (objects : List StaticObject) (id : TypeId) (it : Entity) : Type 0 where
-  pub own : RefersTo types its objects it
-  pub typed : RefersTo types its objects (with_type_id id it)
+  pub own : RefersAs types its objects it
+  pub typed : RefersAs types its objects (with_type_id id it)
 
 -- a function that no declaration has named before
 pub record IsNew (m : Translator) (word : Word) (id : TypeId) (it : Linked) : Type 0 where
@@ -51,6 +57,11 @@ pub record IsNew (m : Translator) (word : Word) (id : TypeId) (it : Linked) : Ty
 -- one object more, of a type that is none of functions
 abbrev pub IsOneMore : Translator → Word → TypeId → List StaticObject → Type 0
 IsOneMore m word id objects = (is_function m.typer.types id ≡ false) × (objects ≡ m.objects ++ zero_object word id ∷ [])
+
+-- a type that was declared before, of the same structs
+abbrev pub IsOlder : TypeTable → Claims → Translator → TypeId → ℕ → Type 0
+IsOlder types its m made number =
+    (old : TypeId) × IsAmong (entity.Function old (binding.Function number)) its.entities × SameBy (AreStrict m.typer.origins types) types made old
 
 -- What is noted for a name, where the objects are these then.
 pub record IsChosen (types : TypeTable) (here : List ℕ → Bool) (its : Claims) (m : Translator) (word : Word) (id : TypeId) (it : Linked)
@@ -64,6 +75,10 @@ pub record IsChosen (types : TypeTable) (here : List ℕ → Bool) (its : Claims
   pub made : (objects ≡ m.objects) ⊎ IsOneMore m word id objects
   pub kind : is_function m.typer.types id ≡ true → IsFunction it.entity
   pub typed : IsTypedIn m.typer.types it.entity
+  pub own : (made : TypeId) → type_of_entity it.entity ≡ Some made → IsOwn its.base m.typer.types made
+  pub strict : (made : TypeId) → type_of_entity it.entity ≡ Some made → SameBy (AreStrict m.typer.origins types) types id made
+  pub older : it.internal ≡ true → (made : TypeId) (number : ℕ) → it.entity ≡ entity.Function made (binding.Function number)
+      → IsNew m word id it ⊎ IsOlder types its m made number
 
 -- of an answer, after which only the objects are others
 abbrev pub Choosing : TypeTable → (List ℕ → Bool) → Claims → Translator → Word → TypeId → Linked × Translator → Type 0
@@ -92,6 +107,18 @@ typed_again types id (entity.Variable its old) is shape = tt
 typed_again types id (entity.Function old to) is shape = sym (shape old refl).category ∙ is
 typed_again types id (entity.Typedef old) is shape = tt
 
+-- the type that a name is given
+typed_made : (id made : TypeId) (it : Entity) → type_of_entity (with_type_id id it) ≡ Some made → id ≡ made
+typed_made id made (entity.Constant bits) is = absurd cc
+typed_made id made (entity.Variable its old) is = some_same id made is
+typed_made id made (entity.Function old to) is = some_same id made is
+typed_made id made (entity.Typedef old) is = absurd cc
+
+-- with its own type
+strict_same : (o : Origins) (types : TypeTable) (id made : TypeId) → id ≡ made → SameBy (AreStrict o types) types id made
+strict_same o types id made same =
+    subst (SameBy (AreStrict o types) types id) same (same_self (AreStrict o types) types (strict_self o types) id)
+
 module _ (types : TypeTable) (here : List ℕ → Bool) (its : Claims) (m : Translator) (word : Word) (id : TypeId) where
   -- ---- a new one in the unit
 
@@ -107,7 +134,7 @@ module _ (types : TypeTable) (here : List ℕ → Bool) (its : Claims) (m : Tran
   last_object (other ∷ old) it = last_object old it
 
   -- so its name refers to it
-  pub new_object_refers : RefersTo types its (m.objects ++ zero_object word id ∷ []) (entity.Variable (variable.Global (length m.objects)) id)
+  pub new_object_refers : RefersAs types its (m.objects ++ zero_object word id ∷ []) (entity.Variable (variable.Global (length m.objects)) id)
   new_object_refers = ap (category_at types) (last_object m.objects (zero_object word id))
 
   -- and the others stay
@@ -115,11 +142,11 @@ module _ (types : TypeTable) (here : List ℕ → Bool) (its : Claims) (m : Tran
   new_object_stay = appended_stay m.objects (zero_object word id ∷ [])
 
   -- a function or an object
-  new_chosen : (internal : Bool) → (internal ≡ true → here word.text ≡ true) → find word.text m.links ≡ None
+  new_chosen : IsOwn its.base m.typer.types id → (internal : Bool) → (internal ≡ true → here word.text ≡ true) → find word.text m.links ≡ None
       → (internal ≡ false → newest_external word.text m.externals ≡ None) → (b : Bool) → is_function m.typer.types id ≡ b
       → Gives (Choosing types here its m word id)
       (work_with (λ it. pass (linked_as internal it)) (if b then new_function internal word id m else new_object word id m))
-  new_chosen internal inside unlinked undeclared true same = (
+  new_chosen own internal inside unlinked undeclared true same = (
     record {
       stay = objects_self types m.objects;
       internal = inside;
@@ -130,10 +157,13 @@ module _ (types : TypeTable) (here : List ℕ → Bool) (its : Claims) (m : Tran
       made = inl refl;
       kind = λ is. (id, (bound_to internal m.typer.origins.unit word.text m.definitions m.typer.table, refl));
       typed = function_category m.typer.types m.typer.types id (grows_self m.typer.types) same;
+      own = λ made is. subst (IsOwn its.base m.typer.types) (some_same id made is) own;
+      strict = λ made is. strict_same m.typer.origins types id made (some_same id made is);
+      older = λ is made number same. inl (record { function = refl; unlinked = unlinked; undeclared = undeclared });
     },
     refl,
   )
-  new_chosen internal inside unlinked undeclared false same = (
+  new_chosen own internal inside unlinked undeclared false same = (
     record {
       stay = new_object_stay;
       internal = inside;
@@ -144,12 +174,15 @@ module _ (types : TypeTable) (here : List ℕ → Bool) (its : Claims) (m : Tran
       made = inr (same, refl);
       kind = λ is. absurd (true_false (is_function m.typer.types id) is same);
       typed = tt;
+      own = λ made is. subst (IsOwn its.base m.typer.types) (some_same id made is) own;
+      strict = λ made is. strict_same m.typer.origins types id made (some_same id made is);
+      older = λ is made number same. absurd cc;
     },
     refl,
   )
 
 module _ (program : TypedProgram) (here : List ℕ → Bool) (its : Claims) (variables : List VariableDecl) (m : Translator) (word : Word) (id : TypeId)
-    (grows : Grows m.typer.types program.types) (stands : Stands program here its variables m) where
+    (grows : Grows m.typer.types program.types) (stands : Stands program here its variables m) (own_id : IsOwn its.base m.typer.types id) where
   -- ---- the first declaration in the unit
 
   -- the shapes of the newest declaration of a name
@@ -180,7 +213,7 @@ module _ (program : TypedProgram) (here : List ℕ → Bool) (its : Claims) (var
       (agrees_typed m.typer.types m.typer.origins id (type_of_entity one.0.entity) (one.1 one.2))
 
   -- a function that is declared once more
-  function_again : (it : Entity) (made : TypeId) → RefersTo program.types its m.objects it → IsVariableIn program.types [] it
+  function_again : (it : Entity) (made : TypeId) → RefersAs program.types its m.objects it → IsVariableIn program.types [] it
       → (other : TypeId) × (type_of_entity it ≡ Some other) → HasShape program.types it id → is_function m.typer.types id ≡ true
       → IsFunction (with_type_id made it)
   function_again it made refers global typed shape is =
@@ -193,9 +226,10 @@ module _ (program : TypedProgram) (here : List ℕ → Bool) (its : Claims) (var
       → find word.text m.links ≡ None → IsChosen program.types here its m word id (linked_as false (with_type_id id it)) m.objects
   external_chosen it agree found unlinked =
       let one = newest_has (IsExternal program.types its m) word.text m.externals it stands.externals found in
-      let old : RefersTo program.types its m.objects it = subst (RefersTo program.types its m.objects) one.3 one.1.refers in
+      let old : RefersAs program.types its m.objects it
+      = subst (RefersAs program.types its m.objects) one.3 (refers_as program.types its m.objects one.0.entity one.1.refers) in
       let global : IsVariableIn program.types [] it = subst (IsVariableIn program.types []) one.3 one.1.global in
-      let refers : RefersTo program.types its m.objects (with_type_id id it)
+      let refers : RefersAs program.types its m.objects (with_type_id id it)
       = refers_typed program.types its m.objects id it old (newest_shape m.externals it agree found) in
       record {
         stay = objects_self program.types m.objects;
@@ -205,10 +239,13 @@ module _ (program : TypedProgram) (here : List ℕ → Bool) (its : Claims) (var
             (subst (IsBoundIn m false one.0.name) one.3 one.1.bound));
         global = global_typed program.types id it global;
         kept = λ is. absurd (no_internal (find word.text m.links) unlinked is);
-        refers = inr (record { own = refers; typed = subst (RefersTo program.types its m.objects) (sym (declared_again id id it)) refers });
+        refers = inr (record { own = refers; typed = subst (RefersAs program.types its m.objects) (sym (declared_again id id it)) refers });
         made = inl refl;
         kind = λ is. function_again it id old global (newest_typed m.externals it agree found) (newest_shape m.externals it agree found) is;
         typed = typed_again m.typer.types id it (subst (IsTypedIn m.typer.types) one.3 one.1.typed) (newest_here m.externals it agree found);
+        own = λ made is. subst (IsOwn its.base m.typer.types) (typed_made id made it is) own_id;
+        strict = λ made is. strict_same m.typer.origins program.types id made (typed_made id made it is);
+        older = λ is. absurd cc;
       }
 
   -- if another unit declared it
@@ -216,14 +253,14 @@ module _ (program : TypedProgram) (here : List ℕ → Bool) (its : Claims) (var
       → newest_external word.text m.externals ≡ found
       → Gives (Choosing program.types here its m word id) (work_with (λ it. pass (linked_as false it)) (external_as word id found m))
   external_by agree unlinked None same =
-      new_chosen program.types here its m word id false (λ is. absurd cc) unlinked (λ is. same) (is_function m.typer.types id) refl
+      new_chosen program.types here its m word id own_id false (λ is. absurd cc) unlinked (λ is. same) (is_function m.typer.types id) refl
   external_by agree unlinked (Some it) same = (external_chosen it agree same unlinked, refl)
 
   -- with either linkage
   first_chosen : (static : Bool) → (static ≡ true → here word.text ≡ true) → find word.text m.links ≡ None
       → Gives (Choosing program.types here its m word id) (first_link static word id m)
   first_chosen true inside unlinked =
-      new_chosen program.types here its m word id true inside unlinked (λ is. absurd cc) (is_function m.typer.types id) refl
+      new_chosen program.types here its m word id own_id true inside unlinked (λ is. absurd cc) (is_function m.typer.types id) refl
   first_chosen false inside unlinked =
       gives_unless _ _ (clash_of word) m (not (agrees_with_all m word.text id m.externals))
       (λ fits. external_by (not_false (agrees_with_all m word.text id m.externals) fits) unlinked (newest_external word.text m.externals) refl)
@@ -255,6 +292,70 @@ module _ (program : TypedProgram) (here : List ℕ → Bool) (its : Claims) (var
       (composite_shape m.typer.types m.typer.types old id
       (agree_shape m.typer.types m.typer.types m.typer.origins old id (grows_self m.typer.types) fits)).0)
 
+  -- of this unit, both have the same structs
+  old_strict : (old : TypeId) → IsOwn its.base m.typer.types old → agrees m id (Some old) ≡ true
+      → SameBy (AreStrict m.typer.origins program.types) program.types old id
+  old_strict old own fits =
+      agree_strict its.base m.typer program.types grows stands.traced old id (own_later its.base m.typer.types program.types grows old own)
+      (own_later its.base m.typer.types program.types grows id own_id) fits
+
+  -- and so has the type that both make together
+  either_strict : (b : Bool) (old : TypeId) → IsOwn its.base m.typer.types old → agrees m id (Some old) ≡ true
+      → IsOwn its.base m.typer.types (if b then id else old)
+      × SameBy (AreStrict m.typer.origins program.types) program.types id (if b then id else old)
+      × SameBy (AreStrict m.typer.origins program.types) program.types (if b then id else old) old
+  either_strict true old own fits = (
+    own_id,
+    strict_same m.typer.origins program.types id id refl,
+    same_turned (AreStrict m.typer.origins program.types) program.types old id (old_strict old own fits),
+  )
+  either_strict false old own fits = (
+    own,
+    same_turned (AreStrict m.typer.origins program.types) program.types old id (old_strict old own fits),
+    strict_same m.typer.origins program.types old old refl,
+  )
+
+  -- of the type that was declared
+  abbrev IsTogether : TypeId → TypeId → Type 0
+  IsTogether old made =
+      IsOwn its.base m.typer.types made × SameBy (AreStrict m.typer.origins program.types) program.types id made
+      × SameBy (AreStrict m.typer.origins program.types) program.types made old
+
+  together_strict : (it : Entity) → ((old : TypeId) → type_of_entity it ≡ Some old → IsOwn its.base m.typer.types old)
+      → agrees m id (type_of_entity it) ≡ true → (old : TypeId) → type_of_entity it ≡ Some old
+      → IsTogether old (composite_of m.typer.types (type_of_entity it) id)
+  together_strict it own fits old same =
+      subst (λ known. IsTogether old (composite_of m.typer.types known id)) (sym same)
+      (either_strict (is_open m.typer.types old) old (own old same) (subst (λ known. agrees m id known ≡ true) same fits))
+
+  -- the type that it had
+  type_there : (it : Entity) → agrees m id (type_of_entity it) ≡ true → (old : TypeId) × (type_of_entity it ≡ Some old)
+  type_there it fits = agrees_typed m.typer.types m.typer.origins id (type_of_entity it) fits
+
+  -- a function that was declared before
+  older_function : (it : Entity) → RefersTo program.types its m.objects it
+      → ((old : TypeId) → type_of_entity it ≡ Some old → IsOwn its.base m.typer.types old) → agrees m id (type_of_entity it) ≡ true → (made : TypeId)
+      (number : ℕ) → with_type_id (composite_of m.typer.types (type_of_entity it) id) it ≡ entity.Function made (binding.Function number)
+      → IsOlder program.types its m made number
+  older_function (entity.Constant bits) refers own fits made number same = absurd cc
+  older_function (entity.Variable one old) refers own fits made number same = absurd cc
+  older_function (entity.Function old (binding.Function place)) refers own fits made number same =
+      let together = together_strict (entity.Function old (binding.Function place)) own fits old refl in
+      let types_same : composite_of m.typer.types (Some old) id ≡ made = cc in
+      let places : place ≡ number = cc in (
+        old,
+        subst (λ n. IsAmong (entity.Function old (binding.Function n)) its.entities) places refers.1,
+        subst (λ made. SameBy (AreStrict m.typer.origins program.types) program.types made old) types_same together.2,
+      )
+  older_function (entity.Function old (binding.Routine place)) refers own fits made number same = absurd cc
+  older_function (entity.Function old binding.Nothing) refers own fits made number same = absurd cc
+  older_function (entity.Typedef old) refers own fits made number same = absurd cc
+
+  -- a link is of a type of this unit
+  link_own : (one : Declared Linked) → IsLink program.types here its m one → (it : Linked) → one.entity ≡ it → (old : TypeId)
+      → type_of_entity it.entity ≡ Some old → IsOwn its.base m.typer.types old
+  link_own one is it same old known = is.own old (ap (λ it. type_of_entity it.entity) same ∙ known)
+
   -- it is what it was
   again_chosen : (it : Linked) → find word.text m.links ≡ Some it → agrees m id (type_of_entity it.entity) ≡ true
       → IsChosen program.types here its m word id
@@ -262,7 +363,8 @@ module _ (program : TypedProgram) (here : List ℕ → Bool) (its : Claims) (var
   again_chosen it found fits =
       let one = link_found (IsLink program.types here its m) word.text m.links.declarations it stands.links found in
       let made : TypeId = composite_of m.typer.types (type_of_entity it.entity) id in
-      let old : RefersTo program.types its m.objects it.entity = subst (λ it. RefersTo program.types its m.objects it.entity) one.3 one.1.refers in
+      let old : RefersAs program.types its m.objects it.entity
+      = subst (λ it. RefersAs program.types its m.objects it.entity) one.3 (refers_as program.types its m.objects one.0.entity.entity one.1.refers) in
       let global : IsVariableIn program.types [] it.entity = subst (λ it. IsVariableIn program.types [] it.entity) one.3 one.1.global in
       record {
         stay = objects_self program.types m.objects;
@@ -275,7 +377,7 @@ module _ (program : TypedProgram) (here : List ℕ → Bool) (its : Claims) (var
         kept = λ is. subst IsInternalLink found is;
         refers = inr (record {
           own = refers_typed program.types its m.objects made it.entity old (together_shape (type_of_entity it.entity) fits);
-          typed = subst (RefersTo program.types its m.objects) (sym (declared_again id made it.entity))
+          typed = subst (RefersAs program.types its m.objects) (sym (declared_again id made it.entity))
               (refers_typed program.types its m.objects id it.entity old (known_shape (type_of_entity it.entity) fits));
         });
         made = inl refl;
@@ -283,6 +385,14 @@ module _ (program : TypedProgram) (here : List ℕ → Bool) (its : Claims) (var
             (known_shape (type_of_entity it.entity) fits) is;
         typed = typed_again m.typer.types made it.entity (subst (λ it. IsTypedIn m.typer.types it.entity) one.3 one.1.typed)
             (together_here (type_of_entity it.entity) fits);
+        own = λ other is. subst (IsOwn its.base m.typer.types) (typed_made made other it.entity is)
+            (together_strict it.entity (link_own one.0 one.1 it one.3) fits (type_there it.entity fits).0 (type_there it.entity fits).1).0;
+        strict = λ other is.
+            subst (SameBy (AreStrict m.typer.origins program.types) program.types id) (typed_made made other it.entity is)
+            (together_strict it.entity (link_own one.0 one.1 it one.3) fits (type_there it.entity fits).0 (type_there it.entity fits).1).1;
+        older = λ is other number same. inr
+            (older_function it.entity (subst (λ it. RefersTo program.types its m.objects it.entity) one.3 one.1.refers)
+            (link_own one.0 one.1 it one.3) fits other number same);
       }
 
   -- after the tests

@@ -1,7 +1,9 @@
--- What names refer to, as a program is typed: from its first declaration on, each object, function and routine has one shape, in all units
--- (X3.159-1989 3.1.2.6).
---     Claims                          the first types that were declared for functions and routines
+-- What names refer to, as a program is typed: from its first declaration on, each object, function and routine has one shape, in all units,
+-- and the types of a function or a routine come from declarations that agree (X3.159-1989 3.1.2.6).
+--     Claims                          the first types that were declared for functions and routines, and all of them
 --     RefersTo types its objects it   a name with that meaning refers to what was claimed
+--     IsAccounted types its m it      a type of a function comes from a declaration
+--     AreClosedAt types base m        the declarations of one name in earlier units agree
 --     Endures program its m           what was noted and claimed until then is the program's
 --     Stands program here its variables m      all names refer to what was claimed, in this unit and in those before it
 --     Proceeds its m its' m'          from one place of the text to a later one: claims stay, and none is made twice
@@ -11,8 +13,13 @@ use Rattle.std.specs.List.{AllByRecursion}
 use Rattle.hs_expressions.specs.Binding.{IsDefined, IsList, IsNotedCall}
 use Rattle.hs_expressions.specs.Laws.{IsPrefix}
 use Rattle.hs_expressions.specs.Roles.{fits_role}
+use Rattle.hs_expressions.specs.Laws.Traced.{IsTracedAt}
+use Rattle.hs_fitting.specs.Entities.{IsAmong}
+use Rattle.hs_fitting.specs.Owned.{IsOwn}
+use Rattle.hs_fitting.specs.Owning.{IsOwnName}
 use Rattle.hs_fitting.specs.Rightness.{AreRight}
 use Rattle.hs_fitting.specs.Shapes.{SameShape}
+use Rattle.hs_fitting.specs.Strict.{SameBy, AreStrict, AreClosed}
 use Rattle.hs_linkage.specs.Definitions.{same_name, first_place}
 use Rattle.hs_linkage.specs.Externals.{newest_external, type_of_entity}
 use Rattle.hs_linkage.specs.Linkage.{bound_to}
@@ -31,6 +38,8 @@ use Rattle.hs_tree.specs.Objects.{FitsParts}
 use Rattle.hs_tree.specs.Trees.{TypedProgram}
 use Rattle.hs_tree.specs.declared.head.Variable.TheVariants as variable
 use Rattle.hs_tree.specs.declared.head.VariableDecl.{VariableDecl}
+use Rattle.hs_typer.specs.declared.origins.Origins.{Origins}
+use Rattle.hs_typer.specs.declared.typer.Typer.{Typer}
 use Rattle.hs_typer.specs.declared.typer.Entity.{Entity}
 use Rattle.hs_typer.specs.declared.typer.RoutineCall.{RoutineCall}
 use Rattle.hs_typer.specs.declared.typer.Taken.{Taken}
@@ -41,14 +50,17 @@ use Rattle.hs_types.specs.declared.row.ListId.{ListId}
 use Rattle.hs_types.specs.declared.row.Row.TheVariants as row
 use Rattle.hs_types.specs.declared.row.TypeId.{TypeId}
 
--- The first type that a declaration gave a function of the program, and a routine of the table, by their numbers.
+-- The first type that a declaration gave a function of the program, and a routine of the table, by their numbers; these functions and routines
+-- with each type that a declaration gave them; and how many structs there were before the unit.
 pub record Claims : Type 0 where
   pub functions : ℕ → Option TypeId
   pub routines : ℕ → Option TypeId
+  pub entities : List Entity
+  pub base : ℕ
 
 -- nothing is declared
 abbrev pub no_claims : Claims
-no_claims = record { functions = λ number. None; routines = λ number. None }
+no_claims = record { functions = λ number. None; routines = λ number. None; entities = []; base = 0 }
 
 -- the category of an object; `types` are those of the whole program
 abbrev pub category_at : TypeTable → Option StaticObject → Option (Option Category)
@@ -65,13 +77,29 @@ abbrev pub IsClaimed : TypeTable → Option TypeId → TypeId → Type 0
 IsClaimed types None id = ⊥
 IsClaimed types (Some first) id = SameShape types first id
 
--- what the calls of a function of that type are bound to
+-- what the calls of a function of that shape are bound to
+abbrev pub IsShapedAs : TypeTable → Claims → TypeId → Bound → Type 0
+IsShapedAs types its id (bound.Function number) = IsClaimed types (its.functions number) id
+IsShapedAs types its id (bound.Routine number) = IsClaimed types (its.routines number) id
+IsShapedAs types its id bound.Nothing = Unit {0}
+
+-- and of that type
 abbrev pub IsClaimedAs : TypeTable → Claims → TypeId → Bound → Type 0
-IsClaimedAs types its id (bound.Function number) = IsClaimed types (its.functions number) id
-IsClaimedAs types its id (bound.Routine number) = IsClaimed types (its.routines number) id
+IsClaimedAs types its id (bound.Function number) =
+    IsClaimed types (its.functions number) id × IsAmong (entity.Function id (bound.Function number)) its.entities
+IsClaimedAs types its id (bound.Routine number) =
+    IsClaimed types (its.routines number) id × IsAmong (entity.Function id (bound.Routine number)) its.entities
 IsClaimedAs types its id bound.Nothing = Unit {0}
 
--- a name with that meaning refers to what was claimed; of automatic variables see `IsVariableIn`
+-- a name refers to what was claimed, by its shape
+abbrev pub RefersAs : TypeTable → Claims → List StaticObject → Entity → Type 0
+RefersAs types its objects (entity.Constant bits) = Unit {0}
+RefersAs types its objects (entity.Variable (variable.Global place) id) = category_at types (slice_get objects place) ≡ Some (category_of types id)
+RefersAs types its objects (entity.Variable (variable.Local place) id) = Unit {0}
+RefersAs types its objects (entity.Function id to) = IsShapedAs types its id to
+RefersAs types its objects (entity.Typedef id) = Unit {0}
+
+-- a name with that meaning refers to what was claimed, also by its type; of automatic variables see `IsVariableIn`
 abbrev pub RefersTo : TypeTable → Claims → List StaticObject → Entity → Type 0
 RefersTo types its objects (entity.Constant bits) = Unit {0}
 RefersTo types its objects (entity.Variable (variable.Global place) id) = category_at types (slice_get objects place) ≡ Some (category_of types id)
@@ -104,7 +132,7 @@ abbrev pub IsBoundAs : Bool → ℕ → List Definition → List Routine → Lis
 IsBoundAs internal unit definitions table name (entity.Constant bits) = Unit {0}
 IsBoundAs internal unit definitions table name (entity.Variable its id) = Unit {0}
 IsBoundAs internal unit definitions table name (entity.Function id to) = to ≡ bound_to internal unit name definitions table
-IsBoundAs internal unit definitions table name (entity.Typedef id) = Unit {0}
+IsBoundAs internal unit definitions table name (entity.Typedef id) = ⊥
 
 -- of that name in this unit
 abbrev pub IsBoundIn : Translator → Bool → List ℕ → Entity → Type 0
@@ -117,6 +145,7 @@ pub record IsLink (types : TypeTable) (here : List ℕ → Bool) (its : Claims) 
   pub internal : it.entity.internal ≡ true → here it.name ≡ true
   pub global : IsVariableIn types [] it.entity.entity
   pub typed : IsTypedIn m.typer.types it.entity.entity
+  pub own : (id : TypeId) → type_of_entity it.entity.entity ≡ Some id → IsOwn its.base m.typer.types id
 
 -- a declaration with external linkage
 pub record IsExternal (types : TypeTable) (its : Claims) (m : Translator) (it : External) : Type 0 where
@@ -170,12 +199,54 @@ IsMetAs false m it = IsTrue (is_some (newest_external it.name m.externals))
 abbrev pub IsMet : Translator → Definition → Type 0
 IsMet m it = IsMetAs it.internal m it
 
+-- ---- types of one function
+
+-- a declaration among these gives the function a type of the same structs
+abbrev pub IsNotedIn : TypeTable → Origins → List External → TypeId → Bound → Type 0
+IsNotedIn types o all id to =
+    (it : External) × IsAmong it all × (noted : TypeId) × (it.entity ≡ entity.Function noted to) × SameBy (AreStrict o types) types id noted
+
+-- a function with internal linkage has one type in its unit, and one with external linkage those of its declarations
+abbrev pub IsAccountedAs : Bool → TypeTable → Claims → Translator → TypeId → ℕ → Type 0
+IsAccountedAs true types its m id number =
+    (first : TypeId) × (its.functions number ≡ Some first) × SameBy (AreStrict m.typer.origins types) types id first
+IsAccountedAs false types its m id number = IsNotedIn types m.typer.origins m.externals id (bound.Function number)
+
+-- the type comes from such a declaration
+abbrev pub IsAccounted : TypeTable → Claims → Translator → Entity → Type 0
+IsAccounted types its m (entity.Function id (bound.Function number)) =
+    (one : Definition) × (slice_get m.definitions number ≡ Some one) × IsAccountedAs one.internal types its m id number
+IsAccounted types its m (entity.Function id (bound.Routine number)) = IsNotedIn types m.typer.origins m.routines id (bound.Routine number)
+IsAccounted types its m (entity.Function id bound.Nothing) = Unit {0}
+IsAccounted types its m (entity.Constant bits) = Unit {0}
+IsAccounted types its m (entity.Variable variable id) = Unit {0}
+IsAccounted types its m (entity.Typedef id) = Unit {0}
+
+-- two declarations of one name of earlier units have one type, but for structs that are not both complete
+abbrev pub AreClosedPairs : TypeTable → ℕ → Typer → List External → Type 0
+AreClosedPairs types base s all =
+    (x y : External) → IsAmong x all → IsAmong y all → (x.unit == s.origins.unit) ≡ false → (y.unit == s.origins.unit) ≡ false
+    → same_name x.name y.name ≡ true → (a b : TypeId) → type_of_entity x.entity ≡ Some a → type_of_entity y.entity ≡ Some b
+    → SameBy (AreClosed base s.types.structs s.origins types) types a b
+
+-- with external linkage, and of routines
+abbrev pub AreClosedAt : TypeTable → ℕ → Translator → Type 0
+AreClosedAt types base m = AreClosedPairs types base m.typer m.externals × AreClosedPairs types base m.typer m.routines
+
 -- ---- the program that a place of the text goes on to
 
--- The functions and routines that are claimed are the program's, and of that shape.
+-- a function is the program's, of one type
+abbrev pub IsFulfilled : TypedProgram → Entity → Type 0
+IsFulfilled program (entity.Function id (bound.Function number)) = IsDefined program program.types id (slice_get program.functions number)
+IsFulfilled program (entity.Function id (bound.Routine number)) = Unit {0}
+IsFulfilled program (entity.Function id bound.Nothing) = Unit {0}
+IsFulfilled program (entity.Constant bits) = Unit {0}
+IsFulfilled program (entity.Variable variable id) = Unit {0}
+IsFulfilled program (entity.Typedef id) = Unit {0}
+
+-- The functions and routines that are claimed are the program's, and of these types.
 pub record AreFulfilled (program : TypedProgram) (its : Claims) : Type 0 where
-  pub functions : (number : ℕ) (id : TypeId) → its.functions number ≡ Some id
-      → IsDefined program.types program.types id (slice_get program.functions number)
+  pub entities : AllByRecursion (IsFulfilled program) its.entities
   pub routines : (number : ℕ) (id : TypeId) → its.routines number ≡ Some id → number < length program.routines
 
 -- the category of a variable
@@ -208,10 +279,14 @@ pub record Endures (program : TypedProgram) (its : Claims) (m : Translator) : Ty
 
 -- ---- what is so at each place of the text
 
--- A call that is noted is of a routine that was claimed, and fits its role.
+-- a routine that was claimed, also with that type
+abbrev pub IsOfClaim : TypeTable → Claims → ℕ → TypeId → Type 0
+IsOfClaim types its number id = IsClaimed types (its.routines number) id × IsAmong (entity.Function id (bound.Routine number)) its.entities
+
+-- A call that is noted is of such a routine, and fits its role.
 abbrev pub IsCallClaimed : TypeTable → Claims → List Routine → RoutineCall → Type 0
 IsCallClaimed types its table call =
-    IsClaimed types (its.routines call.routine) call.type_id × (fits_role types table call.routine call.type_id ≡ true)
+    IsOfClaim types its call.routine call.type_id × (fits_role types table call.routine call.type_id ≡ true)
 
 -- An object is no function. Without an initialiser it starts as zero bytes, and otherwise with constants for its scalars.
 pub record IsObjectRight (program : TypedProgram) (its : Claims) (m : Translator) (it : StaticObject) : Type 0 where
@@ -242,11 +317,17 @@ pub record Stands (program : TypedProgram) (here : List ℕ → Bool) (its : Cla
   pub routines_there : (number : ℕ) (id : TypeId) → its.routines number ≡ Some id → IsFirstRoutine m.typer.table number
   pub internal : (number : ℕ) (it : Definition) → slice_get m.definitions number ≡ Some it → (it.unit == m.typer.origins.unit) ≡ true
       → it.internal ≡ here it.name
+  pub traced : IsTracedAt its.base m.typer
+  pub typedefs : AllByRecursion (λ it. IsOwnName its.base m.typer.types it.entity) m.typer.names.declarations
+  pub accounted : AllByRecursion (IsAccounted program.types its m) its.entities
+  pub closed : AreClosedAt program.types its.base m
 
 -- From one place of the text to a later one.
 pub record Proceeds (types : TypeTable) (its : Claims) (m : Translator) (its' : Claims) (m' : Translator) : Type 0 where
   pub functions : (number : ℕ) (id : TypeId) → its.functions number ≡ Some id → its'.functions number ≡ Some id
   pub routines : (number : ℕ) (id : TypeId) → its.routines number ≡ Some id → its'.routines number ≡ Some id
+  pub entities : (it : Entity) → IsAmong it its.entities → IsAmong it its'.entities
+  pub base : its'.base ≡ its.base
   pub objects : ObjectsStay types m.objects m'.objects
   pub met : (it : Definition) → IsMet m it → IsMet m' it
   pub fresh : (number : ℕ) (id : TypeId) (it : Definition) → its'.functions number ≡ Some id → its.functions number ≡ None

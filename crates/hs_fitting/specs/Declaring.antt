@@ -1,17 +1,17 @@
 -- Declarations move on what is known of a program.
 --     file_declared_moved             a declaration of file scope
 --     link_moved, linked_moved, ..    its parts, for those of blocks
-use Rattle.std.proofs.Common.{ℕ, Bool, true, false, not, ◌&&◌, List, [], ◌∷◌, ◌++◌, length, Option, Some, None, Ok, if◌then◌else◌, refl}
+use Rattle.std.proofs.Common.{ℕ, Bool, true, false, not, ◌&&◌, List, [], ◌∷◌, ◌++◌, Option, Some, None, Ok, if◌then◌else◌, refl}
 use Rattle.hs_declarations.specs.Declarations.{is_object, can_start, object_place, is_first, object_started, object_with_start, may_be_tentative, file_object, with_inline_words, function_declared, file_entity, is_static, is_typedef_word, file_item_as, file_item, file_items, typedef_as, typedef_item, typedef_types, typedef_named, typedefs_named, typedef_items, nothing_named, file_declared_at, file_declared}
 use Rattle.hs_declarations.specs.Fronts.{front, item_type, tag_alone, tag_alone_as, lone_tag, declares_any, place_of_start}
 use Rattle.hs_declarations.specs.declared.fronts.Front.{Front}
 use Rattle.hs_expressions.specs.Expressions.{first_place}
-use Rattle.hs_expressions.specs.Laws.{IsConstant, IsScoped, IsTagAt}
+use Rattle.hs_expressions.specs.Laws.{IsConstant, IsScoped}
 use Rattle.hs_expressions.specs.Laws.Always.{Always, Anything, gives_always, refuses_always, looks_always, on_types_always, then_always}
 use Rattle.hs_expressions.specs.Laws.Extending.{specified_always, derivations_always}
-use Rattle.hs_expressions.specs.Laws.Grown.{formed_grows, grows_struct}
-use Rattle.hs_expressions.specs.Laws.Leaves.{declare_always}
-use Rattle.hs_expressions.specs.Laws.Reached.{IsAllowedAt, more_one, more_self, reaches_named, reaches_origins}
+use Rattle.hs_expressions.specs.Laws.Grown.{formed_grows}
+use Rattle.hs_expressions.specs.Laws.Leaves.{tagged_struct_reaches, declare_always}
+use Rattle.hs_expressions.specs.Laws.Reached.{IsAllowedAt, more_one, reaches_names}
 use Rattle.hs_fitting.specs.Initialising.{initialised_always, inline_words_always}
 use Rattle.hs_fitting.specs.Moves.{Moves, moves_self}
 use Rattle.hs_fitting.specs.Moving.{Moving, Moved, passes_moved, stops_moved, knowing_moved, unless_moved, then_moved, and_moved, typing_moved}
@@ -30,15 +30,12 @@ use Rattle.hs_tokens.specs.declared.place.Place.{Place}
 use Rattle.hs_tree.specs.declared.constant.Part.{Part}
 use Rattle.hs_tree.specs.declared.head.Variable.TheVariants as variable
 use Rattle.hs_typer.specs.Declarators.{declare, formed, place_of, word_of}
-use Rattle.hs_typer.specs.Origins.{with_struct_origin}
 use Rattle.hs_typer.specs.Specifiers.{no_specifiers, type_from, new_tagged_struct}
 use Rattle.hs_typer.specs.declared.type_error.TypeError.TheVariants.{Untyped}
 use Rattle.hs_typer.specs.declared.typer.Entity.{Entity}
 use Rattle.hs_typer.specs.declared.typer.Entity.TheVariants as entity
 use Rattle.hs_typer.specs.declared.typer.Tag.{Tag}
 use Rattle.hs_typer.specs.declared.typer.Tag.TheVariants as tag
-use Rattle.hs_types.specs.Growing.{grows_self}
-use Rattle.hs_types.specs.TypeTables.{with_struct}
 use Rattle.hs_types.specs.declared.row.TypeId.{TypeId}
 
 -- ---- steps of typing
@@ -59,21 +56,13 @@ item_type_always at base it =
 pub renamed_always : (word : Word) (it : Entity) → Always Anything (renamed word it)
 renamed_always word it =
     record {
-      from = λ s scoped. reaches_named Anything s s.types (declared word.text it s.names) s.tags (grows_self s.types)
-          (more_one (IsAllowedAt Anything s.names.level) word.text it s.names (refl, tt)) (more_self (IsTagAt s.tags.level) s.tags);
+      from = λ s scoped. reaches_names Anything s (declared word.text it s.names)
+          (more_one (IsAllowedAt Anything s.names.level) word.text it s.names (refl, tt));
     }
 
 -- `struct tag;`
 new_tag_always : (word : Word) → Always IsConstant (new_tagged_struct word)
-new_tag_always word =
-    record {
-      from = λ s scoped. reaches_origins IsConstant s
-          (record s { types = with_struct s.types; tags = declared word.text (tag.Struct (length s.types.structs)) s.tags })
-          (with_struct_origin (Some word.text) s.origins) refl
-          (reaches_named IsConstant s (with_struct s.types) s.names (declared word.text (tag.Struct (length s.types.structs)) s.tags)
-          (grows_struct s.types) (more_self (IsAllowedAt IsConstant s.names.level) s.names)
-          (more_one (IsTagAt s.tags.level) word.text (tag.Struct (length s.types.structs)) s.tags refl));
-    }
+new_tag_always word = record { from = λ s scoped. tagged_struct_reaches IsConstant word s }
 
 tag_as_always : (word : Word) (it : Option Tag) → Always IsConstant (tag_alone_as word it)
 tag_as_always word None = then_always (new_tag_always word) (λ number. gives_always tt)

@@ -14,13 +14,16 @@ use Rattle.hs_fitting.specs.Claims.{Claims, RefersTo, IsVariableIn, IsMet, IsCal
 use Rattle.hs_fitting.specs.Defining.{parameters_in_moved}
 use Rattle.hs_fitting.specs.Done.{AreDone}
 use Rattle.hs_fitting.specs.Given.{HasParameters, parameters_given}
-use Rattle.hs_fitting.specs.Heading.{typed_variables, typed_types, named_shape, named_met}
+use Rattle.hs_fitting.specs.Heading.{typed_variables, typed_types, named_among, named_met}
 use Rattle.hs_fitting.specs.Inner.{Inner, inner_moves, inner_named, named_inside, with_name, with_name_outside}
-use Rattle.hs_fitting.specs.Known.{stands_typer, names_after, constant_refers, constant_local}
+use Rattle.hs_fitting.specs.Known.{stands_typer, own_here, names_after, constant_refers, constant_local}
 use Rattle.hs_fitting.specs.Lasting.{endures_typer, endures_scopes}
-use Rattle.hs_fitting.specs.Leaving.{local_later}
+use Rattle.hs_fitting.specs.Leaving.{local_later, typedefs_later}
 use Rattle.hs_fitting.specs.Linking.{Linking, MayMake, link_stands, linking_global}
 use Rattle.hs_fitting.specs.Links.{global_in}
+use Rattle.hs_fitting.specs.Owned.{IsOwn}
+use Rattle.hs_fitting.specs.Owning.{IsOwnName, own_after}
+use Rattle.hs_expressions.specs.Laws.Traced.{TracedTo, traced_then, traced_same}
 use Rattle.hs_fitting.specs.Listed.{list_stays}
 use Rattle.hs_fitting.specs.Moves.{Moves, same_locals}
 use Rattle.hs_fitting.specs.Moving.{Moving}
@@ -107,6 +110,27 @@ module _ (program : TypedProgram) (here : List ℕ → Bool) (its : Claims) (m :
   outside_variable : (variables : List VariableDecl) (it : Entity) → IsVariableIn program.types [] it → IsVariableIn program.types variables it
   outside_variable variables it is = local_later program.types [] variables it (types_of variables, refl) is
 
+  -- typedef names are of this unit
+  pub around_own : AllByRecursion (λ it. IsOwnName its.base opened.mid.types it.entity) opened.mid.names.declarations
+  around_own = (own_after its.base m.typer opened.mid opened.around (own_here program here its [] m stands)).names
+
+  pub parameter_plain : (base : ℕ) (types : TypeTable) (it : Entity) → IsParameterName opened.ids it → IsOwnName base types it
+  parameter_plain base types (entity.Constant bits) is = tt
+  parameter_plain base types (entity.Variable variable id) is = tt
+  parameter_plain base types (entity.Function id to) is = tt
+  parameter_plain base types (entity.Typedef id) is = absurd is
+
+  typedefs_opened : AllByRecursion (λ it. IsOwnName its.base new.types it.entity) new.names.declarations
+  typedefs_opened =
+      named_opened (IsOwnName its.base new.types) (parameter_plain its.base new.types)
+      (typedefs_later its.base its.base opened.mid.types new.types refl opened.inside.types opened.mid.names.declarations around_own)
+
+  -- origins are known as before
+  traced_opened : TracedTo m.typer new
+  traced_opened =
+      traced_then m.typer opened.mid new opened.around.traced
+      (traced_then opened.mid (enter opened.mid) new (traced_same opened.mid (enter opened.mid) refl refl refl) opened.inside.traced)
+
   endures_opened : Endures program its (record m { typer = new }) → Endures program its m
   endures_opened endures =
       endures_typer program its m opened.mid IsConstant opened.around
@@ -119,7 +143,7 @@ module _ (program : TypedProgram) (here : List ℕ → Bool) (its : Claims) (m :
       → Stands program here its variables (record m { typer = new })
   stands_opened variables same none calls right =
       stands_typer program here its m new (opened.inside.unit ∙ opened.around.unit) (opened.inside.table ∙ opened.around.table) [] variables
-      (grows_then m.typer.types opened.mid.types new.types opened.around.types opened.inside.types)
+      (grows_then m.typer.types opened.mid.types new.types opened.around.types opened.inside.types) traced_opened typedefs_opened
       (named_opened (RefersTo program.types its m.objects) parameter_refers around_refer)
       (named_opened (IsVariableIn program.types variables) (parameter_variable variables same)
       (all_so (λ it. IsVariableIn program.types [] it.entity) (λ it. IsVariableIn program.types variables it.entity)
@@ -142,7 +166,8 @@ module _ (program : TypedProgram) (here : List ℕ → Bool) (sound : IsRight pr
     (at : slice_get m.definitions (length done) ≡ Some one) (unit : (one.unit == m.typer.origins.unit) ≡ true) (word : Word)
     (named : one.name ≡ word.text) (id : TypeId) (gives : TypeId) (list : ListId) (body : Compound) (them : Parameters) (new : Typer)
     (opened : OpenedAs m.typer new id) (many : AreAsMany opened.ids them) (is_row : row_of new.types id ≡ Some (row.Function gives list))
-    (calls : Grows new.types program.types → AllByRecursion (IsCallClaimed program.types its m.typer.table) new.calls) (right : AreRight new.types) where
+    (calls : Grows new.types program.types → AllByRecursion (IsCallClaimed program.types its m.typer.table) new.calls) (right : AreRight new.types)
+    (owned : IsOwn its.base new.types id) where
   -- the place at which that scope is open
   abbrev here_opened : Translator
   here_opened = record m { typer = new }
@@ -195,7 +220,7 @@ module _ (program : TypedProgram) (here : List ℕ → Bool) (sound : IsRight pr
 
       linking : Linking program here its variables here_opened word id p
       linking =
-          link_stands program here static word id its variables here_opened grown inside make
+          link_stands program here static word id its variables here_opened grown inside make owned
           (stands_opened program here its m id new opened stands variables (typed_types word opened.ids) none (calls grown) right) p linked
 
       -- the names then
@@ -221,9 +246,20 @@ module _ (program : TypedProgram) (here : List ℕ → Bool) (sound : IsRight pr
       refers_then : (it : Entity) → RefersTo program.types its m.objects it → RefersTo program.types linking.claims p.1.objects it
       refers_then it is = Rattle.hs_fitting.specs.Leaving.refers_later program.types its here_opened linking.claims p.1 it linking.proceeds is
 
+      grows_named : Grows opened.mid.types p.1.typer.types
+      grows_named = grows_then opened.mid.types new.types p.1.typer.types opened.inside.types moves.typer.types
+
+      typedefs_named : AllByRecursion (λ it. IsOwnName linking.claims.base p.1.typer.types it.entity) here_named.typer.names.declarations
+      typedefs_named =
+          named_all (IsOwnName linking.claims.base p.1.typer.types) (linking.plain linking.claims.base p.1.typer.types) linking.stands.typedefs
+          (parameter_plain program here its m id new opened stands linking.claims.base p.1.typer.types)
+          (typedefs_later its.base linking.claims.base opened.mid.types p.1.typer.types linking.proceeds.base grows_named
+          opened.mid.names.declarations (around_own program here its m id new opened stands))
+
       stands_named : Stands program here linking.claims variables here_named
       stands_named =
           stands_typer program here linking.claims p.1 here_named.typer refl refl variables variables (grows_self p.1.typer.types)
+          (traced_same p.1.typer here_named.typer refl refl refl) typedefs_named
           (named_all (RefersTo program.types linking.claims p.1.objects) linking.refers linking.stands.names
           (λ it is. refers_then it (parameter_refers program here its m id new opened stands it is))
           (all_so (λ it. RefersTo program.types its m.objects it.entity) (λ it. RefersTo program.types linking.claims p.1.objects it.entity)
@@ -299,7 +335,11 @@ module _ (program : TypedProgram) (here : List ℕ → Bool) (sound : IsRight pr
               outside = around_outside program here its m id new opened stands none;
               types = locals_then;
               signature = signature_here;
-              shape = named_shape program here its variables here_opened word id p linking (length done) one at_linked named unit_linked is_function_here
+              plain = linking.plain;
+              typedefs = typedefs_later its.base linking.claims.base opened.mid.types c.typer.types linking.proceeds.base
+                  (grows_then opened.mid.types p.1.typer.types c.typer.types grows_named given_here.typer.types) opened.mid.names.declarations
+                  (around_own program here its m id new opened stands);
+              among = named_among program here its variables here_opened word id p linking (length done) one at_linked named unit_linked is_function_here
                   only;
               met = subst (λ n. IsMet n one) (sym has.1)
                   ((proceeds_still program.types linking.claims p.1 (record here_named { locals = here_named.locals ++ has.0 }) refl refl refl refl).met one

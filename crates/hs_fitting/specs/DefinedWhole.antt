@@ -11,15 +11,18 @@ use Rattle.hs_expressions.specs.Laws.{IsConstant, IsScoped}
 use Rattle.hs_expressions.specs.Laws.Always.{Reaching}
 use Rattle.hs_expressions.specs.Laws.Reached.{Reaches, scoped_after}
 use Rattle.hs_fitting.specs.Bodies.{DefinedRight, DefiningRight}
-use Rattle.hs_fitting.specs.Claims.{Claims, IsVariableIn, IsCallClaimed, RefersTo, Stands, Proceeds}
+use Rattle.hs_fitting.specs.Claims.{IsOfClaim, Claims, IsVariableIn, IsCallClaimed, RefersTo, Stands, Proceeds}
 use Rattle.hs_fitting.specs.Declaring.{front_always}
 use Rattle.hs_fitting.specs.Defined.{with_right}
 use Rattle.hs_fitting.specs.Defining.{FitsGiven, said_fits}
 use Rattle.hs_fitting.specs.Done.{AreDone, done_later}
-use Rattle.hs_fitting.specs.Known.{stands_typer, proceeds_typer, names_after, names_allow, constant_refers, constant_local, IsOfClaim}
+use Rattle.hs_fitting.specs.Known.{stands_typer, own_here, proceeds_typer, names_after, names_allow, constant_refers, constant_local}
 use Rattle.hs_fitting.specs.Lasting.{endures_typer}
 use Rattle.hs_fitting.specs.Noting.{Noted, Noting}
 use Rattle.hs_fitting.specs.NotingDeclaring.{front_notes, opened_noting}
+use Rattle.hs_fitting.specs.Opened.{FormedAt, opened_formed, opened_own}
+use Rattle.hs_fitting.specs.Owned.{IsOwn}
+use Rattle.hs_fitting.specs.Owning.{Owning, own_after, front_own}
 use Rattle.hs_fitting.specs.Parameters.{OpensFor, opens_for}
 use Rattle.hs_fitting.specs.Phrases.{IsRightItem}
 use Rattle.hs_fitting.specs.Rightness.{AreRight}
@@ -90,41 +93,45 @@ module _ (program : TypedProgram) (here : List ℕ → Bool) (sound : IsRight pr
       named_so = named ∙ ap text_of is_word
 
       of_right : (id : TypeId) (new : Typer) → OpensFor m.typer them (Ok (id, new))
-          → Noted (IsOfClaim program.types its) program.types (λ it. Unit {0}) m.typer (id, new) → (o : Option Row) → row_of new.types id ≡ o
+          → Noted (IsOfClaim program.types its) program.types (λ it. Unit {0}) m.typer (id, new) → IsOwn its.base new.types id → (o : Option Row)
+          → row_of new.types id ≡ o
           → DefiningRight program here its m done (defined_of (length done) static word them id body o (record m { typer = new }))
-      of_right id new opens noted None same = tt
-      of_right id new opens noted (Some row.Void) same = tt
-      of_right id new opens noted (Some (row.Integer kind)) same = tt
-      of_right id new opens noted (Some (row.Pointer of)) same = tt
-      of_right id new opens noted (Some (row.Enumeration tag)) same = tt
-      of_right id new opens noted (Some (row.Struct tag)) same = tt
-      of_right id new opens noted (Some (row.Array of size layout)) same = tt
-      of_right id new opens noted (Some (row.OpenArray of)) same = tt
-      of_right id new opens noted (Some (row.Function gives list)) same =
+      of_right id new opens noted own None same = tt
+      of_right id new opens noted own (Some row.Void) same = tt
+      of_right id new opens noted own (Some (row.Integer kind)) same = tt
+      of_right id new opens noted own (Some (row.Pointer of)) same = tt
+      of_right id new opens noted own (Some (row.Enumeration tag)) same = tt
+      of_right id new opens noted own (Some (row.Struct tag)) same = tt
+      of_right id new opens noted own (Some (row.Array of size layout)) same = tt
+      of_right id new opens noted own (Some (row.OpenArray of)) same = tt
+      of_right id new opens noted own (Some (row.Function gives list)) same =
           with_right program here sound declared its m scoped counts_here none stands done are one at unit word named_so id gives list body them new
-          opens.opened_scope opens.many same (λ grows. noted.calls grows stands.calls) (noted.right stands.right) static (inside word is_word)
+          opens.opened_scope opens.many same (λ grows. noted.calls grows stands.calls) (noted.right stands.right) own static (inside word is_word)
 
-      opened_right : (given : Result (TypeId × Typer) TypeError) → OpensFor m.typer them given
+      opened_right : (of : TypeId) → IsOwn its.base m.typer.types of → (given : Result (TypeId × Typer) TypeError) → OpensFor m.typer them given
+          → FormedAt its.base of given
           → Noting (IsOfClaim program.types its) program.types (λ it. Unit {0}) m.typer given
           → DefiningRight program here its m done (work_with (λ id. defined_as (length done) static word them body id) (with_typer m given))
-      opened_right (Ok p) opens noted = of_right p.0 p.1 opens noted (row_of p.1.types p.0) refl
-      opened_right (Err why) opens noted = tt
+      opened_right of own (Ok p) opens formed noted =
+          of_right p.0 p.1 opens noted
+          (opened_own its.base of p.0 m.typer p.1 opens.opened_scope formed (own_here program here its [] m stands) own) (row_of p.1.types p.0) refl
+      opened_right of own (Err why) opens formed noted = tt
 
     -- by its name and its parameters
-    by_right : (place : Place) (said : Front) → (static ≡ is_static said.storage)
+    by_right : (place : Place) (said : Front) → IsOwn its.base m.typer.types said.type_id → (static ≡ is_static said.storage)
         → ((word : Word) → word_of it ≡ Some word → static ≡ true → here word.text ≡ true) → (word : Option Word) → word_of it ≡ word
         → (them : Option Parameters) → parameters_of it ≡ them
         → DefiningRight program here its m done (defined_by (length done) place said it body word them m)
-    by_right place said is_so inside None is_word them same = tt
-    by_right place said is_so inside (Some word) is_word None same = tt
-    by_right place said is_so inside (Some word) is_word (Some them) same =
+    by_right place said own is_so inside None is_word them same = tt
+    by_right place said own is_so inside (Some word) is_word None same = tt
+    by_right place said own is_so inside (Some word) is_word (Some them) same =
         may (is_typedef (find word.text m.typer.names) || not (is_free (find_here word.text m.typer.names) (find word.text m.links)))
       where
         opened_so : DefiningRight program here its m done
             (work_with (λ id. defined_as (length done) static word them body id) (with_typer m (opened_type place said.type_id it them m.typer)))
         opened_so =
-            opened_right inside word is_word them (opened_type place said.type_id it them m.typer)
-            (opens_for place said.type_id it them same m.typer scoped)
+            opened_right inside word is_word them said.type_id own (opened_type place said.type_id it them m.typer)
+            (opens_for place said.type_id it them same m.typer scoped) (opened_formed its.base said.type_id place it them m.typer)
             (opened_noting (IsOfClaim program.types its) program.types place said.type_id it them m.typer (names_allow program here its [] m stands))
 
         may : (b : Bool) → DefiningRight program here its m done (work_with {A = Unit {0}} {B = TypedFunction}
@@ -136,15 +143,15 @@ module _ (program : TypedProgram) (here : List ℕ → Bool) (sound : IsRight pr
             (work_with (λ id. defined_as (length done) b word them body id) (with_typer m (opened_type place said.type_id it them m.typer)))) is_so opened_so
 
     -- and by its storage word
-    said_right : (place stored : Place) (said : Front) → (static ≡ is_static said.storage)
+    said_right : (place stored : Place) (said : Front) → IsOwn its.base m.typer.types said.type_id → (static ≡ is_static said.storage)
         → ((word : Word) → word_of it ≡ Some word → static ≡ true → here word.text ≡ true)
         → DefiningRight program here its m done (defined_said (length done) place stored it body said m)
-    said_right place stored said is_so inside = may (is_typedef_word said.storage)
+    said_right place stored said own is_so inside = may (is_typedef_word said.storage)
       where
         may : (b : Bool) → DefiningRight program here its m done (work_with {A = Unit {0}} {B = TypedFunction}
             (λ ready. defined_by (length done) place said it body (word_of it) (parameters_of it)) (if b then Err (Untyped stored) else Ok (tt, m)))
         may true = tt
-        may false = by_right place said is_so inside (word_of it) refl (parameters_of it) refl
+        may false = by_right place said own is_so inside (word_of it) refl (parameters_of it) refl
 
   module _ (m : Translator) (scoped : IsScoped m.typer) (counts_here : m.typer.counts ≡ true) (none : m.locals ≡ [])
       (stands : Stands program here its [] m) (are : AreDone program its m done) (at : slice_get m.definitions (length done) ≡ Some one)
@@ -154,7 +161,8 @@ module _ (program : TypedProgram) (here : List ℕ → Bool) (sound : IsRight pr
     stands_front : (new : Typer) → Reaches IsConstant m.typer new → AllByRecursion (IsCallClaimed program.types its m.typer.table) new.calls
         → AreRight new.types → Stands program here its [] (record m { typer = new })
     stands_front new reached calls right =
-        stands_typer program here its m new reached.unit reached.table [] [] reached.types
+        stands_typer program here its m new reached.unit reached.table [] [] reached.types reached.traced
+        (own_after its.base m.typer new reached (own_here program here its [] m stands)).names
         (names_after program.types (RefersTo program.types its m.objects) (constant_refers program.types its m) m.typer new reached stands.names)
         (names_after program.types (IsVariableIn program.types []) (constant_local program.types (record m { locals = [] })) m.typer new reached
         stands.locals)
@@ -174,7 +182,9 @@ module _ (program : TypedProgram) (here : List ℕ → Bool) (sound : IsRight pr
         let proceeds : Proceeds program.types its m its after = proceeds_typer program here its m p.1 reached.unit reached.table in
         defining_behind program here its m after done refl reached.unit proceeds (defined_said (length done) place stored it body p.0 after)
         (said_right after inner (reached.counts ∙ counts_here) none stood (done_later program here its its [] m after refl proceeds done stood are) at
-        (subst (λ number. (one.unit == number) ≡ true) (sym reached.unit) unit) (is_static p.0.storage) place stored p.0 refl
+        (subst (λ number. (one.unit == number) ≡ true) (sym reached.unit) unit) (is_static p.0.storage) place stored p.0
+        (subst (Owning its.base (λ types said. IsOwn its.base types said.type_id)) same
+        (front_own its.base place words m.typer scoped (own_here program here its [] m stands))) refl
         (λ word is_word static. inside (front_static place words m.typer p.1 p.0 same static) word is_word)))
     after_front place stored (Err why) same reached noted = tt
 

@@ -1,28 +1,45 @@
--- The functions that were defined so far, by the claims: each that is claimed has the shape of what was claimed, and no claim for it is made
--- later (X3.159-1989 3.7.1).
+-- The functions that were defined so far, by the claims: each that is claimed has the signature of a type that was declared for it, and no claim for it
+-- is made later (X3.159-1989 3.7.1).
 --     AreDone program its m done         so it is of these functions
 --     done_later                         at a later place of the text
 --     done_with                          with one more
 use Rattle.std.proofs.Common.{◌≡◌, ℕ, zero, suc, Bool, List, [], ◌∷◌, ◌++◌, length, slice_get, Option, Some, None, refl, ap, subst, ◌∙◌}
-use Rattle.hs_expressions.specs.Binding.{IsDefined}
+use Rattle.std.specs.Prelude.{take}
+use Rattle.hs_expressions.specs.Binding.{IsSignature}
 use Rattle.hs_fitting.specs.Claims.{Claims, IsMet, Stands, Proceeds}
+use Rattle.hs_fitting.specs.Entities.{IsAmong}
 use Rattle.hs_fitting.specs.Tests.{some_same, one_there, some_there}
 use Rattle.hs_linkage.specs.declared.definitions.Definition.{Definition}
 use Rattle.hs_linkage.specs.declared.translator.Translator.{Translator}
+use Rattle.hs_operands.specs.declared.operand.Bound.TheVariants as bound
+use Rattle.hs_tree.specs.Fitting.{types_of}
 use Rattle.hs_tree.specs.Trees.{TypedFunction, TypedProgram}
+use Rattle.hs_typer.specs.declared.typer.Entity.{Entity}
+use Rattle.hs_typer.specs.declared.typer.Entity.TheVariants as entity
 use Rattle.hs_tree.specs.declared.head.VariableDecl.{VariableDecl}
 use Rattle.hs_types.specs.declared.row.TypeId.{TypeId}
 
+-- the function has the results and the parameters of one of the types that were declared for it
+abbrev pub IsExactly : TypedProgram → Claims → ℕ → TypedFunction → Type 0
+IsExactly program its number it =
+    (id : TypeId) × IsAmong (entity.Function id (bound.Function number)) its.entities
+    × IsSignature program.types id (types_of (take it.parameters it.variables)) it.result
+
+-- at a later place of the text
+pub exactly_later : (program : TypedProgram) (its later : Claims) → ((it : Entity) → IsAmong it its.entities → IsAmong it later.entities)
+    → (number : ℕ) (it : TypedFunction) → IsExactly program its number it → IsExactly program later number it
+exactly_later program its later stay number it is = (is.0, stay (entity.Function is.0 (bound.Function number)) is.1, is.2)
+
 -- of the functions that were defined, by their numbers
 pub record AreDone (program : TypedProgram) (its : Claims) (m : Translator) (done : List TypedFunction) : Type 0 where
-  pub shaped : (number : ℕ) (id : TypeId) (it : TypedFunction) → slice_get done number ≡ Some it → its.functions number ≡ Some id
-      → IsDefined program.types program.types id (Some it)
+  pub exact : (number : ℕ) (id : TypeId) (it : TypedFunction) → slice_get done number ≡ Some it → its.functions number ≡ Some id
+      → IsExactly program its number it
   pub met : (number : ℕ) (it : TypedFunction) (one : Definition) → slice_get done number ≡ Some it → slice_get m.definitions number ≡ Some one
       → IsMet m one
 
 -- before the first one
 pub none_done : (program : TypedProgram) (its : Claims) (m : Translator) → AreDone program its m []
-none_done program its m = record { shaped = λ number id it at claimed. absurd cc; met = λ number it one at. absurd cc }
+none_done program its m = record { exact = λ number id it at claimed. absurd cc; met = λ number it one at. absurd cc }
 
 module _ (program : TypedProgram) (here : List ℕ → Bool) (its later : Claims) (variables : List VariableDecl) (m n : Translator)
     (same : n.definitions ≡ m.definitions) (proceeds : Proceeds program.types its m later n) where
@@ -45,8 +62,8 @@ module _ (program : TypedProgram) (here : List ℕ → Bool) (its later : Claims
   pub done_later : (done : List TypedFunction) → Stands program here later variables n → AreDone program its m done → AreDone program later n done
   done_later done stands are =
       record {
-        shaped = λ number id it at claimed. are.shaped number id it at
-            (claimed_before stands number id claimed (λ one there. are.met number it one at there));
+        exact = λ number id it at claimed. exactly_later program its later proceeds.entities number it
+            (are.exact number id it at (claimed_before stands number id claimed (λ one there. are.met number it one at there)));
         met = λ number it one at there. proceeds.met one (are.met number it one at (subst (λ all. slice_get all number ≡ Some one) same there));
       }
 
@@ -63,13 +80,12 @@ either_at P (first ∷ done) last older new (suc number) it at =
 
 -- with one more
 pub done_with : (program : TypedProgram) (its : Claims) (m : Translator) (done : List TypedFunction) (last : TypedFunction)
-    → AreDone program its m done → ((id : TypeId) → its.functions (length done) ≡ Some id → IsDefined program.types program.types id (Some last))
+    → AreDone program its m done → ((id : TypeId) → its.functions (length done) ≡ Some id → IsExactly program its (length done) last)
     → ((one : Definition) → slice_get m.definitions (length done) ≡ Some one → IsMet m one) → AreDone program its m (done ++ last ∷ [])
-done_with program its m done last are shaped met =
+done_with program its m done last are exact met =
     record {
-      shaped = λ number id it at claimed. either_at
-          (λ number it. (id : TypeId) → its.functions number ≡ Some id → IsDefined program.types program.types id (Some it)) done last
-          (λ number it at id claimed. are.shaped number id it at claimed) shaped number it at id claimed;
+      exact = λ number id it at claimed. either_at (λ number it. (id : TypeId) → its.functions number ≡ Some id → IsExactly program its number it)
+          done last (λ number it at id claimed. are.exact number id it at claimed) exact number it at id claimed;
       met = λ number it one at there. either_at
           (λ number it. (one : Definition) → slice_get m.definitions number ≡ Some one → IsMet m one) done last
           (λ number it at one there. are.met number it one at there) met number it at one there;

@@ -34,6 +34,13 @@ module _ {A : Type 0} where
   among_has holds it (first ∷ rest) are (inl same) = subst holds same are.0
   among_has holds it (first ∷ rest) are (inr behind) = among_has holds it rest are.1 behind
 
+  -- what is so of all of a list is so of those that are among it
+  pub all_by_among : (holds : A → Type 0) (its more : List A) → ((it : A) → IsAmong it its → IsAmong it more) → AllByRecursion holds more
+      → AllByRecursion holds its
+  all_by_among holds [] more among are = tt
+  all_by_among holds (first ∷ rest) more among are =
+      (among_has holds first more are (among first (inl refl)), all_by_among holds rest more (λ it is. among it (inr is)) are)
+
   -- each entry is one
   pub all_among : (its : List A) → AllByRecursion (λ it. IsAmong it its) its
   all_among [] = tt

@@ -1,25 +1,28 @@
 -- Declarations of file scope refer to what was claimed, and start objects with what fits them (X3.159-1989 3.5 and 3.7.2).
 --     then_plain, any_typing          steps of which no fact is wanted
 --     given_walks                     facts that do not change
---     item_walks                      the type of a declarator
 --     file_declared_walks             a declaration of file scope
-use Rattle.std.proofs.Common.{◌≡◌, ℕ, Bool, true, false, not, ◌&&◌, ◌||◌, List, [], ◌∷◌, ◌++◌, slice_get, Option, Some, None, is_none, refl, sym, ap, ◌∙◌, if◌then◌else◌}
+use Rattle.std.proofs.Common.{◌≡◌, ℕ, Bool, true, false, not, ◌&&◌, ◌||◌, List, [], ◌∷◌, ◌++◌, slice_get, Option, Some, None, is_none, refl, sym, ap, subst, ◌∙◌, if◌then◌else◌}
 use Rattle.std.specs.List.{AllByRecursion}
 use Rattle.hs_declarations.specs.Declarations.{is_object, can_start, is_first, object_started, object_with_start, may_be_tentative, file_object, function_declared, file_entity, is_static, is_typedef_word, file_item_as, file_item, file_items, typedef_as, typedef_item, typedef_types, typedef_named, typedefs_named, typedef_items, file_items_as, file_declared_at, file_declared}
 use Rattle.hs_declarations.specs.Fronts.{front, item_type, lone_tag, place_of_start}
 use Rattle.hs_declarations.specs.declared.fronts.Front.{Front}
 use Rattle.hs_expressions.specs.Expressions.{first_place}
 use Rattle.hs_expressions.specs.Laws.{IsConstant}
+use Rattle.hs_expressions.specs.Laws.Reached.{all_appended}
 use Rattle.hs_fitting.specs.BlockWalks.{either_known_walks, nothing_named_walks, function_declared_walks, object_walks}
 use Rattle.hs_fitting.specs.Claims.{Claims, RefersTo, Endures, Proceeds, category_at}
 use Rattle.hs_fitting.specs.Initialised.{initialised_walks}
-use Rattle.hs_fitting.specs.Known.{typing_known, typing_walks}
+use Rattle.hs_fitting.specs.Known.{own_here, typing_fully, typing_walks}
 use Rattle.hs_fitting.specs.Lasting.{endures_moves}
 use Rattle.hs_fitting.specs.LinkedNames.{kept_walks, define_object_walks, named_walks, linked_walks, completed_link_walks}
 use Rattle.hs_fitting.specs.Moves.{Moves}
 use Rattle.hs_fitting.specs.Moving.{Moved}
 use Rattle.hs_fitting.specs.Noting.{Notes}
-use Rattle.hs_fitting.specs.NotingDeclaring.{front_notes, item_type_notes}
+use Rattle.hs_fitting.specs.NotingDeclaring.{front_notes}
+use Rattle.hs_fitting.specs.OwnWalks.{OwnId, own_kept, own_over, own_through, item_own_walks, initialised_also}
+use Rattle.hs_fitting.specs.Owned.{IsOwn}
+use Rattle.hs_fitting.specs.Owning.{Owning, front_own}
 use Rattle.hs_fitting.specs.Storage.{front_static}
 use Rattle.hs_fitting.specs.Tests.{true_false, not_false}
 use Rattle.hs_fitting.specs.Walk.{Anywhere, Nothing, Walks, passes_walks, stops_walks, unless_walks, then_walks, so_walks}
@@ -31,7 +34,7 @@ use Rattle.hs_linkage.specs.Objects.{is_defined}
 use Rattle.hs_linkage.specs.Works.{Work, ◌>>=◌, typing}
 use Rattle.hs_linkage.specs.declared.translator.Translator.{Translator}
 use Rattle.hs_operands.specs.Types.{is_open}
-use Rattle.hs_syntax.specs.Trees.{Declared, Declaring, Declaration, Initialising, Specification}
+use Rattle.hs_syntax.specs.Trees.{Declaring, Declaration, Initialising, Specification}
 use Rattle.hs_syntax.specs.declared.word.Word.{Word}
 use Rattle.hs_tokens.specs.declared.place.Place.{Place}
 use Rattle.hs_tree.specs.Kinds.{of_function, category_of}
@@ -60,6 +63,22 @@ IsObjectAt types place id m = category_at types (slice_get m.objects place) ≡ 
 -- an object, and what it starts with
 abbrev IsStartedAt : TypedProgram → ℕ → TypeId → List Part → Claims → Translator → Type 0
 IsStartedAt program place id parts its m = IsObjectAt program.types place id m × (Endures program its m → FitsParts program id parts)
+
+-- an object that may get an initialiser
+abbrev IsReady : TypedProgram → ℕ → TypeId → Claims → Translator → Type 0
+IsReady program place id its m =
+    MayStart m.typer.types id × (IsObjectAt program.types place id m × IsNoFunction program.types id) × OwnId id its m
+
+-- types of this unit
+abbrev AllOwn : List TypeId → Claims → Translator → Type 0
+AllOwn ids its m = AllByRecursion (λ id. OwnId id its m) ids
+
+-- which they stay
+all_own_kept : (types : TypeTable) (ids : List TypeId) (its later : Claims) (m n : Translator) → Proceeds types its m later n → Moves m n
+    → AllOwn ids its m → AllOwn ids later n
+all_own_kept types [] its later m n proceeds moves are = tt
+all_own_kept types (id ∷ rest) its later m n proceeds moves are =
+    (own_kept types id its later m n proceeds moves are.0, all_own_kept types rest its later m n proceeds moves are.1)
 
 -- which stays so
 started_kept : (program : TypedProgram) (place : ℕ) (id : TypeId) (parts : List Part) (its later : Claims) (m n : Translator)
@@ -90,15 +109,12 @@ module _ {here : List ℕ → Bool} {program : TypedProgram} {function : TypedFu
   any_typing step notes = typing_walks step notes (λ s scoped counts knows binds p given noted. tt)
 
   -- with a fact that does not depend on the place
-  pub given_walks : {A : Type 0} → {after : Claims → Translator → A → Type 0} → {holds : A → Type 0} → {work : Work A} → (P : Type 0)
-      → Moved work → (P → Walks here program function Anywhere work after holds) → Walks here program function (λ its m. P) work after holds
+  pub given_walks : {A : Type 0} → {pre : Claims → Translator → Type 0} → {after : Claims → Translator → A → Type 0} → {holds : A → Type 0}
+      → {work : Work A} → (P : Type 0)
+      → Moved work → (P → Walks here program function pre work after holds)
+      → Walks here program function (λ its m. P × pre its m) work after holds
   given_walks P moved walks =
-      record { moved = moved; from = λ its m scoped counts stands met. (walks met).from its m scoped counts stands tt }
-
-  -- the type of a declarator
-  pub item_walks : (at : Place) (base : TypeId) (it : Declared)
-      → Walks here program function Anywhere (typing (item_type at base it)) Nothing (λ id. Unit {0})
-  item_walks at base it = any_typing (item_type at base it) (λ Q. item_type_notes Q program.types at base it)
+      record { moved = moved; from = λ its m scoped counts stands met. (walks met.0).from its m scoped counts stands met.1 }
 
 module _ {here : List ℕ → Bool} {program : TypedProgram} {function : TypedFunction} (sound : IsRight program.types) where
   -- ---- the definition of an object
@@ -118,26 +134,27 @@ module _ {here : List ℕ → Bool} {program : TypedProgram} {function : TypedFu
 
   -- its name with the last type
   completed_walks : (static : Bool) (word : Word) (id : TypeId) (parts : List Part) (place : ℕ) → (static ≡ true → here word.text ≡ true)
-      → Walks here program function (λ its m. IsStartedAt program place id parts its m × IsNoFunction program.types id)
+      → Walks here program function (λ its m. (IsStartedAt program place id parts its m × IsNoFunction program.types id) × OwnId id its m)
       (completed_link static word id) (λ its m again. IsStartedAt program place id parts its m) (λ again. Unit {0})
   completed_walks static word id parts place inside =
-      so_walks (λ its m is. (λ other. is.1, is.0)) (λ its m again is. is.1) (λ again is. is)
+      so_walks (λ its m is. ((λ other. is.0.1, is.1), is.0.0)) (λ its m again is. is.1) (λ again is. is)
       (kept_walks (λ its m. IsStartedAt program place id parts its m)
       (λ its later m n proceeds moves is. started_kept program place id parts its later m n proceeds moves is)
       (completed_link_walks static word id inside))
 
   -- the whole definition
   object_started_walks : (static : Bool) (word : Word) (id : TypeId) (it : Initialising) (place : ℕ) → (static ≡ true → here word.text ≡ true)
-      → Walks here program function (λ its m. IsObjectAt program.types place id m × IsNoFunction program.types id)
+      → Walks here program function (λ its m. (IsObjectAt program.types place id m × IsNoFunction program.types id) × OwnId id its m)
       (object_started static word id it (Some place)) Nothing (λ done. Unit {0})
   object_started_walks static word id it place inside =
-      then_plain {after = λ its m done. MayStart m.typer.types id × (IsObjectAt program.types place id m × IsNoFunction program.types id)}
-      (can_start word id)
+      then_plain {after = λ its m done. IsReady program place id its m} (can_start word id)
       (unless_walks (Untyped word.place) (λ m. not (is_complete m.typer.types id || is_open m.typer.types id))
-      (λ its m met failed. (not_false (is_complete m.typer.types id || is_open m.typer.types id) failed, met)))
-      (λ may. then_plain {after = λ its m done. MayStart m.typer.types id × (IsObjectAt program.types place id m × IsNoFunction program.types id)}
-      (is_first word place) (unless_walks (clash_of word) (λ m. is_defined (slice_get m.objects place)) (λ its m met failed. met))
-      (λ first. then_plain (typing (initialised word.place id it)) (started_walks word id it place)
+      (λ its m met failed. (not_false (is_complete m.typer.types id || is_open m.typer.types id) failed, met.0, met.1)))
+      (λ may. then_plain {after = λ its m done. IsReady program place id its m} (is_first word place)
+      (unless_walks (clash_of word) (λ m. is_defined (slice_get m.objects place)) (λ its m met failed. met))
+      (λ first. then_plain (typing (initialised word.place id it))
+      (so_walks (λ its m is. ((is.0, is.1), (is.0, is.2))) (λ its m p is. is) (λ p is. is)
+      (initialised_also word.place id it (started_walks word id it place)))
       (λ p. then_plain (completed_link static word p.0) (completed_walks static word p.0 p.1 place inside)
       (λ again. define_object_walks place p.0 p.1))))
 
@@ -145,7 +162,7 @@ module _ {here : List ℕ → Bool} {program : TypedProgram} {function : TypedFu
   with_start_walks : (static : Bool) (word : Word) (id : TypeId) (it : Option Initialising) (entity : Entity)
       → (static ≡ true → here word.text ≡ true)
       → Walks here program function
-      (λ its m. RefersTo program.types its m.objects (with_type_id id entity) × IsNoFunction program.types id)
+      (λ its m. (RefersTo program.types its m.objects (with_type_id id entity) × IsNoFunction program.types id) × OwnId id its m)
       (object_with_start static word id it entity) Nothing (λ done. Unit {0})
   with_start_walks static word id None its inside = passes_walks tt (λ its m met. tt) tt
   with_start_walks static word id (Some it) (entity.Constant bits) inside = passes_walks tt (λ its m met. tt) tt
@@ -157,19 +174,20 @@ module _ {here : List ℕ → Bool} {program : TypedProgram} {function : TypedFu
 
   -- its name
   object_linked_walks : (static : Bool) (word : Word) (id : TypeId) → (static ≡ true → here word.text ≡ true)
-      → Walks here program function (λ its m. IsNoFunction program.types id) (linked static word id)
-      (λ its m it. RefersTo program.types its m.objects (with_type_id id it) × IsNoFunction program.types id) (λ it. Unit {0})
+      → Walks here program function (λ its m. IsNoFunction program.types id × OwnId id its m) (linked static word id)
+      (λ its m it. (RefersTo program.types its m.objects (with_type_id id it) × IsNoFunction program.types id) × OwnId id its m) (λ it. Unit {0})
   object_linked_walks static word id inside =
-      so_walks (λ its m is. (λ other. is, is)) (λ its m it is. (is.0.1, is.1)) (λ it is. is)
-      (kept_walks (λ its m. IsNoFunction program.types id) (λ its later m n proceeds moves is. is) (linked_walks static word id inside))
+      so_walks (λ its m is. ((λ other. is.0, is.1), is)) (λ its m it is. ((is.0.1, is.1.0), is.1.1)) (λ it is. is)
+      (kept_walks (λ its m. IsNoFunction program.types id × OwnId id its m)
+      (λ its later m n proceeds moves is. (is.0, own_kept program.types id its later m n proceeds moves is.1)) (linked_walks static word id inside))
 
   -- an object of file scope
-  file_object_walks : {pre : Claims → Translator → Type 0} → (static : Bool) (word : Word) (id : TypeId) (it : Option Initialising)
+  file_object_walks : (static : Bool) (word : Word) (id : TypeId) (it : Option Initialising)
       → (static ≡ true → here word.text ≡ true)
-      → Walks here program function pre (file_object static word id it) Nothing (λ done. Unit {0})
+      → Walks here program function (λ its m. OwnId id its m) (file_object static word id it) Nothing (λ done. Unit {0})
   file_object_walks static word id it inside =
-      then_plain (is_object word id) (object_walks word id)
-      (λ may. then_plain {after = λ its m done. IsNoFunction program.types id} (may_be_tentative static word id it)
+      then_plain (is_object word id) (own_over id (object_walks {pre = Anywhere} word id))
+      (λ may. then_plain {after = λ its m done. IsNoFunction program.types id × OwnId id its m} (may_be_tentative static word id it)
       (unless_walks (Untyped word.place) (λ m. static && is_none it && not (is_complete m.typer.types id)) (λ its m met failed. met))
       (λ whole. then_plain (linked static word id) (object_linked_walks static word id inside)
       (λ its. with_start_walks static word id it its inside)))
@@ -178,81 +196,100 @@ module _ {here : List ℕ → Bool} {program : TypedProgram} {function : TypedFu
 
   -- by its type
   file_entity_walks : (static : Bool) (word : Word) (id : TypeId) (it : Option Initialising) → (static ≡ true → here word.text ≡ true)
-      → Walks here program function Anywhere (file_entity static word id it) Nothing (λ done. Unit {0})
+      → Walks here program function (λ its m. OwnId id its m) (file_entity static word id it) Nothing (λ done. Unit {0})
   file_entity_walks static word id it inside =
       either_known_walks (λ m. is_function m.typer.types id) (function_declared static word id it) (file_object static word id it)
-      (so_walks (λ its m is other. absurd (true_false (is_function m.typer.types id) is.1 other)) (λ its m done is. is) (λ done is. is)
+      (so_walks (λ its m is. (λ other. absurd (true_false (is_function m.typer.types id) is.1 other), is.0)) (λ its m done is. is) (λ done is. is)
       (function_declared_walks static word id it inside))
-      (file_object_walks static word id it inside)
+      (so_walks (λ its m is. is.0) (λ its m done is. is) (λ done is. is) (file_object_walks static word id it inside))
 
   -- a declarator names something
   file_item_as_walks : (static : Bool) (at : Place) (o : Option Word) (id : TypeId) (it : Option Initialising)
       → (static ≡ true → (word : Word) → o ≡ Some word → here word.text ≡ true)
-      → Walks here program function Anywhere (file_item_as static at o id it) Nothing (λ done. Unit {0})
+      → Walks here program function (λ its m. OwnId id its m) (file_item_as static at o id it) Nothing (λ done. Unit {0})
   file_item_as_walks static at None id it inside = stops_walks (Untyped at)
   file_item_as_walks static at (Some word) id it inside = file_entity_walks static word id it (λ is. inside is word refl)
 
   -- one declarator
   file_item_walks : (static : Bool) (at : Place) (base : TypeId) (it : Declaring)
       → (static ≡ true → (word : Word) → word_of it.declarator ≡ Some word → here word.text ≡ true)
-      → Walks here program function Anywhere (file_item static at base it) Nothing (λ done. Unit {0})
+      → Walks here program function (λ its m. OwnId base its m) (file_item static at base it) Nothing (λ done. Unit {0})
   file_item_walks static at base it inside =
-      then_plain (typing (item_type at base it.declarator)) (item_walks at base it.declarator)
+      then_plain (typing (item_type at base it.declarator)) (item_own_walks at base it.declarator)
       (λ id. file_item_as_walks static at (word_of it.declarator) id it.initialiser inside)
 
   -- those of a declaration
   file_items_walks : (static : Bool) (at : Place) (base : TypeId) (its : List Declaring) → (static ≡ true → AreHere here its)
-      → Walks here program function Anywhere (file_items static at base its) Nothing (λ done. Unit {0})
+      → Walks here program function (λ its m. OwnId base its m) (file_items static at base its) Nothing (λ done. Unit {0})
   file_items_walks static at base [] inside = passes_walks tt (λ its m met. tt) tt
   file_items_walks static at base (it ∷ rest) inside =
-      then_plain (file_item static at base it) (file_item_walks static at base it (λ is. (inside is).0))
+      then_plain (file_item static at base it) (own_through base (file_item_walks static at base it (λ is. (inside is).0)))
       (λ done. file_items_walks static at base rest (λ is. (inside is).1))
 
   -- ---- typedef names
 
   -- the type of one
   typedef_as_walks : (at : Place) (o : Option Word) (id : TypeId) (it : Option Initialising)
-      → Walks here program function Anywhere (typedef_as at o id it) Nothing (λ id. Unit {0})
+      → Walks here program function (λ its m. OwnId id its m) (typedef_as at o id it) (λ its m id. OwnId id its m) (λ id. Unit {0})
   typedef_as_walks at None id it = stops_walks (Untyped at)
-  typedef_as_walks at (Some word) id None = passes_walks id (λ its m met. tt) tt
+  typedef_as_walks at (Some word) id None = passes_walks id (λ its m met. met) tt
   typedef_as_walks at (Some word) id (Some it) = stops_walks (Untyped (place_of_start it))
+
+  -- of a declarator
+  typedef_item_walks : (at : Place) (base : TypeId) (it : Declaring)
+      → Walks here program function (λ its m. OwnId base its m) (typedef_item at base it) (λ its m id. OwnId id its m) (λ id. Unit {0})
+  typedef_item_walks at base it =
+      then_walks {after = λ its m id. OwnId id its m} {holds = λ id. Unit {0}} (typing (item_type at base it.declarator))
+      (item_own_walks at base it.declarator)
+      (λ id. so_walks (λ its m met. met) (λ its m made met. met) (λ made met before. tt) (typedef_as_walks at (word_of it.declarator) id it.initialiser))
 
   -- of all of them
   typedef_types_walks : (at : Place) (base : TypeId) (done : List TypeId) (its : List Declaring)
-      → Walks here program function Anywhere (typedef_types at base done its) Nothing (λ ids. Unit {0})
-  typedef_types_walks at base done [] = passes_walks done (λ its m met. tt) tt
+      → Walks here program function (λ its m. OwnId base its m × AllOwn done its m) (typedef_types at base done its) (λ its m ids. AllOwn ids its m)
+      (λ ids. Unit {0})
+  typedef_types_walks at base done [] = passes_walks done (λ its m met. met.1) tt
   typedef_types_walks at base done (it ∷ rest) =
-      then_plain (typedef_item at base it)
-      (then_plain (typing (item_type at base it.declarator)) (item_walks at base it.declarator)
-      (λ id. typedef_as_walks at (word_of it.declarator) id it.initialiser))
-      (λ id. typedef_types_walks at base (done ++ id ∷ []) rest)
+      then_walks {after = λ its m id. OwnId id its m × (OwnId base its m × AllOwn done its m)} {holds = λ id. Unit {0}} (typedef_item at base it)
+      (so_walks (λ its m is. (is.0, is)) (λ its m id is. is) (λ id is. is)
+      (kept_walks (λ its m. OwnId base its m × AllOwn done its m)
+      (λ its later m n proceeds moves is.
+      (own_kept program.types base its later m n proceeds moves is.0, all_own_kept program.types done its later m n proceeds moves is.1))
+      (typedef_item_walks at base it)))
+      (λ id. so_walks (λ its m is. (is.1.0, all_appended (λ id. OwnId id its m) done (id ∷ []) is.1.1 (is.0, tt))) (λ its m ids is. is)
+      (λ ids is before. tt) (typedef_types_walks at base (done ++ id ∷ []) rest))
 
   -- a name, which refers to nothing
-  typedef_named_walks : (o : Option Word) (id : TypeId) → Walks here program function Anywhere (typedef_named o id) Nothing (λ done. Unit {0})
+  typedef_named_walks : (o : Option Word) (id : TypeId)
+      → Walks here program function (λ its m. OwnId id its m) (typedef_named o id) Nothing (λ done. Unit {0})
   typedef_named_walks None id = passes_walks tt (λ its m met. tt) tt
   typedef_named_walks (Some word) id =
-      so_walks (λ its m is. (tt, tt)) (λ its m done is. is) (λ done is. is) (named_walks word (entity.Typedef id))
+      so_walks (λ its m own. (tt, tt, own)) (λ its m done is. is) (λ done is. is) (named_walks word (entity.Typedef id))
 
   -- each with its type
   typedefs_named_walks : (its : List Declaring) (ids : List TypeId)
-      → Walks here program function Anywhere (typedefs_named its ids) Nothing (λ done. Unit {0})
+      → Walks here program function (λ its m. AllOwn ids its m) (typedefs_named its ids) Nothing (λ done. Unit {0})
   typedefs_named_walks [] ids = passes_walks tt (λ its m met. tt) tt
   typedefs_named_walks (it ∷ rest) [] = passes_walks tt (λ its m met. tt) tt
   typedefs_named_walks (it ∷ rest) (id ∷ ids) =
-      then_plain (typedef_named (word_of it.declarator) id) (typedef_named_walks (word_of it.declarator) id)
+      then_plain {after = λ its m done. AllOwn ids its m} (typedef_named (word_of it.declarator) id)
+      (so_walks (λ its m are. are) (λ its m done is. is.1) (λ done is. is)
+      (kept_walks (AllOwn ids) (λ its later m n proceeds moves are. all_own_kept program.types ids its later m n proceeds moves are)
+      (typedef_named_walks (word_of it.declarator) id)))
       (λ done. typedefs_named_walks rest ids)
 
   -- by the storage word
   items_by_walks : (b : Bool) (at : Place) (its : List Declaring) (said : Front) → (is_static said.storage ≡ true → AreHere here its)
-      → Walks here program function Anywhere
+      → Walks here program function (λ its m. OwnId said.type_id its m)
       (if b then typedef_items at said.type_id its else file_items (is_static said.storage) at said.type_id its) Nothing (λ done. Unit {0})
   items_by_walks true at its said inside =
-      then_plain (typedef_types at said.type_id [] its) (typedef_types_walks at said.type_id [] its) (λ ids. typedefs_named_walks its ids)
+      then_plain (typedef_types at said.type_id [] its)
+      (so_walks (λ its m own. (own, tt)) (λ its m ids is. is) (λ ids is. is) (typedef_types_walks at said.type_id [] its))
+      (λ ids. typedefs_named_walks its ids)
   items_by_walks false at its said inside = file_items_walks (is_static said.storage) at said.type_id its inside
 
   -- by what the specifiers say
   items_as_walks : (at : Place) (its : List Declaring) (said : Front) → (is_static said.storage ≡ true → AreHere here its)
-      → Walks here program function Anywhere (file_items_as at its said) Nothing (λ done. Unit {0})
+      → Walks here program function (λ its m. OwnId said.type_id its m) (file_items_as at its said) Nothing (λ done. Unit {0})
   items_as_walks at its said inside = items_by_walks (is_typedef_word said.storage) at its said inside
 
 -- where all words have internal linkage, those of declarators do
@@ -264,15 +301,21 @@ module _ {here : List ℕ → Bool} {program : TypedProgram} {function : TypedFu
   -- what the specifiers say
   front_walks : (at : Place) (words : Specification)
       → Walks here program function Anywhere (typing (front at words))
-      (λ its m said. is_static said.storage ≡ true → has_static words ≡ true) (λ said. Unit {0})
+      (λ its m said. (is_static said.storage ≡ true → has_static words ≡ true) × OwnId said.type_id its m) (λ said. Unit {0})
   front_walks at words =
-      typing_known (front at words) (λ Q. front_notes Q program.types at words)
-      (λ its m met p given grows. front_static at words m.typer p.1 p.0 given) (λ s scoped counts knows binds p given noted. tt)
+      typing_fully (front at words) (λ Q. front_notes Q program.types at words)
+      (λ its m scoped counts stands met p given reached grows. (
+        front_static at words m.typer p.1 p.0 given,
+        subst (Owning its.base (λ types said. IsOwn its.base types said.type_id)) given
+            (front_own its.base at words m.typer scoped (own_here program here its m.locals m stands)),
+      ))
+      (λ its m scoped counts stands met knows binds p given noted. tt)
 
   -- what follows them
   fronted_walks : (at : Place) (words : Specification) (its : List Declaring) (said : Front)
       → (has_static words ≡ true → AreHere here its)
-      → Walks here program function (λ its m. is_static said.storage ≡ true → has_static words ≡ true) (file_items_as at its said) Nothing
+      → Walks here program function (λ its m. (is_static said.storage ≡ true → has_static words ≡ true) × OwnId said.type_id its m)
+      (file_items_as at its said) Nothing
       (λ done. Unit {0})
   fronted_walks at words its said inside =
       given_walks (is_static said.storage ≡ true → has_static words ≡ true)

@@ -1,15 +1,15 @@
 -- The name and the parameters of a function that is being defined: the name refers to what was claimed, and the parameters are its first
 -- variables (X3.159-1989 3.7.1).
---     named_shape, named_met      the name is bound to this definition, if that is claimed
+--     named_among, named_met      the name is bound to this definition, if that is claimed
 --     typed_variables             variables of some types
 use Rattle.std.proofs.Common.{◌≡◌, ℕ, zero, suc, Bool, true, false, not, List, [], ◌∷◌, slice_get, Option, Some, None, IsTrue, is_some, refl, sym, ap, subst, ◌∙◌, if◌then◌else◌, arith}
 use Rattle.std.specs.Prelude.{◌==◌}
 use Rattle.std.proofs.lemmas.Bool.Decides.{nat_tests}
 use Rattle.hs_fitting.specs.Blocks.{local_of}
-use Rattle.hs_fitting.specs.Claims.{Claims, IsClaimed, RefersTo, IsBoundIn, IsInternalLink, IsRegisteredAs, IsMet, IsMetAs}
+use Rattle.hs_fitting.specs.Claims.{Claims, IsClaimedAs, RefersTo, IsBoundIn, IsInternalLink, IsRegisteredAs, IsMet, IsMetAs}
+use Rattle.hs_fitting.specs.Entities.{IsAmong}
 use Rattle.hs_fitting.specs.Linking.{Linking}
 use Rattle.hs_fitting.specs.Found.{same_self}
-use Rattle.hs_fitting.specs.Shapes.{SameShape}
 use Rattle.hs_fitting.specs.Tests.{true_false, both_true, some_same, is_there}
 use Rattle.hs_functions.specs.Functions.{is_of_other}
 use Rattle.hs_linkage.specs.Definitions.{same_name, first_place, later, is_definition_of}
@@ -110,22 +110,22 @@ module _ (program : TypedProgram) (here : List ℕ → Bool) (its : Claims) (var
       (defined_by linking.linked.internal (bound_by first claimed linking.linked.internal refl one.internal refl)) in
       (there.0, is ∙ there.1)
 
-  -- of the shape that was claimed
-  function_shape : (its' : TypeId) (to : Bound) → p.0 ≡ entity.Function its' to → is_of_other number p.0 ≡ false → (first : TypeId)
-      → linking.claims.functions number ≡ Some first → SameShape program.types first id
-  function_shape its' to same only first claimed =
+  -- its type is among those that were declared for it
+  function_among : (its' : TypeId) (to : Bound) → p.0 ≡ entity.Function its' to → is_of_other number p.0 ≡ false → (first : TypeId)
+      → linking.claims.functions number ≡ Some first → IsAmong (entity.Function id (bound.Function number)) linking.claims.entities
+  function_among its' to same only first claimed =
       let bound_so = claimed_bound first claimed to (subst (IsBoundIn p.1 linking.linked.internal word.text) same linking.bound) in
       let whole : p.0 ≡ entity.Function its' (bound.Function bound_so.0) = same ∙ ap (entity.Function its') bound_so.1 in
       let here_so : bound_so.0 ≡ number = same_number bound_so.0 number (subst (λ it. is_of_other number it ≡ false) whole only) in
-      let is : IsClaimed program.types (linking.claims.functions bound_so.0) id
+      let is : IsClaimedAs program.types linking.claims id (bound.Function bound_so.0)
       = subst (λ it. RefersTo program.types linking.claims p.1.objects (with_type_id id it)) whole linking.declared in
-      subst (λ o. IsClaimed program.types o id) claimed (subst (λ n. IsClaimed program.types (linking.claims.functions n) id) here_so is)
+      subst (λ n. IsAmong (entity.Function id (bound.Function n)) linking.claims.entities) here_so is.1
 
   -- of a name of a function
-  pub named_shape : is_function m.typer.types id ≡ true → is_of_other number p.0 ≡ false → (first : TypeId)
-      → linking.claims.functions number ≡ Some first → SameShape program.types first id
-  named_shape is only first claimed =
-      let kind = linking.kind is in function_shape kind.0 kind.1.0 kind.1.1 only first claimed
+  pub named_among : is_function m.typer.types id ≡ true → is_of_other number p.0 ≡ false → (first : TypeId)
+      → linking.claims.functions number ≡ Some first → IsAmong (entity.Function id (bound.Function number)) linking.claims.entities
+  named_among is only first claimed =
+      let kind = linking.kind is in function_among kind.0 kind.1.0 kind.1.1 only first claimed
 
   -- and it is met
   external_met : one.internal ≡ false → (b : Bool) → linking.linked.internal ≡ b → IsTrue (is_some (newest_external one.name p.1.externals))

@@ -7,7 +7,7 @@ use Rattle.std.proofs.Common.{ℕ, Bool, true, false, ◌&&◌, List, [], ◌∷
 use Rattle.hs_expressions.specs.Laws.{IsConstant, IsScoped}
 use Rattle.hs_expressions.specs.Laws.Always.{Always, Reaching, gives_always, refuses_always, looks_always, of_types_always, on_types_always, then_always, value_always}
 use Rattle.hs_expressions.specs.Laws.Extending.{typed_always}
-use Rattle.hs_expressions.specs.Laws.Grown.{Growing, arrayed_grows, end_grows}
+use Rattle.hs_expressions.specs.Laws.Grown.{Growing, plain_self, arrayed_grows, end_grows}
 use Rattle.hs_initialisers.specs.Aggregates.{text_kind, fresh, reached, Reached, whole, count_begun, takes}
 use Rattle.hs_initialisers.specs.Initialisers.{Filled, part_of, text_of, is_string, lone_string, scalar, excess, simple, placed_value, whole_at, text_filled, text_or, placed, all_placed, braced, all_of, sized_by, sized, alone, listed, initialised, assigned_start, constant_start, starting, with_parts}
 use Rattle.hs_initialisers.specs.InlineWords.{inline_word, inline_in_list, inline_list, inline_words}
@@ -22,7 +22,6 @@ use Rattle.hs_typer.specs.Declarators.{constant_of}
 use Rattle.hs_typer.specs.Steps.{Step, ◌>>=◌, give, lifted, of_types, on_types}
 use Rattle.hs_typer.specs.declared.type_error.TypeError.TheVariants.{Untyped}
 use Rattle.hs_typer.specs.declared.typer.Typer.{Typer}
-use Rattle.hs_types.specs.Growing.{grows_self}
 use Rattle.hs_types.specs.TypeTables.{TypeTable, row_of, arrayed}
 use Rattle.hs_types.specs.declared.row.Row.{Row}
 use Rattle.hs_types.specs.declared.row.Row.TheVariants as row
@@ -84,15 +83,15 @@ braced_always it done its =
 
 -- the type of the object
 pub sized_by_grows : (at : Place) (id : TypeId) (count : ℕ) (it : Option Row) (types : TypeTable) → Growing types (sized_by at id count it types)
-sized_by_grows at id count None types = grows_self types
-sized_by_grows at id count (Some row.Void) types = grows_self types
-sized_by_grows at id count (Some (row.Integer kind)) types = grows_self types
-sized_by_grows at id count (Some (row.Pointer of)) types = grows_self types
-sized_by_grows at id count (Some (row.Enumeration number)) types = grows_self types
-sized_by_grows at id count (Some (row.Struct number)) types = grows_self types
-sized_by_grows at id count (Some (row.Array of size layout)) types = grows_self types
+sized_by_grows at id count None types = plain_self types
+sized_by_grows at id count (Some row.Void) types = plain_self types
+sized_by_grows at id count (Some (row.Integer kind)) types = plain_self types
+sized_by_grows at id count (Some (row.Pointer of)) types = plain_self types
+sized_by_grows at id count (Some (row.Enumeration number)) types = plain_self types
+sized_by_grows at id count (Some (row.Struct number)) types = plain_self types
+sized_by_grows at id count (Some (row.Array of size layout)) types = plain_self types
 sized_by_grows at id count (Some (row.OpenArray of)) types = end_grows at types (arrayed of count types) (arrayed_grows of count types)
-sized_by_grows at id count (Some (row.Function result list)) types = grows_self types
+sized_by_grows at id count (Some (row.Function result list)) types = plain_self types
 
 pub sized_always : (at : Place) (id : TypeId) (count : ℕ) → Always IsConstant (on_types (sized at id count))
 sized_always at id count = on_types_always (sized at id count) (λ types. sized_by_grows at id count (row_of types id) types)

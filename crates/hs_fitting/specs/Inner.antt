@@ -9,15 +9,13 @@ use Rattle.std.specs.List.{AllByRecursion}
 use Rattle.hs_expressions.specs.Expressions.{enter, leave}
 use Rattle.hs_expressions.specs.Laws.{HasMore, IsScoped}
 use Rattle.hs_expressions.specs.Laws.Always.{Anything}
-use Rattle.hs_expressions.specs.Laws.Reached.{IsAllowedAt, Reaches, all_so, is_other, is_same, more_one, more_self, outside_more, pred_suc, reaches_named, reaches_then, scoped_after}
-use Rattle.hs_expressions.specs.Laws.{IsTagAt}
+use Rattle.hs_expressions.specs.Laws.Reached.{IsAllowedAt, Reaches, all_so, is_other, is_same, more_one, outside_more, pred_suc, reaches_names, reaches_then, scoped_after}
 use Rattle.hs_fitting.specs.Moves.{HasLocals, Moves, locals_then}
 use Rattle.hs_fitting.specs.Stating.{entered_scoped, left_reaches, left_scoped}
 use Rattle.hs_linkage.specs.declared.translator.Translator.{Translator}
 use Rattle.hs_names.specs.Scopes.{Scoped, Declared, declared, declared_outside, entered, inside, outside}
 use Rattle.hs_typer.specs.declared.typer.Entity.{Entity}
 use Rattle.hs_typer.specs.declared.typer.Typer.{Typer}
-use Rattle.hs_types.specs.Growing.{grows_self}
 
 pub record Inner (m : Translator) (mid : Typer) (new : Translator) : Type 0 where
   pub around : Reaches Anything m.typer mid
@@ -96,8 +94,7 @@ with_name_outside name it m = record m { typer = record m.typer { names = declar
 -- around it
 named_around : (name : List ℕ) (it : Entity) (mid : Typer) → Reaches Anything mid (with_name name it mid)
 named_around name it mid =
-    reaches_named Anything mid mid.types (declared name it mid.names) mid.tags (grows_self mid.types)
-    (more_one (IsAllowedAt Anything mid.names.level) name it mid.names (refl, tt)) (more_self (IsTagAt mid.tags.level) mid.tags)
+    reaches_names Anything mid (declared name it mid.names) (more_one (IsAllowedAt Anything mid.names.level) name it mid.names (refl, tt))
 
 named_in : (name : List ℕ) (it : Entity) (mid new : Typer) → IsScoped mid → Reaches Anything (enter mid) new
     → Reaches Anything (enter (with_name name it mid)) (record new { names = declared_outside name it new.names })
@@ -113,6 +110,7 @@ named_in name it mid new closed inside =
       counts = inside.counts;
       keeps = inside.keeps;
       unit = inside.unit;
+      traced = inside.traced;
     }
 
 pub inner_named : (name : List ℕ) (it : Entity) (m : Translator) (mid : Typer) (new : Translator) → Inner m mid new

@@ -6,9 +6,9 @@
 --     valued_walks                    the value of an expression
 --     typing_stays, types_stays, valued_stays      the same, where a fact of claims and objects was known before it
 use Rattle.std.proofs.Common.{◌≡◌, ◌<◌, ◌⊎◌, ℕ, zero, suc, Bool, true, false, List, [], ◌∷◌, ◌++◌, length, slice_get, Option, Some, None, IsTrue, is_some, Result, Ok, Err, refl, sym, ap, subst, ◌∙◌}
-use Rattle.std.specs.Prelude.{◌==◌, take}
+use Rattle.std.specs.Prelude.{◌==◌}
 use Rattle.std.specs.List.{AllByRecursion}
-use Rattle.hs_expressions.specs.Binding.{IsLike, IsDefined, BindsAs, BindsName}
+use Rattle.hs_expressions.specs.Binding.{BindsAs, BindsName}
 use Rattle.hs_expressions.specs.Binding.Keeping.{IsNoted, KnowsBound, IsBound}
 use Rattle.hs_expressions.specs.Binding.Keeping as bound_step
 use Rattle.hs_expressions.specs.Binding.Typing as bound_law
@@ -19,14 +19,20 @@ use Rattle.hs_expressions.specs.Laws.Keeping as typed_step
 use Rattle.hs_expressions.specs.Laws.Reached.{IsAllowedAt, Reaches, all_appended, all_so}
 use Rattle.hs_expressions.specs.Laws.Typing as typed_law
 use Rattle.hs_expressions.specs.Operations.{value_of}
-use Rattle.hs_fitting.specs.Claims.{Claims, IsClaimed, IsClaimedAs, RefersTo, IsVariableAt, IsVariableIn, IsTypedIn, IsBoundAs, IsBoundIn, IsLink, IsExternal, IsRoutineOf, IsSigned, IsFirstRoutine, IsRoutineDeclared, IsRegisteredAs, IsMetAs, AreFulfilled, AreObjects, category_in, Endures, IsCallClaimed, IsObjectRight, Stands, Proceeds}
+use Rattle.hs_expressions.specs.Laws.Traced.{TracedTo}
+use Rattle.hs_fitting.specs.Claims.{Claims, IsOfClaim, IsAccounted, IsFulfilled, IsClaimed, IsClaimedAs, RefersTo, IsVariableAt, IsVariableIn, IsTypedIn, IsBoundAs, IsBoundIn, IsLink, IsExternal, IsRoutineOf, IsSigned, IsFirstRoutine, IsRoutineDeclared, IsRegisteredAs, IsMetAs, AreFulfilled, AreObjects, category_in, Endures, IsCallClaimed, IsObjectRight, Stands, Proceeds}
 use Rattle.hs_fitting.specs.Lasting.{endures_typer}
 use Rattle.hs_fitting.specs.Moving.{Moving, typing_moved}
 use Rattle.hs_fitting.specs.Noting.{AllowsBound, AllowsName, NamesAllow, Noting, Notes}
 use Rattle.hs_fitting.specs.NotingSteps.{of_types_notes}
 use Rattle.hs_fitting.specs.NotingTyping.{valued_notes}
+use Rattle.hs_fitting.specs.Accounts.{accounted_traced}
+use Rattle.hs_fitting.specs.Closing.{closed_typer}
+use Rattle.hs_fitting.specs.Entities.{among_has}
+use Rattle.hs_fitting.specs.Owned.{own_later}
+use Rattle.hs_fitting.specs.Owning.{IsOwnName, OwnAt, own_after}
 use Rattle.hs_fitting.specs.Rightness.{AreRight}
-use Rattle.hs_fitting.specs.Shapes.{SameShape, all_alike_then}
+use Rattle.hs_fitting.specs.Sameness.{one_whole}
 use Rattle.hs_fitting.specs.Tests.{some_none}
 use Rattle.hs_fitting.specs.Walk.{Continues, continues_first, Nothing, Walking, Walks}
 use Rattle.hs_linkage.specs.Works.{typing, with_typer}
@@ -47,6 +53,7 @@ use Rattle.hs_tree.specs.Trees.{RightValue, TypedFunction, TypedProgram}
 use Rattle.hs_tree.specs.declared.globals.Global.{Global}
 use Rattle.hs_tree.specs.declared.head.Variable.TheVariants as variable
 use Rattle.hs_tree.specs.declared.head.VariableDecl.{VariableDecl}
+use Rattle.hs_tree.specs.declared.representatives.Representatives.{Representatives}
 use Rattle.hs_typer.specs.Steps.{Step, kept, of_types}
 use Rattle.hs_typer.specs.declared.type_error.TypeError.{TypeError}
 use Rattle.hs_typer.specs.declared.typer.Entity.{Entity}
@@ -77,16 +84,17 @@ object_there types None id is = absurd cc
 object_there types (Some it) id is = refl
 
 -- a variable of that type, among its types and among all variables
-variable_is : (types : TypeTable) (variables : List VariableDecl) (place : ℕ) (id : TypeId) → IsVariableAt types (slice_get (types_of variables) place) id
-    → IsVariableOf types (slice_get variables place) id
-variable_is types [] place id is = absurd is
-variable_is types (it ∷ rest) zero id is = is
-variable_is types (it ∷ rest) (suc place) id is = variable_is types rest place id is
+variable_is : (same : Representatives) (types : TypeTable) (variables : List VariableDecl) (place : ℕ) (id : TypeId)
+    → IsVariableAt types (slice_get (types_of variables) place) id → IsVariableOf same types (slice_get variables place) id
+variable_is same types [] place id is = absurd is
+variable_is same types (it ∷ rest) zero id is = (one_whole same types it.type_id id is.0 is.1, is.1)
+variable_is same types (it ∷ rest) (suc place) id is = variable_is same types rest place id is
 
 -- so it is there
-variable_there : (types : TypeTable) (given : Option VariableDecl) (id : TypeId) → IsVariableOf types given id → IsTrue (is_some given)
-variable_there types None id is = absurd is
-variable_there types (Some it) id is = refl
+variable_there : (same : Representatives) (types : TypeTable) (given : Option VariableDecl) (id : TypeId) → IsVariableOf same types given id
+    → IsTrue (is_some given)
+variable_there same types None id is = absurd is
+variable_there same types (Some it) id is = refl
 
 -- with more variables after it
 variable_later : (types : TypeTable) (old more : List TypeId) (place : ℕ) (id : TypeId) → IsVariableAt types (slice_get old place) id
@@ -101,29 +109,8 @@ pub variable_among : (types : TypeTable) (old new : List TypeId) (place : ℕ) (
 variable_among types old new place id before is =
     subst (λ all. IsVariableAt types (slice_get all place) id) (sym before.1) (variable_later types old before.0 place id is)
 
-module _ (types : TypeTable) where
-  -- what one type of a shape is like, another one is like
-  like_shaped : (one other : TypeId) (parameters : List TypeId) (result : TypeId) → SameShape types one other → IsLike types types one parameters result
-      → IsLike types types other parameters result
-  like_shaped one other parameters result shape like =
-      let onward : IsLike types types other like.0 like.1.0 = shape.there like.0 like.1.0 like.1.1 in
-      (onward.0, (onward.1.0, onward.1.1, all_alike_then types onward.0 like.0 parameters onward.1.2 like.1.2, onward.1.3 ∙ like.1.3))
-
-  -- a function of one type of a shape is of another one
-  defined_shaped : (one other : TypeId) (given : Option TypedFunction) → SameShape types one other → IsDefined types types one given
-      → IsDefined types types other given
-  defined_shaped one other None shape is = absurd is
-  defined_shaped one other (Some it) shape is = like_shaped one other (types_of (take it.parameters it.variables)) it.result shape is
-
 module _ (program : TypedProgram) (function : TypedFunction) (its : Claims) (m : Translator) (fulfilled : AreFulfilled program its)
     (objects : AreObjects program m.objects) (locals : IsPrefix (types_of m.locals) (types_of function.variables)) where
-  -- a function that is claimed is defined, with a type of that shape
-  function_claimed : (number : ℕ) (id : TypeId) (first : Option TypeId) → its.functions number ≡ first → IsClaimed program.types first id
-      → IsDefined program.types program.types id (slice_get program.functions number)
-  function_claimed number id None known is = absurd is
-  function_claimed number id (Some first) known is =
-      defined_shaped program.types first id (slice_get program.functions number) is (fulfilled.functions number first known)
-
   -- and a routine is one of the program's
   routine_claimed : (number : ℕ) (id : TypeId) (first : Option TypeId) → its.routines number ≡ first → IsClaimed program.types first id
       → number < length program.routines
@@ -132,15 +119,16 @@ module _ (program : TypedProgram) (function : TypedFunction) (its : Claims) (m :
 
   -- so calls are bound to what the program has
   claimed_bound : (id : TypeId) (to : Bound) → IsClaimedAs program.types its id to → BindsAs program program.types id to
-  claimed_bound id (bound.Function number) is = function_claimed number id (its.functions number) refl is
-  claimed_bound id (bound.Routine number) is = routine_claimed number id (its.routines number) refl is
+  claimed_bound id (bound.Function number) is =
+      among_has (IsFulfilled program) (entity.Function id (bound.Function number)) its.entities fulfilled.entities is.1
+  claimed_bound id (bound.Routine number) is = routine_claimed number id (its.routines number) refl is.0
   claimed_bound id bound.Nothing is = tt
 
   -- an automatic variable of the function
   local_is : (place : ℕ) (id : TypeId) → IsVariableAt program.types (slice_get (types_of m.locals) place) id
-      → IsVariableOf program.types (slice_get function.variables place) id
+      → IsVariableOf program.same program.types (slice_get function.variables place) id
   local_is place id is =
-      variable_is program.types function.variables place id
+      variable_is program.same program.types function.variables place id
       (variable_among program.types (types_of m.locals) (types_of function.variables) place id locals is)
 
   -- the name of an object means a variable of the program
@@ -159,7 +147,7 @@ module _ (program : TypedProgram) (function : TypedFunction) (its : Claims) (m :
   name_bound (entity.Variable (variable.Global place) id) refers is =
       object_there program.types (slice_get program.globals place) id (objects place (category_of program.types id) refers)
   name_bound (entity.Variable (variable.Local place) id) refers is =
-      variable_there program.types (slice_get function.variables place) id (local_is place id is)
+      variable_there program.same program.types (slice_get function.variables place) id (local_is place id is)
   name_bound (entity.Function id to) refers is = claimed_bound id to refers
   name_bound (entity.Typedef id) refers is = tt
 
@@ -219,11 +207,17 @@ module _ (program : TypedProgram) (here : List ℕ → Bool) (its : Claims) (m :
         internal = is.internal;
         global = is.global;
         typed = typed_still grows it.entity.entity is.typed;
+        own = λ id same. own_later its.base m.typer.types new.types grows id (is.own id same);
       }
 
   external_still : Grows m.typer.types new.types → (it : External) → IsExternal program.types its m it → IsExternal program.types its
       (record m { typer = new }) it
-  external_still grows it is = record { refers = is.refers; bound = bound_still false it.name it.entity is.bound; global = is.global; typed = typed_still grows it.entity is.typed }
+  external_still grows it is = record {
+    refers = is.refers;
+    bound = bound_still false it.name it.entity is.bound;
+    global = is.global;
+    typed = typed_still grows it.entity is.typed;
+  }
 
   routine_still : Grows m.typer.types new.types → (it : External) → IsRoutineDeclared program.types its m it → IsRoutineDeclared program.types its
       (record m { typer = new }) it
@@ -251,13 +245,14 @@ module _ (program : TypedProgram) (here : List ℕ → Bool) (its : Claims) (m :
       record { category = is.category; undefined = is.undefined; filled = λ endures. is.filled (before endures) }
 
   -- What is claimed stays, if the names that are known then refer to it.
-  pub stands_typer : (variables later : List VariableDecl) → Grows m.typer.types new.types → AllByRecursion
+  pub stands_typer : (variables later : List VariableDecl) → Grows m.typer.types new.types → TracedTo m.typer new
+      → AllByRecursion (λ it. IsOwnName its.base new.types it.entity) new.names.declarations → AllByRecursion
       (λ it. RefersTo program.types its m.objects it.entity) new.names.declarations
       → AllByRecursion (λ it. IsVariableIn program.types later it.entity) new.names.declarations
       → AllByRecursion (IsCallClaimed program.types its new.table) new.calls → AreRight new.types
       → (Endures program its (record m { typer = new }) → Endures program its m) → Stands program here its variables m
       → Stands program here its later (record m { typer = new })
-  stands_typer variables later grows names locals calls right before stands =
+  stands_typer variables later grows traced typedefs names locals calls right before stands =
       record {
         names = names;
         locals = locals;
@@ -277,6 +272,11 @@ module _ (program : TypedProgram) (here : List ℕ → Bool) (its : Claims) (m :
         functions_there = stands.functions_there;
         routines_there = λ number id claimed. subst (λ all. IsFirstRoutine all number) (sym table) (stands.routines_there number id claimed);
         internal = λ number it at same. stands.internal number it at (subst (IsHere it) unit same);
+        traced = (traced its.base stands.traced).0;
+        typedefs = typedefs;
+        accounted = all_so (IsAccounted program.types its m) (IsAccounted program.types its (record m { typer = new }))
+            (accounted_traced program.types its m new (traced its.base stands.traced).1) its.entities stands.accounted;
+        closed = closed_typer program.types its.base m new unit (traced its.base stands.traced).1 stands.closed;
       }
 
   -- nothing is claimed anew
@@ -285,6 +285,8 @@ module _ (program : TypedProgram) (here : List ℕ → Bool) (its : Claims) (m :
       record {
         functions = λ number id is. is;
         routines = λ number id is. is;
+        entities = λ it is. is;
+        base = refl;
         objects = λ place is same. same;
         met = λ it is. met_still it.internal it is;
         fresh = λ number id it claimed none at met. some_none (its.functions number) id claimed none;
@@ -314,9 +316,6 @@ module _ (types : TypeTable) where
       (all_so (IsAllowedAt IsConstant old.names.level) (λ it. holds it.entity) (λ it is. so it.entity is.1) reached.names.0 reached.names.1) are)
 
 -- a name of a routine that is claimed allows its calls
-abbrev pub IsOfClaim : TypeTable → Claims → ℕ → TypeId → Type 0
-IsOfClaim types its number id = IsClaimed types (its.routines number) id
-
 refers_bound : (types : TypeTable) (its : Claims) (id : TypeId) (to : Bound) → IsClaimedAs types its id to → AllowsBound (IsOfClaim types its) id to
 refers_bound types its id (bound.Function number) is = tt
 refers_bound types its id (bound.Routine number) is = is
@@ -335,13 +334,20 @@ names_allow program here its variables m stands =
     all_so (λ it. RefersTo program.types its m.objects it.entity) (λ it. AllowsName (IsOfClaim program.types its) it.entity)
     (λ it is. refers_allows program.types its m.objects it.entity is) m.typer.names.declarations stands.names
 
+-- tags and typedef names are of this unit
+pub own_here : (program : TypedProgram) (here : List ℕ → Bool) (its : Claims) (variables : List VariableDecl) (m : Translator)
+    → Stands program here its variables m → OwnAt its.base m.typer
+own_here program here its variables m stands =
+    record { traced = stands.traced; names = stands.typedefs; fixed = stands.right.right.basic }
+
 module _ (program : TypedProgram) where
   -- a step of typing in an expression
   pub stands_reached : (here : List ℕ → Bool) (its : Claims) (m : Translator) (new : Typer) → Reaches IsConstant m.typer new
       → AllByRecursion (IsCallClaimed program.types its m.typer.table) new.calls → AreRight new.types → Stands program here its m.locals m
       → Stands program here its m.locals (record m { typer = new })
   stands_reached here its m new reached calls right stands =
-      stands_typer program here its m new reached.unit reached.table m.locals m.locals reached.types
+      stands_typer program here its m new reached.unit reached.table m.locals m.locals reached.types reached.traced
+      (own_after its.base m.typer new reached (own_here program here its m.locals m stands)).names
       (names_after program.types (RefersTo program.types its m.objects) (constant_refers program.types its m) m.typer new reached stands.names)
       (names_after program.types (IsVariableIn program.types m.locals) (constant_local program.types m) m.typer new reached stands.locals)
       (subst (λ table. AllByRecursion (IsCallClaimed program.types its table) new.calls) (sym reached.table) calls) right

@@ -7,11 +7,12 @@ use Rattle.std.specs.List.{AllByRecursion, list_any}
 use Rattle.std.proofs.lemmas.Bool.Decides.{nat_tests}
 use Rattle.std.proofs.lemmas.List.{append-nil}
 use Rattle.std.proofs.Common.{arith}
+use Rattle.hs_fitting.specs.Entities.{all_by_among}
 use Rattle.hs_expressions.specs.Binding.{IsNotedCall, IsNotedAddress}
 use Rattle.hs_expressions.specs.Binding.Keeping.{all_before, all_behind}
 use Rattle.hs_expressions.specs.Laws.{IsPrefix}
 use Rattle.hs_expressions.specs.Laws.Reached.{Reaches, prefix_then}
-use Rattle.hs_fitting.specs.Claims.{Claims, Endures, IsMarkedIn, Proceeds}
+use Rattle.hs_fitting.specs.Claims.{IsFulfilled, Claims, Endures, IsMarkedIn, Proceeds}
 use Rattle.hs_fitting.specs.Moves.{Moves}
 use Rattle.hs_fitting.specs.Passes.{Passes, marked_types}
 use Rattle.hs_fitting.specs.Tests.{or_true}
@@ -44,7 +45,7 @@ endures_before program its later m n passes proceeds endures =
       calls = all_of_prefix (IsNotedCall program program.types) m.typer.calls n.typer.calls passes.calls endures.calls;
       taken = all_of_prefix (IsMarkedIn program) m.typer.taken n.typer.taken passes.taken endures.taken;
       claims = record {
-        functions = λ number id is. endures.claims.functions number id (proceeds.functions number id is);
+        entities = all_by_among (IsFulfilled program) its.entities later.entities proceeds.entities endures.claims.entities;
         routines = λ number id is. endures.claims.routines number id (proceeds.routines number id is);
       };
       objects = λ place is at. endures.objects place is (proceeds.objects place is at);
@@ -84,7 +85,7 @@ endures_moves program its later m n moves proceeds endures =
       calls = all_of_prefix (IsNotedCall program program.types) m.typer.calls n.typer.calls moves.typer.calls endures.calls;
       taken = all_of_prefix (IsMarkedIn program) m.typer.taken n.typer.taken moves.typer.taken endures.taken;
       claims = record {
-        functions = λ number id is. endures.claims.functions number id (proceeds.functions number id is);
+        entities = all_by_among (IsFulfilled program) its.entities later.entities proceeds.entities endures.claims.entities;
         routines = λ number id is. endures.claims.routines number id (proceeds.routines number id is);
       };
       objects = λ place is at. endures.objects place is (proceeds.objects place is at);

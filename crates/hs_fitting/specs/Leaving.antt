@@ -3,6 +3,11 @@
 --     scoped_walks                    a step in a scope of its own
 use Rattle.std.proofs.Common.{◌≡◌, ℕ, suc, Bool, List, Option, Some, None, Result, Ok, Err, refl, sym, subst}
 use Rattle.std.specs.List.{AllByRecursion}
+use Rattle.hs_names.specs.Scopes.{Declared}
+use Rattle.hs_typer.specs.declared.typer.Typer.{Typer}
+use Rattle.hs_fitting.specs.Owning.{IsOwnName, name_later}
+use Rattle.hs_fitting.specs.Noting.{all_outside}
+use Rattle.hs_expressions.specs.Laws.Traced.{IsOwnTag, TracedTo, traces_self, traced_same, traced_tags}
 use Rattle.hs_expressions.specs.Expressions.{enter, leave}
 use Rattle.hs_expressions.specs.Laws.{IsPrefix, IsScoped}
 use Rattle.hs_expressions.specs.Laws.Always.{Anything}
@@ -27,7 +32,7 @@ use Rattle.hs_tree.specs.declared.head.VariableDecl.{VariableDecl}
 use Rattle.hs_typer.specs.declared.type_error.TypeError.{TypeError}
 use Rattle.hs_typer.specs.declared.typer.Entity.{Entity}
 use Rattle.hs_typer.specs.declared.typer.Entity.TheVariants as entity
-use Rattle.hs_types.specs.TypeTables.{TypeTable}
+use Rattle.hs_types.specs.TypeTables.{TypeTable, Grows}
 use Rattle.hs_types.specs.Growing.{grows_self}
 use Rattle.hs_types.specs.declared.row.TypeId.{TypeId}
 
@@ -43,10 +48,14 @@ module _ (types : TypeTable) where
   -- what calls are bound to
   bound_later : (its : Claims) (m : Translator) (later : Claims) (n : Translator) (id : TypeId) (to : Bound) → Proceeds types its m later n
       → IsClaimedAs types its id to → IsClaimedAs types later id to
-  bound_later its m later n id (bound.Function number) proceeds is =
-      claimed_later id (its.functions number) (later.functions number) (proceeds.functions number) is
-  bound_later its m later n id (bound.Routine number) proceeds is =
-      claimed_later id (its.routines number) (later.routines number) (proceeds.routines number) is
+  bound_later its m later n id (bound.Function number) proceeds is = (
+    claimed_later id (its.functions number) (later.functions number) (proceeds.functions number) is.0,
+    proceeds.entities (entity.Function id (bound.Function number)) is.1,
+  )
+  bound_later its m later n id (bound.Routine number) proceeds is = (
+    claimed_later id (its.routines number) (later.routines number) (proceeds.routines number) is.0,
+    proceeds.entities (entity.Function id (bound.Routine number)) is.1,
+  )
   bound_later its m later n id bound.Nothing proceeds is = tt
 
   -- what is claimed at a later place of the text
@@ -69,11 +78,27 @@ module _ (types : TypeTable) where
 
 -- ---- a scope
 
+-- where a scope ends, the tags are some of those before
+pub leave_traced : (s : Typer) → TracedTo s (leave s)
+leave_traced s base is = (
+  traced_tags base s.types.structs s.origins s.tags.declarations (leave s).tags.declarations is
+      (all_outside (λ it. IsOwnTag base it.entity) s.tags.level s.tags.declarations is.owned),
+  traces_self base s.types.structs s.origins,
+)
+
+-- typedef names of this unit stay so
+pub typedefs_later : (base later : ℕ) (old new : TypeTable) → later ≡ base → Grows old new → (its : List (Declared Entity))
+    → AllByRecursion (λ it. IsOwnName base old it.entity) its → AllByRecursion (λ it. IsOwnName later new it.entity) its
+typedefs_later base later old new same grows its are =
+    subst (λ n. AllByRecursion (λ it. IsOwnName n new it.entity) its) (sym same)
+    (all_so (λ it. IsOwnName base old it.entity) (λ it. IsOwnName base new it.entity) (λ it is. name_later base old new grows it.entity is) its are)
+
 module _ (here : List ℕ → Bool) (program : TypedProgram) (function : TypedFunction) where
   -- where a scope begins
   stands_entered : (its : Claims) (m : Translator) → Stands program here its m.locals m → Stands program here its m.locals (entered m)
   stands_entered its m stands = stands_typer program here its m (enter m.typer) refl refl m.locals m.locals
-      (grows_self m.typer.types) stands.names stands.locals stands.calls stands.right
+      (grows_self m.typer.types) (traced_same m.typer (enter m.typer) refl refl refl) stands.typedefs stands.names stands.locals stands.calls
+      stands.right
       (endures_scopes program its m (enter m.typer).names (enter m.typer).tags) stands
 
   -- where it has ended, the names are those before it
@@ -87,7 +112,10 @@ module _ (here : List ℕ → Bool) (program : TypedProgram) (function : TypedFu
       → Moves (entered m) n → Proceeds program.types its m later n → Stands program here later n.locals n
       → Stands program here later n.locals (without_scope n)
   stands_left its m later n scoped stands moves proceeds after =
-      stands_typer program here later n (leave n.typer) refl refl n.locals n.locals (grows_self n.typer.types)
+      stands_typer program here later n (leave n.typer) refl refl n.locals n.locals (grows_self n.typer.types) (leave_traced n.typer)
+      (subst (λ scopes. AllByRecursion (λ it. IsOwnName later.base n.typer.types it.entity) scopes.declarations)
+      (sym (names_left its m later n scoped moves))
+      (typedefs_later its.base later.base m.typer.types n.typer.types proceeds.base moves.typer.types m.typer.names.declarations stands.typedefs))
       (subst (λ scopes. AllByRecursion (λ it. RefersTo program.types later n.objects it.entity) scopes.declarations)
       (sym (names_left its m later n scoped moves))
       (all_so (λ it. RefersTo program.types its m.objects it.entity) (λ it. RefersTo program.types later n.objects it.entity)

@@ -1,3 +1,8 @@
+pub mod Accounting
+pub mod Accounts
+pub mod AgreedStructs
+pub mod AgreedTypes
+pub mod Agreeing
 pub mod Alike
 pub mod Answers
 pub mod Automatic
@@ -10,6 +15,7 @@ pub mod Chosen
 pub mod Claiming
 pub mod Claims
 pub mod ConstantNumbers
+pub mod Closing
 pub mod Constants
 pub mod Declaring
 pub mod Defined
@@ -17,6 +23,7 @@ pub mod DefinedWhole
 pub mod Defining
 pub mod Done
 pub mod Entities
+pub mod Exact
 pub mod Extending
 pub mod Fields
 pub mod FileLocals
@@ -52,8 +59,15 @@ pub mod NotingLeaves
 pub mod NotingRoles
 pub mod NotingSteps
 pub mod NotingTyping
+pub mod Opened
 pub mod Outcomes
+pub mod Owned
+pub mod Owning
+pub mod OwnDerived
 pub mod OwnList
+pub mod OwnNames
+pub mod OwnSpecified
+pub mod OwnWalks
 pub mod Parameters
 pub mod PartLists
 pub mod Parts
@@ -67,6 +81,7 @@ pub mod Readying
 pub mod Registering
 pub mod Rightness
 pub mod Roles
+pub mod Sameness
 pub mod Scalars
 pub mod Setting
 pub mod Shapes
@@ -75,6 +90,7 @@ pub mod Splitting
 pub mod Starting
 pub mod Stating
 pub mod Staying
+pub mod Strict
 pub mod Storage
 pub mod Tests
 pub mod Texts

@@ -14,6 +14,8 @@ use Rattle.hs_fitting.specs.Links.{refers_later, global_in}
 use Rattle.hs_fitting.specs.Making.{IsFunction, zero_right}
 use Rattle.hs_fitting.specs.Moves.{Moves}
 use Rattle.hs_fitting.specs.Moving.{Moving}
+use Rattle.hs_fitting.specs.Owned.{IsOwn}
+use Rattle.hs_fitting.specs.Owning.{IsOwnName}
 use Rattle.hs_fitting.specs.Setting.{defined_stay, defined_right}
 use Rattle.hs_fitting.specs.Walk.{Nothing, Walking, Walks, passes_walks, unless_walks, then_walks, so_walks}
 use Rattle.hs_linkage.specs.Externals.{newest_external}
@@ -48,7 +50,8 @@ IsObject id it = (place : ℕ) × (it ≡ entity.Variable (variable.Global place
 pub refers_kept : (program : TypedProgram) (it : Entity) (its more : Claims) (m n : Translator) → Proceeds program.types its m more n
     → RefersTo program.types its m.objects it → RefersTo program.types more n.objects it
 refers_kept program it its more m n proceeds is =
-    refers_later program.types its more m.objects n.objects (record { functions = proceeds.functions; routines = proceeds.routines })
+    refers_later program.types its more m.objects n.objects
+    (record { functions = proceeds.functions; routines = proceeds.routines; entities = proceeds.entities })
     proceeds.objects it is
 
 module _ {here : List ℕ → Bool} {program : TypedProgram} {function : TypedFunction} where
@@ -112,26 +115,36 @@ module _ {here : List ℕ → Bool} {program : TypedProgram} {function : TypedFu
 
   -- one name more
   pub named_walks : (word : Word) (it : Entity)
-      → Walks here program function (λ its m. RefersTo program.types its m.objects it × IsVariableIn program.types m.locals it)
+      → Walks here program function
+      (λ its m. RefersTo program.types its m.objects it × IsVariableIn program.types m.locals it × IsOwnName its.base m.typer.types it)
       (typing (declare word it)) Nothing (λ done. Unit {0})
   named_walks word it =
       record {
         moved = declare_moved word it;
         from = λ its m scoped counts stands met. declare_walked here program function its m word it
-            (is_typedef (find word.text m.typer.names) || is_some (find_here word.text m.typer.names)) stands met.0 met.1;
+            (is_typedef (find word.text m.typer.names) || is_some (find_here word.text m.typer.names)) stands met.0 met.1 met.2;
       }
 
   -- without a test
   pub renamed_walks : (word : Word) (it : Entity)
-      → Walks here program function (λ its m. RefersTo program.types its m.objects it × IsVariableIn program.types m.locals it)
+      → Walks here program function
+      (λ its m. RefersTo program.types its m.objects it × IsVariableIn program.types m.locals it × IsOwnName its.base m.typer.types it)
       (typing (renamed word it)) Nothing (λ done. Unit {0})
   renamed_walks word it =
       record {
         moved = renamed_moved word it;
-        from = λ its m scoped counts stands met. name_walked here program function its m word it stands met.0 met.1;
+        from = λ its m scoped counts stands met. name_walked here program function its m word it stands met.0 met.1 met.2;
       }
 
 -- ---- names with linkage
+
+-- no typedef name
+abbrev pub IsPlainName : Entity → Type 0
+IsPlainName it = (base : ℕ) (types : TypeTable) → IsOwnName base types it
+
+-- of a type of this unit
+abbrev pub MayLink : TypedProgram → Claims → Translator → TypeId → Type 0
+MayLink program its m id = MayMake program m id × IsOwn its.base m.typer.types id
 
 -- What a declaration with linkage gives, and what is known then: the name is linked to what was claimed, also with the type of this declaration.
 pub record IsLinkedTo (types : TypeTable) (here : List ℕ → Bool) (its : Claims) (m : Translator) (word : Word) (id : TypeId) (it : Entity) : Type 0 where
@@ -145,11 +158,12 @@ pub record IsLinkedTo (types : TypeTable) (here : List ℕ → Bool) (its : Clai
   pub external : linked.internal ≡ false → IsTrue (is_some (newest_external word.text m.externals))
   pub global : IsVariableIn types [] it
   pub kind : is_function m.typer.types id ≡ true → IsFunction it
+  pub plain : IsPlainName it
 
 -- it and its name refer to what was claimed, and it is no automatic variable
 abbrev IsReferred : TypeTable → TypeId → Entity → Claims → Translator → Type 0
 IsReferred types id it its m =
-    RefersTo types its m.objects it × RefersTo types its m.objects (with_type_id id it) × IsVariableIn types [] it
+    RefersTo types its m.objects it × RefersTo types its m.objects (with_type_id id it) × IsVariableIn types [] it × IsPlainName it
 
 -- which stays so
 referred_kept : (program : TypedProgram) (id : TypeId) (it : Entity) (its more : Claims) (m n : Translator) → Proceeds program.types its m more n
@@ -158,17 +172,18 @@ referred_kept program id it its more m n proceeds is = (
   refers_kept program it its more m n proceeds is.0,
   refers_kept program (with_type_id id it) its more m n proceeds is.1,
   is.2,
+  is.3,
 )
 
 -- of an answer of `link`
 link_walked : (here : List ℕ → Bool) (program : TypedProgram) (function : TypedFunction) (static : Bool) (word : Word) (id : TypeId) (its : Claims)
-    (m : Translator) → (static ≡ true → here word.text ≡ true) → MayMake program m id → Stands program here its m.locals m
+    (m : Translator) → (static ≡ true → here word.text ≡ true) → MayLink program its m id → Stands program here its m.locals m
     → (given : Result (Entity × Translator) TypeError) → link static word id m ≡ given → Moving m given
     → Walking here program function its m (λ its m it. IsLinkedTo program.types here its m word id it) (λ it. Unit {0}) given
 link_walked here program function static word id its m inside may stands (Ok p) same moves = λ grows.
     let linking : Linking program here its m.locals m word id p
     = link_stands program here static word id its m.locals m
-    (grows_then m.typer.types p.1.typer.types program.types moves.typer.types grows) inside may stands p same in
+    (grows_then m.typer.types p.1.typer.types program.types moves.typer.types grows) inside may.0 may.1 stands p same in
     record {
       claims = linking.claims;
       proceeds = linking.proceeds;
@@ -184,6 +199,7 @@ link_walked here program function static word id its m inside may stands (Ok p) 
         external = linking.external;
         global = linking_global program here its m.locals m word id p linking;
         kind = λ is. linking.kind (subst (λ known. is_function known.types id ≡ true) linking.typer is);
+        plain = linking.plain;
       };
       gives = λ continues. tt;
     }
@@ -204,7 +220,7 @@ module _ {here : List ℕ → Bool} {program : TypedProgram} {function : TypedFu
 
   -- the object or the function that a name refers to
   pub link_walks : (static : Bool) (word : Word) (id : TypeId) → (static ≡ true → here word.text ≡ true)
-      → Walks here program function (λ its m. MayMake program m id) (link static word id)
+      → Walks here program function (λ its m. MayLink program its m id) (link static word id)
       (λ its m it. IsLinkedTo program.types here its m word id it) (λ it. Unit {0})
   link_walks static word id inside =
       record {
@@ -215,39 +231,39 @@ module _ {here : List ℕ → Bool} {program : TypedProgram} {function : TypedFu
 
   -- it is known what the entity refers to
   link_refers_walks : (static : Bool) (word : Word) (id : TypeId) → (static ≡ true → here word.text ≡ true)
-      → Walks here program function (λ its m. MayMake program m id) (link static word id) (λ its m it. IsReferred program.types id it its m)
+      → Walks here program function (λ its m. MayLink program its m id) (link static word id) (λ its m it. IsReferred program.types id it its m)
       (λ it. Unit {0})
   link_refers_walks static word id inside =
-      so_walks (λ its m is. is) (λ its m it is. (is.refers, is.declared, is.global)) (λ it is. tt) (link_walks static word id inside)
+      so_walks (λ its m is. is) (λ its m it is. (is.refers, is.declared, is.global, is.plain)) (λ it is. tt) (link_walks static word id inside)
 
   -- the name means it from here on
   again_walks : (word : Word) (id : TypeId) (it : Entity)
       → Walks here program function (λ its m. IsReferred program.types id it its m) (typing (renamed word it))
       (λ its m done. IsReferred program.types id it its m) (λ done. Unit {0})
   again_walks word id it =
-      referred_walks id it (λ its m is. (is.0, global_in program.types m.locals it is.2)) (renamed_walks word it)
+      referred_walks id it (λ its m is. (is.0, global_in program.types m.locals it is.2, is.3 its.base m.typer.types)) (renamed_walks word it)
 
   -- a declaration with linkage
   pub linked_walks : (static : Bool) (word : Word) (id : TypeId) → (static ≡ true → here word.text ≡ true)
-      → Walks here program function (λ its m. MayMake program m id) (linked static word id)
+      → Walks here program function (λ its m. MayLink program its m id) (linked static word id)
       (λ its m it.
       RefersTo program.types its m.objects it × RefersTo program.types its m.objects (with_type_id id it) × IsVariableIn program.types [] it)
       (λ it. Unit {0})
   linked_walks static word id inside =
-      then_walks {after = λ its m done. MayMake program m id} {holds = λ done. Unit {0}} (may_name word)
+      then_walks {after = λ its m done. MayLink program its m id} {holds = λ done. Unit {0}} (may_name word)
       (unless_walks (Untyped word.place) _ (λ its m may failed. may))
       (λ may. then_walks {holds = λ it. Unit {0}} (link static word id) (link_refers_walks static word id inside)
       (λ it. then_walks (object_typed it) (referred_walks id it (λ its m is. is.0) (object_typed_walks it))
       (λ done. then_walks (typing (renamed word it)) (again_walks word id it)
-      (λ named. passes_walks it (λ its m is. is) (λ a b c d. tt)))))
+      (λ named. passes_walks it (λ its m is. (is.0, is.1, is.2)) (λ a b c d. tt)))))
 
   -- after its initialiser
   pub completed_link_walks : (static : Bool) (word : Word) (id : TypeId) → (static ≡ true → here word.text ≡ true)
-      → Walks here program function (λ its m. MayMake program m id) (completed_link static word id)
+      → Walks here program function (λ its m. MayLink program its m id) (completed_link static word id)
       (λ its m it.
       RefersTo program.types its m.objects it × RefersTo program.types its m.objects (with_type_id id it) × IsVariableIn program.types [] it)
       (λ it. Unit {0})
   completed_link_walks static word id inside =
       then_walks (link static word id) (link_refers_walks static word id inside)
       (λ it. then_walks (typing (renamed word it)) (again_walks word id it)
-      (λ named. passes_walks it (λ its m is. is) (λ a b. tt)))
+      (λ named. passes_walks it (λ its m is. (is.0, is.1, is.2)) (λ a b. tt)))

@@ -9,11 +9,17 @@ use Rattle.hs_expressions.specs.Laws.Reached.{all_so}
 use Rattle.hs_fitting.specs.Outcomes.{Gives, gives_then, gives_unless}
 use Rattle.hs_fitting.specs.Chosen.{IsChosen, Choosing, chosen_made, link_as_chosen}
 use Rattle.hs_fitting.specs.Claiming.{IsFirst, IsClaiming, chosen_claims}
-use Rattle.hs_fitting.specs.Claims.{Claims, RefersTo, IsVariableIn, IsBoundIn, IsLink, IsExternal, IsRoutineDeclared, IsRegistered, IsMet, Endures, IsCallClaimed, IsObjectRight, Stands, Proceeds}
+use Rattle.hs_expressions.specs.Laws.Traced.{IsTracedAt}
+use Rattle.hs_fitting.specs.Closing.{closed_linked}
+use Rattle.hs_fitting.specs.Accounting.{accounted_linked, linked_accounted, linked_accounted_typed}
+use Rattle.hs_fitting.specs.Claims.{Claims, IsBoundAs, IsFulfilled, IsAccounted, RefersTo, IsVariableIn, IsBoundIn, IsLink, IsExternal, IsRoutineDeclared, IsRegistered, IsMet, Endures, IsCallClaimed, IsObjectRight, Stands, Proceeds}
+use Rattle.hs_fitting.specs.Entities.{IsAmong, all_by_among}
 use Rattle.hs_fitting.specs.Found.{link_found, link_here, IsThere, external_all}
 use Rattle.hs_fitting.specs.Lasting.{is_place}
-use Rattle.hs_fitting.specs.Links.{refers_later, call_later}
+use Rattle.hs_fitting.specs.Links.{refers_full, refers_later, call_later}
 use Rattle.hs_fitting.specs.Making.{zero_right, IsFunction}
+use Rattle.hs_fitting.specs.Owned.{IsOwn}
+use Rattle.hs_fitting.specs.Owning.{IsOwnName}
 use Rattle.hs_fitting.specs.Registering.{linked_in, externals_there, routines_stay, routines_there, routines_all, met_by, registered_by, registered_first, routine_is}
 use Rattle.hs_fitting.specs.Tests.{some_none}
 use Rattle.hs_linkage.specs.Externals.{newest_external, with_external}
@@ -31,7 +37,8 @@ use Rattle.hs_tree.specs.Kinds.{of_function, category_of}
 use Rattle.hs_tree.specs.Trees.{TypedProgram}
 use Rattle.hs_tree.specs.declared.head.VariableDecl.{VariableDecl}
 use Rattle.hs_typer.specs.declared.typer.Entity.{Entity}
-use Rattle.hs_types.specs.TypeTables.{Grows}
+use Rattle.hs_typer.specs.declared.typer.Entity.TheVariants as entity
+use Rattle.hs_types.specs.TypeTables.{TypeTable, Grows}
 use Rattle.hs_types.specs.declared.row.TypeId.{TypeId}
 
 -- an object may be made of the type, if it is none of functions
@@ -56,6 +63,15 @@ pub record Linking (program : TypedProgram) (here : List ℕ → Bool) (its : Cl
   pub typer : p.1.typer ≡ m.typer
   pub locals : p.1.locals ≡ m.locals
   pub definitions : p.1.definitions ≡ m.definitions
+  pub plain : (base : ℕ) (types : TypeTable) → IsOwnName base types p.0
+
+-- a name that is bound is no typedef name
+bound_plain : (base : ℕ) (types : TypeTable) (internal : Bool) (unit : ℕ) (definitions : List Definition) (table : List Routine) (name : List ℕ)
+    (it : Entity) → IsBoundAs internal unit definitions table name it → IsOwnName base types it
+bound_plain base types internal unit definitions table name (entity.Constant bits) is = tt
+bound_plain base types internal unit definitions table name (entity.Variable its id) is = tt
+bound_plain base types internal unit definitions table name (entity.Function id to) is = tt
+bound_plain base types internal unit definitions table name (entity.Typedef id) is = absurd is
 
 module _ (program : TypedProgram) (here : List ℕ → Bool) (its : Claims) (variables : List VariableDecl) (m : Translator) (word : Word) (id : TypeId)
     (it : Linked) (objects : List StaticObject) (stands : Stands program here its variables m) (chosen : IsChosen program.types here its m word id it objects)
@@ -69,7 +85,14 @@ module _ (program : TypedProgram) (here : List ℕ → Bool) (its : Claims) (var
   -- what the unit links
   link_then : (one : Declared Linked) → IsLink program.types here its m one → IsLink program.types here claiming.claims (linked_in m word it objects) one
   link_then one is =
-      record { refers = refers_then one.entity.entity is.refers; bound = is.bound; internal = is.internal; global = is.global; typed = is.typed }
+      record {
+        refers = refers_then one.entity.entity is.refers;
+        bound = is.bound;
+        internal = is.internal;
+        global = is.global;
+        typed = is.typed;
+        own = λ made same. subst (λ base. IsOwn base m.typer.types made) (sym claiming.base) (is.own made same);
+      }
 
   -- what has external linkage
   external_then : (one : External) → IsExternal program.types its m one → IsExternal program.types claiming.claims (linked_in m word it objects) one
@@ -106,7 +129,7 @@ module _ (program : TypedProgram) (here : List ℕ → Bool) (its : Claims) (var
         calls = endures.calls;
         taken = endures.taken;
         claims = record {
-          functions = λ number first is. endures.claims.functions number first (claiming.stay.functions number first is);
+          entities = all_by_among (IsFulfilled program) its.entities claiming.claims.entities claiming.stay.entities endures.claims.entities;
           routines = λ number first is. endures.claims.routines number first (claiming.stay.routines number first is);
         };
         objects = λ place category is. endures.objects place category (chosen.stay place category is);
@@ -116,6 +139,16 @@ module _ (program : TypedProgram) (here : List ℕ → Bool) (its : Claims) (var
   object_then : (one : StaticObject) → IsObjectRight program its m one → IsObjectRight program claiming.claims (linked_in m word it objects) one
   object_then one is =
       record { category = is.category; undefined = is.undefined; filled = λ endures. is.filled (endures_then endures) }
+
+  -- the name and its type are among those that were declared
+  own_refers : RefersTo program.types claiming.claims objects it.entity
+  own_refers =
+      refers_full program.types claiming.claims objects it.entity claiming.refers.own (subst (IsAmong it.entity) (sym claiming.entities) (inl refl))
+
+  typed_refers : RefersTo program.types claiming.claims objects (with_type_id id it.entity)
+  typed_refers =
+      refers_full program.types claiming.claims objects (with_type_id id it.entity) claiming.refers.typed
+      (subst (IsAmong (with_type_id id it.entity)) (sym claiming.entities) (inr (inl refl)))
 
   -- declarations with external linkage, and this one
   externals_then : AllByRecursion (IsExternal program.types claiming.claims (linked_in m word it objects)) (linked_in m word it objects).externals
@@ -132,11 +165,23 @@ module _ (program : TypedProgram) (here : List ℕ → Bool) (its : Claims) (var
       by_linkage false is =
           external_all word m.typer.origins.unit it.entity (IsExternal program.types claiming.claims (linked_in m word it objects)) m.externals
           (record {
-            refers = claiming.refers.own;
+            refers = own_refers;
             bound = subst (λ b. IsBoundIn m b word.text it.entity) is chosen.bound;
             global = chosen.global;
             typed = chosen.typed;
           }) older
+
+  -- each of them is accounted for
+  accounted_then : AllByRecursion (IsAccounted program.types claiming.claims (linked_in m word it objects)) claiming.claims.entities
+  accounted_then =
+      subst (AllByRecursion (IsAccounted program.types claiming.claims (linked_in m word it objects))) (sym claiming.entities) (
+        linked_accounted program here its variables m word id it objects stands chosen claiming it.entity refl,
+        (
+          linked_accounted_typed program here its variables m word id it objects stands chosen claiming it.entity refl,
+          all_so (IsAccounted program.types its m) (IsAccounted program.types claiming.claims (linked_in m word it objects))
+              (accounted_linked program here its variables m word id it objects stands chosen claiming) its.entities stands.accounted,
+        ),
+      )
 
   -- and so all do
   stands_then : Stands program here claiming.claims variables (linked_in m word it objects)
@@ -146,7 +191,14 @@ module _ (program : TypedProgram) (here : List ℕ → Bool) (its : Claims) (var
             (λ one is. refers_then one.entity is) m.typer.names.declarations stands.names;
         locals = stands.locals;
         links = (
-          record { refers = claiming.refers.own; bound = chosen.bound; internal = chosen.internal; global = chosen.global; typed = chosen.typed },
+          record {
+            refers = own_refers;
+            bound = chosen.bound;
+            internal = chosen.internal;
+            global = chosen.global;
+            typed = chosen.typed;
+            own = λ made same. subst (λ base. IsOwn base m.typer.types made) (sym claiming.base) (chosen.own made same);
+          },
           all_so (IsLink program.types here its m) (IsLink program.types here claiming.claims (linked_in m word it objects)) link_then
               m.links.declarations stands.links,
         );
@@ -154,7 +206,7 @@ module _ (program : TypedProgram) (here : List ℕ → Bool) (its : Claims) (var
         routines = routines_all m word it objects (IsRoutineDeclared program.types claiming.claims (linked_in m word it objects))
             (is_routine_entity it.entity)
             (λ is. record {
-              refers = claiming.refers.own;
+              refers = own_refers;
               routine = routine_is m it.internal word.text it.entity is chosen.bound;
               typed = chosen.typed;
               signed = inl (is_place m.typer.origins.unit);
@@ -174,6 +226,11 @@ module _ (program : TypedProgram) (here : List ℕ → Bool) (its : Claims) (var
         functions_there = claiming.functions_there;
         routines_there = claiming.routines_there;
         internal = stands.internal;
+        traced = subst (λ base. IsTracedAt base m.typer) (sym claiming.base) stands.traced;
+        typedefs = subst (λ base. AllByRecursion (λ one. IsOwnName base m.typer.types one.entity) m.typer.names.declarations) (sym claiming.base)
+            stands.typedefs;
+        accounted = accounted_then;
+        closed = closed_linked m word it objects claiming.claims.base its.base claiming.base program.types stands.closed;
       }
 
   -- claims stay, and none is made twice
@@ -182,6 +239,8 @@ module _ (program : TypedProgram) (here : List ℕ → Bool) (its : Claims) (var
       record {
         functions = claiming.stay.functions;
         routines = claiming.stay.routines;
+        entities = claiming.stay.entities;
+        base = claiming.base;
         objects = chosen.stay;
         met = λ one is. met_by m word it objects one.internal one is;
         fresh = λ number first one is free at met. by_first number first one free met (claiming.functions number first one is at);
@@ -199,8 +258,8 @@ module _ (program : TypedProgram) (here : List ℕ → Bool) (its : Claims) (var
         claims = claiming.claims;
         proceeds = proceeds_then;
         stands = stands_then;
-        refers = claiming.refers.own;
-        declared = claiming.refers.typed;
+        refers = own_refers;
+        declared = typed_refers;
         linked = it;
         found = link_here word.text it m.links;
         entity = refl;
@@ -211,12 +270,14 @@ module _ (program : TypedProgram) (here : List ℕ → Bool) (its : Claims) (var
         typer = refl;
         locals = refl;
         definitions = refl;
+        plain = λ base types. bound_plain base types it.internal m.typer.origins.unit m.definitions m.typer.table word.text it.entity chosen.bound;
       }
 
 -- ---- the theorem
 
 module _ (program : TypedProgram) (here : List ℕ → Bool) (its : Claims) (variables : List VariableDecl) (m : Translator) (word : Word) (id : TypeId)
-    (grows : Grows m.typer.types program.types) (stands : Stands program here its variables m) (may : MayMake program m id) where
+    (grows : Grows m.typer.types program.types) (stands : Stands program here its variables m) (may : MayMake program m id)
+    (own : IsOwn its.base m.typer.types id) where
   -- what is given
   abbrev IsLinking : Entity × Translator → Type 0
   IsLinking p = Linking program here its variables m word id p
@@ -228,7 +289,7 @@ module _ (program : TypedProgram) (here : List ℕ → Bool) (its : Claims) (var
       gives_unless IsLinking (λ fits. noted word it) (clash_of word) (record m { objects = objects })
       (is_routine_entity it.entity && not (agrees_with_all m word.text id m.routines))
       (λ fits. linking program here its variables m word id it objects stands chosen
-      (chosen_claims program here its variables m word id stands grows it objects chosen fits) may)
+      (chosen_claims program here its variables m word id stands grows own it objects chosen fits) may)
 
   -- of what was chosen
   chosen_gives : (p : Linked × Translator) → Choosing program.types here its m word id p
@@ -242,16 +303,17 @@ module _ (program : TypedProgram) (here : List ℕ → Bool) (its : Claims) (var
   link_gives static inside =
       gives_then (Choosing program.types here its m word id) IsLinking (λ it. compatible_routines word id it >> noted word it)
       (link_as static word id (find word.text m.links) m)
-      (link_as_chosen program here its variables m word id grows stands static inside (find word.text m.links) refl) chosen_gives
+      (link_as_chosen program here its variables m word id grows stands own static inside (find word.text m.links) refl) chosen_gives
 
 -- What `link` gives refers to what was claimed.
 pub link_stands : (program : TypedProgram) (here : List ℕ → Bool) (static : Bool) (word : Word) (id : TypeId) (its : Claims)
     (variables : List VariableDecl) (m : Translator) → Grows m.typer.types program.types → (static ≡ true → here word.text ≡ true)
-    → MayMake program m id → Stands program here its variables m → (p : Entity × Translator) → link static word id m ≡ Ok p
+    → MayMake program m id → IsOwn its.base m.typer.types id → Stands program here its variables m → (p : Entity × Translator)
+    → link static word id m ≡ Ok p
     → Linking program here its variables m word id p
-link_stands program here static word id its variables m grows inside may stands p is =
+link_stands program here static word id its variables m grows inside may own stands p is =
     subst (Gives (λ p. Linking program here its variables m word id p)) is
-    (link_gives program here its variables m word id grows stands may static inside)
+    (link_gives program here its variables m word id grows stands may own static inside)
 
 -- it is no automatic variable
 pub linking_global : (program : TypedProgram) (here : List ℕ → Bool) (its : Claims) (variables : List VariableDecl) (m : Translator) (word : Word)

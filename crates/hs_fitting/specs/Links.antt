@@ -6,7 +6,8 @@ use Rattle.std.proofs.Common.{◌≡◌, ◌⊎◌, inl, inr, ℕ, Bool, true, f
 use Rattle.std.proofs.lemmas.Bool.Decides.{nat_tests}
 use Rattle.std.specs.Prelude.{◌==◌}
 use Rattle.hs_expressions.specs.Laws.Reached.{is_same}
-use Rattle.hs_fitting.specs.Claims.{Claims, ObjectsStay, IsClaimed, IsClaimedAs, RefersTo, IsVariableIn, IsBoundAs, IsCallClaimed}
+use Rattle.hs_fitting.specs.Claims.{Claims, ObjectsStay, IsClaimed, IsShapedAs, IsClaimedAs, RefersAs, RefersTo, IsVariableIn, IsBoundAs, IsCallClaimed}
+use Rattle.hs_fitting.specs.Entities.{IsAmong}
 use Rattle.hs_fitting.specs.Shapes.{SameShape, shape_then}
 use Rattle.hs_fitting.specs.Tests.{some_none}
 use Rattle.hs_linkage.specs.Externals.{type_of_entity}
@@ -31,6 +32,7 @@ use Rattle.hs_types.specs.declared.row.TypeId.{TypeId}
 pub record ClaimsStay (its later : Claims) : Type 0 where
   pub functions : (number : ℕ) (id : TypeId) → its.functions number ≡ Some id → later.functions number ≡ Some id
   pub routines : (number : ℕ) (id : TypeId) → its.routines number ≡ Some id → later.routines number ≡ Some id
+  pub entities : (it : Entity) → IsAmong it its.entities → IsAmong it later.entities
 
 -- the types of that name, if it has one, have the shape of this one
 abbrev pub HasShape : TypeTable → Entity → TypeId → Type 0
@@ -50,10 +52,14 @@ module _ (types : TypeTable) where
   -- of a function and of a routine
   claimed_as_later : (its more : Claims) → ClaimsStay its more → (id : TypeId) (to : Bound) → IsClaimedAs types its id to
       → IsClaimedAs types more id to
-  claimed_as_later its more stay id (bound.Function number) is =
-      claimed_later (its.functions number) (more.functions number) id (stay.functions number) is
-  claimed_as_later its more stay id (bound.Routine number) is =
-      claimed_later (its.routines number) (more.routines number) id (stay.routines number) is
+  claimed_as_later its more stay id (bound.Function number) is = (
+    claimed_later (its.functions number) (more.functions number) id (stay.functions number) is.0,
+    stay.entities (entity.Function id (bound.Function number)) is.1,
+  )
+  claimed_as_later its more stay id (bound.Routine number) is = (
+    claimed_later (its.routines number) (more.routines number) id (stay.routines number) is.0,
+    stay.entities (entity.Function id (bound.Routine number)) is.1,
+  )
   claimed_as_later its more stay id bound.Nothing is = tt
 
   -- A name still refers to what was claimed.
@@ -68,8 +74,13 @@ module _ (types : TypeTable) where
   -- Calls that are noted are still of routines that were claimed.
   pub call_later : (its more : Claims) → ClaimsStay its more → (table : List Routine) (call : RoutineCall) → IsCallClaimed types its table call
       → IsCallClaimed types more table call
-  call_later its more stay table call is =
-      (claimed_later (its.routines call.routine) (more.routines call.routine) call.type_id (stay.routines call.routine) is.0, is.1)
+  call_later its more stay table call is = (
+    (
+      claimed_later (its.routines call.routine) (more.routines call.routine) call.type_id (stay.routines call.routine) is.0.0,
+      stay.entities (entity.Function call.type_id (bound.Routine call.routine)) is.0.1,
+    ),
+    is.1,
+  )
 
   -- a type of the same shape
   pub claimed_typed : (first : Option TypeId) (old id : TypeId) → IsClaimed types first old → SameShape types old id → IsClaimed types first id
@@ -77,15 +88,36 @@ module _ (types : TypeTable) where
   claimed_typed (Some first) old id is shape = shape_then types first old id is shape
 
   -- of a function and of a routine
-  claimed_as_typed : (its : Claims) (old id : TypeId) (to : Bound) → IsClaimedAs types its old to → SameShape types old id
-      → IsClaimedAs types its id to
+  claimed_as_typed : (its : Claims) (old id : TypeId) (to : Bound) → IsShapedAs types its old to → SameShape types old id
+      → IsShapedAs types its id to
   claimed_as_typed its old id (bound.Function number) is shape = claimed_typed (its.functions number) old id is shape
   claimed_as_typed its old id (bound.Routine number) is shape = claimed_typed (its.routines number) old id is shape
   claimed_as_typed its old id bound.Nothing is shape = tt
 
+  -- what refers to a claim does so by its shape
+  pub refers_as : (its : Claims) (objects : List StaticObject) (it : Entity) → RefersTo types its objects it → RefersAs types its objects it
+  refers_as its objects (entity.Constant bits) is = tt
+  refers_as its objects (entity.Variable (variable.Global place) id) is = is
+  refers_as its objects (entity.Variable (variable.Local place) id) is = tt
+  refers_as its objects (entity.Function id (bound.Function number)) is = is.0
+  refers_as its objects (entity.Function id (bound.Routine number)) is = is.0
+  refers_as its objects (entity.Function id bound.Nothing) is = tt
+  refers_as its objects (entity.Typedef id) is = tt
+
+  -- and the other way around, if its type is among those that were declared
+  pub refers_full : (its : Claims) (objects : List StaticObject) (it : Entity) → RefersAs types its objects it → IsAmong it its.entities
+      → RefersTo types its objects it
+  refers_full its objects (entity.Constant bits) is among = tt
+  refers_full its objects (entity.Variable (variable.Global place) id) is among = is
+  refers_full its objects (entity.Variable (variable.Local place) id) is among = tt
+  refers_full its objects (entity.Function id (bound.Function number)) is among = (is, among)
+  refers_full its objects (entity.Function id (bound.Routine number)) is among = (is, among)
+  refers_full its objects (entity.Function id bound.Nothing) is among = tt
+  refers_full its objects (entity.Typedef id) is among = tt
+
   -- So may a name with a type of the same shape.
-  pub refers_typed : (its : Claims) (objects : List StaticObject) (id : TypeId) (it : Entity) → RefersTo types its objects it → HasShape types it id
-      → RefersTo types its objects (with_type_id id it)
+  pub refers_typed : (its : Claims) (objects : List StaticObject) (id : TypeId) (it : Entity) → RefersAs types its objects it → HasShape types it id
+      → RefersAs types its objects (with_type_id id it)
   refers_typed its objects id (entity.Constant bits) is shape = tt
   refers_typed its objects id (entity.Variable (variable.Global place) old) is shape = is ∙ ap Some (shape old refl).category
   refers_typed its objects id (entity.Variable (variable.Local place) old) is shape = tt
@@ -114,7 +146,7 @@ pub bound_typed : (internal : Bool) (unit : ℕ) (definitions : List Definition)
 bound_typed internal unit definitions table name id (entity.Constant bits) is = tt
 bound_typed internal unit definitions table name id (entity.Variable its old) is = tt
 bound_typed internal unit definitions table name id (entity.Function old to) is = is
-bound_typed internal unit definitions table name id (entity.Typedef old) is = tt
+bound_typed internal unit definitions table name id (entity.Typedef old) is = is
 
 -- of two types the second one counts
 pub declared_again : (id other : TypeId) (it : Entity) → with_type_id id (with_type_id other it) ≡ with_type_id id it

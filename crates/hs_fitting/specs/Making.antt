@@ -8,7 +8,7 @@
 use Rattle.std.proofs.Common.{◌≡◌, ℕ, zero, suc, true, List, [], ◌∷◌, slice_get, Option, Some, None, refl, sym, ap, ◌∙◌}
 use Rattle.std.specs.List.{AllByRecursion}
 use Rattle.hs_fitting.specs.Answers.{none_some}
-use Rattle.hs_fitting.specs.Claims.{Claims, RefersTo, IsVariableIn, IsObjectRight, category_at}
+use Rattle.hs_fitting.specs.Claims.{Claims, RefersAs, IsVariableIn, IsObjectRight, category_at}
 use Rattle.hs_fitting.specs.Links.{HasShape}
 use Rattle.hs_fitting.specs.Tests.{some_same}
 use Rattle.hs_linkage.specs.Externals.{type_of_entity, agrees_in}
@@ -101,7 +101,7 @@ agrees_typed types o id (Some other) is = (other, refl)
 
 -- What has the shape of a function is one: an object would be a function, and there is none.
 pub declared_function : (program : TypedProgram) (its : Claims) (m : Translator) (id : TypeId) (it : Entity)
-    → AllByRecursion (IsObjectRight program its m) m.objects → RefersTo program.types its m.objects it → IsVariableIn program.types [] it
+    → AllByRecursion (IsObjectRight program its m) m.objects → RefersAs program.types its m.objects it → IsVariableIn program.types [] it
     → (other : TypeId) × (type_of_entity it ≡ Some other) → HasShape program.types it id → category_of program.types id ≡ Some of_function
     → IsFunction it
 declared_function program its m id (entity.Constant bits) are refers global typed shape is = absurd (none_some typed.0 typed.1)

@@ -38,7 +38,7 @@ abbrev pub inside : Typer → Typer
 inside s = enter (record s { keeps = false })
 
 -- what is outside of a scope that ends
-all_outside : {E : Type 0} → (holds : Declared E → Type 0) (level : ℕ) (its : List (Declared E)) → AllByRecursion holds its
+pub all_outside : {E : Type 0} → (holds : Declared E → Type 0) (level : ℕ) (its : List (Declared E)) → AllByRecursion holds its
     → AllByRecursion holds (outside level its)
 all_outside holds level [] are = tt
 all_outside {E = E} holds level (it ∷ older) are =
@@ -117,7 +117,7 @@ module _ (Q : ℕ → TypeId → Type 0) where
     pub types_noting : {A : Type 0} → (s : Typer) (given : Result (A × TypeTable) TypeError) → Growing s.types given → Righting s.types given
         → NamesAllow s → Noting (λ it. Unit {0}) s (with_types s given)
     types_noting s (Ok p) grows rights names =
-        record { names = names; fact = tt; table = refl; types = grows; right = rights; calls = λ grows are. are }
+        record { names = names; fact = tt; table = refl; types = grows.0; right = rights; calls = λ grows are. are }
     types_noting s (Err why) grows rights names = tt
 
     -- one step after another

@@ -7,7 +7,7 @@ use Rattle.std.specs.Prelude.{slice_get, length}
 use Rattle.hs_expressions.specs.Laws.{IsConstant}
 use Rattle.hs_expressions.specs.Laws.Always.{Always}
 use Rattle.hs_expressions.specs.Laws.Grown.{Growing, GrowsTo, grows_row, grows_struct, grows_enumeration, arrayed_grows, completed_grows, enumerated_grows}
-use Rattle.hs_expressions.specs.Laws.Leaves.{string_always, addressed_always, struct_type_always, enumeration_type_always, tagged_struct_always, begun_struct_always, begun_enumeration_always, completed_struct_always, completed_enumeration_always}
+use Rattle.hs_expressions.specs.Laws.Leaves.{string_always, addressed_always, struct_type_always, enumeration_type_always, tagged_struct_always, begun_struct_always, begun_enumeration_always, completed_enumeration_always}
 use Rattle.hs_expressions.specs.Operations.{address_as, addressed}
 use Rattle.hs_fitting.specs.Noting.{AllowsName, NamesAllow, IsOperandOf, AreCallsOf, Noting, Notes}
 use Rattle.hs_fitting.specs.Rightness.{AreRight, Righting, RightsTo, right_row, right_struct, right_enumeration, right_self, arrayed_rights, completed_rights, enumerated_rights}
@@ -180,11 +180,11 @@ module _ (Q : ℕ → TypeId → Type 0) (final : TypeTable) where
   begun_enumeration_notes o = calm_notes (λ it. Unit {0}) (begun_enumeration o) (begun_enumeration_always o) (begun_enumeration_calm o)
 
   -- a struct with its body
-  pub completed_struct_notes : (first : Place) (word : Option Word) (brace : Place) (number : ℕ) (members : List Member)
-      → Notes Q final IsConstant (λ it. Unit {0}) (completed_struct first word brace number members)
-  completed_struct_notes first word brace number members =
-      calm_notes (λ it. Unit {0}) (completed_struct first word brace number members)
-      (completed_struct_always first word brace number members) (completed_struct_calm first word brace number members)
+  pub completed_struct_noting : (first : Place) (word : Option Word) (brace : Place) (number : ℕ) (members : List Member) (s : Typer)
+      → NamesAllow Q s → Noting Q final (λ it. Unit {0}) s (completed_struct first word brace number members s)
+  completed_struct_noting first word brace number members s names =
+      calm_noting (λ it. Unit {0}) s (completed_struct first word brace number members s) names
+      (completed_struct_calm first word brace number members s)
 
   -- an enumeration with its constants
   pub completed_enumeration_notes : (first : Place) (word : Option Word) (brace : Place) (number : ℕ) (its : List Enumerator)
@@ -196,7 +196,7 @@ module _ (Q : ℕ → TypeId → Type 0) (final : TypeTable) where
   -- a string, which is an object
   string_in_calm : (s : Typer) (at : Place) (bytes : List ℕ) (given : Result (TypeId × TypeTable) TypeEnd) → Growing s.types given
       → Righting s.types given → Calm (IsOperandOf Q) s (string_in s at bytes given)
-  string_in_calm s at bytes (Ok p) grows rights = (refl, refl, refl, grows, rights, tt)
+  string_in_calm s at bytes (Ok p) grows rights = (refl, refl, refl, grows.0, rights, tt)
   string_in_calm s at bytes (Err why) grows rights = tt
 
   -- if it has bytes

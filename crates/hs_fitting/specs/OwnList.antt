@@ -133,7 +133,7 @@ derived_list at of list ids types false is = added_list of list ids types is
 derived_from_list : (at : Place) (list : ListId) (ids : List TypeId) (types : TypeTable) (given : Result (TypeId × TypeTable) TypeError)
     → Growing types given → IsList types list ids → IsOfList ids (derived_from at (derivation.Function list) given)
 derived_from_list at list ids types (Ok p) grows is =
-    derived_list at p.0 list ids p.1 (is_function_row (row_of p.1 p.0) || is_array_row (row_of p.1 p.0)) (list_stays types p.1 grows list ids is)
+    derived_list at p.0 list ids p.1 (is_function_row (row_of p.1 p.0) || is_array_row (row_of p.1 p.0)) (list_stays types p.1 grows.0 list ids is)
 derived_from_list at list ids types (Err why) grows is = tt
 
 -- the first derivation is applied last

@@ -4,13 +4,16 @@
 --     OpenedAs s new id               from s, that scope was opened for a function of that type
 --     opened_as                       by `opened_type`
 --     OpenedFor s new id its, opened_for, opens_for       the same, with as many types as parameters; and of an answer
-use Rattle.std.proofs.Common.{◌≡◌, suc, true, false, List, [], Some, Result, Ok, Err, refl, sym, subst, if◌then◌else◌}
+use Rattle.std.proofs.Common.{ℕ, ◌≡◌, suc, true, false, List, [], ◌∷◌, Some, Result, Ok, Err, refl, sym, subst, if◌then◌else◌}
+use Rattle.std.specs.List.{AllByRecursion}
+use Rattle.hs_fitting.specs.Owning.{OwnAt, Owning, OwnTypes, parameter_types_owns}
+use Rattle.hs_fitting.specs.Owned.{OwnTop, top_later}
 use Rattle.hs_declarations.specs.Fronts.{item_type}
 use Rattle.hs_expressions.specs.Binding.{IsList}
 use Rattle.hs_expressions.specs.Expressions.{enter, leave, ending, prototype, parameter_types}
 use Rattle.hs_expressions.specs.Laws.{HasMore, IsConstant, IsScoped}
 use Rattle.hs_expressions.specs.Laws.Always.{Always, Anything, gives_always, prototype_always}
-use Rattle.hs_expressions.specs.Laws.Reached.{Reaches, more_self, reaches_self, reaches_then, reaches_wider, scoped_after}
+use Rattle.hs_expressions.specs.Laws.Reached.{all_so, Reaches, more_self, reaches_self, reaches_then, reaches_wider, scoped_after}
 use Rattle.hs_fitting.specs.Moves.{any_reaches}
 use Rattle.hs_fitting.specs.OwnList.{Held, IsOfOwn, item_type_owned}
 pub use Rattle.hs_fitting.specs.Prototypes.{IsParameterName, AreAsMany}
@@ -41,6 +44,7 @@ pub record OpenedAs (s new : Typer) (id : TypeId) : Type 0 where
   pub ids : List TypeId
   pub names : HasMore (λ it. (it.level ≡ suc mid.names.level) × IsParameterName ids it.entity) (entered mid.names) new.names
   pub list : (result : TypeId) (its : ListId) → row_of new.types id ≡ Some (row.Function result its) → IsList new.types its ids
+  pub own : (base : ℕ) → OwnAt base s → AllByRecursion (OwnTop base new.types) ids
 
 -- with as many types as parameters
 pub record OpenedFor (s new : Typer) (id : TypeId) (its : Parameters) : Type 0 where
@@ -85,8 +89,13 @@ plain_opened s id n scoped own =
       ids = own.ids;
       names = more_self (λ it. (it.level ≡ suc n.names.level) × IsParameterName own.ids it.entity) (entered n.names);
       list = own.list;
+      own = λ base is. no_types base own.ids own.held.0;
     } in
     record { opened_scope = scope; many = own.held.0 }
+  where
+    no_types : (base : ℕ) (ids : List TypeId) → AreAsMany ids syntax.no_parameters → AllByRecursion (OwnTop base n.types) ids
+    no_types base [] many = tt
+    no_types base (it ∷ ids) many = absurd many
 
 -- of the answer
 plain_opens : (s : Typer) (given : Result (TypeId × Typer) TypeError) → IsScoped s → Held (IsOfOwn (IsPlain s)) given
@@ -119,25 +128,30 @@ here_around s scoped =
       counts = refl;
       keeps = sym scoped.closed;
       unit = refl;
+      traced = still.traced;
     }
 
 -- what is known after the types of the parameters
 abbrev IsInside : Typer → Parameters → List TypeId → Typer → Type 0
-IsInside s its ids n = AreAsMany ids its × Reaches (IsParameterName ids) (enter (here s)) n × IsScoped n
+IsInside s its ids n =
+    AreAsMany ids its × Reaches (IsParameterName ids) (enter (here s)) n × IsScoped n
+    × ((base : ℕ) → OwnAt base s → AllByRecursion (OwnTop base n.types) ids)
 
 -- the scopes are as they should be then
 inside_scoped : (s : Typer) (its : Parameters) (ids : List TypeId) (n : Typer) → IsInside s its ids n → IsScoped n
 inside_scoped s its ids n is = is.2
 
 -- of the answer of a prototype whose scope is kept
-inside_held : (s : Typer) (its : Parameters) (given : Result (List TypeId × Typer) TypeError) → IsScoped s → Lists (enter (here s)) [] its given
+inside_held : (s : Typer) (its : Parameters) (given : Result (List TypeId × Typer) TypeError) → IsScoped s
+    → ((base : ℕ) → OwnAt base s → Owning base (OwnTypes base) given) → Lists (enter (here s)) [] its given
     → Held (IsInside s its) (ending true given)
-inside_held s its (Ok p) scoped lists = (
+inside_held s its (Ok p) scoped own lists = (
   subst (λ ids. AreAsMany ids its) (sym lists.2) lists.3,
   lists.0,
   scoped_after (IsParameterName p.0) (enter (here s)) p.1 lists.0 (entered_scoped (here s) (here_scoped s scoped)),
+  own,
 )
-inside_held s its (Err why) scoped lists = tt
+inside_held s its (Err why) scoped own lists = tt
 
 -- the scope goes on
 inside_opened : (s : Typer) (its : Parameters) (id : TypeId) (n : Typer) → IsScoped s → IsOfOwn (IsInside s its) id n → OpenedFor s n id its
@@ -154,6 +168,8 @@ inside_opened s its id n scoped own =
       ids = own.ids;
       names = inside.names;
       list = own.list;
+      own = λ base is. all_so (OwnTop base own.first.types) (OwnTop base n.types) (top_later base own.first.types n.types own.after.types) own.ids
+          (own.held.3 base is);
     } in
     record { opened_scope = scope; many = own.held.0 }
 
@@ -177,6 +193,8 @@ opens_for at base it (syntax.more_parameters words first rest) is s scoped =
     inside_opens s its (item_type at base it (record s { keeps = true })) scoped
     (item_type_owned at its (record s { keeps = true }) (IsInside s its) (inside_scoped s its)
     (inside_held s its (parameter_types at 0 [] its (enter (here s))) scoped
+    (λ base own. parameter_types_owns base at 0 [] its (enter (here s)) (entered_scoped (here s) (here_scoped s scoped))
+    (record { traced = own.traced; names = own.names; fixed = own.fixed }) tt)
     (parameters_listed at [] its (enter (here s)) (entered_scoped (here s) (here_scoped s scoped))))
     (λ same. absurd cc) base it is)
 

@@ -2,7 +2,7 @@
 --     Between program units before its m done      between two units
 --     Came program units before its m done all n   from there to a later such place
 --     units_right                                  all units
-use Rattle.std.proofs.Common.{◌≡◌, ◌<◌, inr, ℕ, suc, ◌+◌, Bool, true, false, List, [], ◌∷◌, ◌++◌, length, slice_get, Option, Some, None, Result, Ok, Err, refl, sym, ap, subst, ◌∙◌, arith}
+use Rattle.std.proofs.Common.{◌≡◌, ◌≤◌, ◌<◌, inr, ℕ, suc, ◌+◌, Bool, true, false, List, [], ◌∷◌, ◌++◌, length, slice_get, Option, Some, None, Result, Ok, Err, refl, sym, ap, subst, ◌∙◌, arith}
 use Rattle.std.specs.Prelude.{◌==◌}
 use Rattle.std.proofs.lemmas.List.{append_assoc, append-nil, length-append}
 use Rattle.std.proofs.lemmas.Bool.Decides.{nat_tests}
@@ -13,7 +13,12 @@ use Rattle.hs_expressions.specs.Laws.{IsScoped}
 use Rattle.hs_expressions.specs.Laws.Reached.{all_so, prefix_then}
 use Rattle.hs_fitting.specs.Answers.{none_some}
 use Rattle.hs_fitting.specs.BlockWalks.{block_declared_walks}
-use Rattle.hs_fitting.specs.Claims.{Claims, no_claims, IsMarkedIn, ObjectsStay, IsBoundAs, IsExternal, IsSigned, IsRoutineDeclared, IsRegisteredAs, IsMet, IsMetAs, Endures, IsObjectRight, Stands}
+use Rattle.hs_expressions.specs.Laws.Traced.{IsTracedAt, TracesTo}
+use Rattle.hs_fitting.specs.Accounts.{accounted_traced, accounted_noted}
+use Rattle.hs_fitting.specs.Closing.{AreAllClosed, pairs_ended}
+use Rattle.hs_fitting.specs.Entities.{IsAmong, all_by_among}
+use Rattle.hs_fitting.specs.Links.{refers_later}
+use Rattle.hs_fitting.specs.Claims.{Claims, no_claims, IsAccounted, IsFulfilled, RefersTo, IsMarkedIn, ObjectsStay, IsBoundAs, IsExternal, IsSigned, IsRoutineDeclared, IsRegisteredAs, IsMet, IsMetAs, Endures, IsObjectRight, Stands}
 use Rattle.hs_fitting.specs.Done.{AreDone, none_done}
 use Rattle.hs_fitting.specs.FileLocals.{file_declared_locals}
 use Rattle.hs_fitting.specs.FileWalks.{file_declared_walks}
@@ -65,6 +70,8 @@ pub record Between (program : TypedProgram) (units before : List (List ExternalD
   pub past : (number : ℕ) (id : TypeId) (it : Definition) → its.functions number ≡ Some id → slice_get m.definitions number ≡ Some it
       → it.internal ≡ true → it.unit < length before
   pub signed : AllByRecursion (IsSigned program.types) m.routines
+  pub externals : AreAllClosed program.types its.base m.typer m.externals
+  pub routines : AreAllClosed program.types its.base m.typer m.routines
 
 -- from one such place to a later one
 pub record Came (program : TypedProgram) (units before : List (List ExternalDeclaration)) (its : Claims) (m : Translator) (done all : List TypedFunction)
@@ -72,6 +79,7 @@ pub record Came (program : TypedProgram) (units before : List (List ExternalDecl
   pub claims : Claims
   pub claimed : (number : ℕ) (id : TypeId) → its.functions number ≡ Some id → claims.functions number ≡ Some id
   pub routines : (number : ℕ) (id : TypeId) → its.routines number ≡ Some id → claims.routines number ≡ Some id
+  pub entities : (it : Entity) → IsAmong it its.entities → IsAmong it claims.entities
   pub objects : ObjectsStay program.types m.objects n.objects
   pub between : Between program units before claims n all
   pub gives : Endures program claims n → AllByRecursion (IsRightFunction program) done → AllByRecursion (IsRightFunction program) all
@@ -96,15 +104,19 @@ ended_at m =
       links = record { declarations = []; level = 0 };
     }
 
+-- what is claimed there, where all structs are of earlier units
+abbrev pub ended_claims : Claims → Translator → Claims
+ended_claims its m = record its { base = length m.typer.types.structs }
+
 -- what is known of the program there
-endures_ended : (program : TypedProgram) (its : Claims) (m : Translator) → Endures program its (ended_at m) → Endures program its m
+endures_ended : (program : TypedProgram) (its : Claims) (m : Translator) → Endures program (ended_claims its m) (ended_at m) → Endures program its m
 endures_ended program its m endures =
     record {
       types = endures.types;
       literals = endures.literals;
       calls = endures.calls;
       taken = endures.taken;
-      claims = endures.claims;
+      claims = record { entities = endures.claims.entities; routines = endures.claims.routines };
       objects = endures.objects;
     }
 
@@ -114,7 +126,13 @@ bound_ended : (m : Translator) (name : List ℕ) (it : Entity) → IsBoundAs fal
 bound_ended m name (entity.Constant bits) is = tt
 bound_ended m name (entity.Variable variable id) is = tt
 bound_ended m name (entity.Function id to) is = is
-bound_ended m name (entity.Typedef id) is = tt
+bound_ended m name (entity.Typedef id) is = is
+
+no_more : (a : ℕ) → a ≤ a
+no_more a = omega arith
+
+none_past : (a b c : ℕ) → a < b → b ≡ c → c ≤ a → ⊥
+none_past a b c less same from = omega (arith, less, same, from)
 
 not_below : (a b : ℕ) → (a == suc b) ≡ true → a < suc b → ⊥
 not_below a b is less = grind (arith, nat_tests, is, less)
@@ -122,7 +140,44 @@ not_below a b is less = grind (arith, nat_tests, is, less)
 module _ (program : TypedProgram) (here : List ℕ → Bool) (its : Claims) (m : Translator) (stands : Stands program here its [] m)
     (past : (number : ℕ) (id : TypeId) (it : Definition) → its.functions number ≡ Some id → slice_get m.definitions number ≡ Some it
     → it.internal ≡ true → it.unit < suc m.typer.origins.unit)
-    (signed : AllByRecursion (IsSigned program.types) m.routines) where
+    (signed : AllByRecursion (IsSigned program.types) m.routines) (grows : Grows m.typer.types program.types)
+    (external : unfit m.typer.types m.typer.origins m.externals m.externals ≡ None)
+    (checked : unfit m.typer.types m.typer.origins m.routines m.routines ≡ None) where
+  -- what names refer to
+  refers_ended : (it : Entity) → RefersTo program.types its m.objects it → RefersTo program.types (ended_claims its m) m.objects it
+  refers_ended =
+      refers_later program.types its (ended_claims its m) m.objects m.objects
+      (record { functions = λ number id is. is; routines = λ number id is. is; entities = λ it is. is }) (λ place category at. at)
+
+  -- origins of structs
+  origins_ended : IsTracedAt (length m.typer.types.structs) (ended_at m).typer
+  origins_ended =
+      record {
+        counted = stands.traced.counted;
+        there = no_more (length m.typer.types.structs);
+        begun = stands.traced.begun;
+        units = λ number it at from. absurd (none_past number (length m.typer.origins.structs) (length m.typer.types.structs)
+            (slice_get_within m.typer.origins.structs number it at) stands.traced.counted from);
+        owned = tt;
+      }
+
+  braces_ended : TracesTo its.base m.typer (ended_at m).typer
+  braces_ended = record { braces = λ number brace has. has; closed = λ number less. refl }
+
+  -- types of functions
+  accounted_ended : (it : Entity) → IsAccounted program.types its m it → IsAccounted program.types (ended_claims its m) (ended_at m) it
+  accounted_ended it is =
+      accounted_noted program.types its (ended_claims its m) (record m { typer = (ended_at m).typer }) (ended_at m) refl refl
+      (λ number id is. is) (λ it is. is) (λ it is. is) it
+      (accounted_traced program.types its m (ended_at m).typer braces_ended it is)
+
+  -- what all declarations agree in
+  pub externals_ended : AreAllClosed program.types (length m.typer.types.structs) (ended_at m).typer m.externals
+  externals_ended = pairs_ended program.types its.base m.typer (ended_at m).typer grows stands.traced refl refl m.externals external stands.closed.0
+
+  pub routines_ended : AreAllClosed program.types (length m.typer.types.structs) (ended_at m).typer m.routines
+  routines_ended = pairs_ended program.types its.base m.typer (ended_at m).typer grows stands.traced refl refl m.routines checked stands.closed.1
+
   registered_ended : (number : ℕ) (id : TypeId) (it : Definition) → its.functions number ≡ Some id → slice_get m.definitions number ≡ Some it
       → (b : Bool) → it.internal ≡ b → IsRegisteredAs b m it → IsRegisteredAs b (ended_at m) it
   registered_ended number id it claimed at true is registered =
@@ -130,20 +185,31 @@ module _ (program : TypedProgram) (here : List ℕ → Bool) (its : Claims) (m :
   registered_ended number id it claimed at false is registered = registered
 
   pub stands_next : (next : List ℕ → Bool) → ((number : ℕ) (it : Definition) → slice_get m.definitions number ≡ Some it
-      → (it.unit == suc m.typer.origins.unit) ≡ true → it.internal ≡ next it.name) → Stands program next its [] (ended_at m)
+      → (it.unit == suc m.typer.origins.unit) ≡ true → it.internal ≡ next it.name) → Stands program next (ended_claims its m) [] (ended_at m)
   stands_next next internal =
       record {
         names = tt;
         locals = tt;
         links = tt;
-        externals = all_so (IsExternal program.types its m) (IsExternal program.types its (ended_at m))
-            (λ it is. record { refers = is.refers; bound = bound_ended m it.name it.entity is.bound; global = is.global; typed = is.typed })
+        externals = all_so (IsExternal program.types its m) (IsExternal program.types (ended_claims its m) (ended_at m))
+            (λ it is. record {
+              refers = refers_ended it.entity is.refers;
+              bound = bound_ended m it.name it.entity is.bound;
+              global = is.global;
+              typed = is.typed;
+            })
             m.externals stands.externals;
-        routines = all_by_both (IsRoutineDeclared program.types its m) (IsSigned program.types) (IsRoutineDeclared program.types its (ended_at m))
-            (λ it is signed. record { refers = is.refers; routine = is.routine; typed = is.typed; signed = inr signed }) m.routines stands.routines signed;
+        routines = all_by_both (IsRoutineDeclared program.types its m) (IsSigned program.types)
+            (IsRoutineDeclared program.types (ended_claims its m) (ended_at m))
+            (λ it is signed. record {
+              refers = refers_ended it.entity is.refers;
+              routine = is.routine;
+              typed = is.typed;
+              signed = inr signed;
+            }) m.routines stands.routines signed;
         calls = stands.calls;
         right = stands.right;
-        objects = all_so (IsObjectRight program its m) (IsObjectRight program its (ended_at m))
+        objects = all_so (IsObjectRight program its m) (IsObjectRight program (ended_claims its m) (ended_at m))
             (λ it is. record {
               category = is.category;
               undefined = is.undefined;
@@ -154,6 +220,14 @@ module _ (program : TypedProgram) (here : List ℕ → Bool) (its : Claims) (m :
         functions_there = stands.functions_there;
         routines_there = stands.routines_there;
         internal = internal;
+        traced = origins_ended;
+        typedefs = tt;
+        accounted = all_so (IsAccounted program.types its m) (IsAccounted program.types (ended_claims its m) (ended_at m)) accounted_ended its.entities
+            stands.accounted;
+        closed = (
+          λ x y among among' older older'. externals_ended x y among among',
+          λ x y among among' older older'. routines_ended x y among among',
+        );
       }
 
 -- ---- a unit
@@ -172,7 +246,8 @@ module _ (program : TypedProgram) (sound : IsRight program.types) (anyone : Type
   module _ (all : List TypedFunction) (n : Translator) (gone : GoneRight program (is_internal unit) its m done all n)
       (named : AreNamed done (defined_names (definitions_in (length before) unit unit)) all)
       (fits : Passes m (ended_at n) × AllByRecursion (FitsDefinition n.typer.types) all) (grows : Grows n.typer.types program.types)
-      (checked : unfit n.typer.types n.typer.origins n.routines n.routines ≡ None) where
+      (checked : unfit n.typer.types n.typer.origins n.routines n.routines ≡ None)
+      (external : unfit n.typer.types n.typer.origins n.externals n.externals ≡ None) where
     unit_here : n.typer.origins.unit ≡ length before
     unit_here = gone.unit ∙ between.unit
 
@@ -248,19 +323,20 @@ module _ (program : TypedProgram) (sound : IsRight program.types) (anyone : Type
             (subst (λ all. slice_get all number ≡ Some one) all_there there)))
     met_here one number f at there false is met = met
 
-    done_here : AreDone program gone.claims (ended_at n) all
+    done_here : AreDone program (ended_claims gone.claims n) (ended_at n) all
     done_here =
         record {
-          shaped = gone.functions.shaped;
+          exact = gone.functions.exact;
           met = λ number it one at there. met_here one number it at there one.internal refl (gone.functions.met number it one at there);
         }
 
     came : Came program units (before ++ unit ∷ []) its m done all (ended_at n)
     came =
         record {
-          claims = gone.claims;
+          claims = ended_claims gone.claims n;
           claimed = gone.proceeds.functions;
           routines = gone.proceeds.routines;
+          entities = gone.proceeds.entities;
           objects = gone.proceeds.objects;
           between = record {
             scoped = record { names = tt; tags = tt; closed = fits.0.scoped.closed };
@@ -270,10 +346,12 @@ module _ (program : TypedProgram) (sound : IsRight program.types) (anyone : Type
             definitions = all_there;
             unit = ap suc unit_here ∙ sym next_length;
             count = counted;
-            stands = stands_next program (is_internal unit) gone.claims n gone.stands past_unit signed_here;
+            stands = stands_next program (is_internal unit) gone.claims n gone.stands past_unit signed_here grows external checked;
             functions = done_here;
             past = λ number id it claimed at internal. subst (λ count. it.unit < count) (sym next_length) (past_here number id it claimed at internal);
             signed = signed_here;
+            externals = externals_ended program (is_internal unit) gone.claims n gone.stands past_unit signed_here grows external checked;
+            routines = routines_ended program (is_internal unit) gone.claims n gone.stands past_unit signed_here grows external checked;
           };
           gives = λ endures are. gone.gives (endures_ended program gone.claims n endures) are;
         }
@@ -281,25 +359,27 @@ module _ (program : TypedProgram) (sound : IsRight program.types) (anyone : Type
   -- ---- its answer
 
   after_checked : (all : List TypedFunction) (n : Translator) → GoingRight program (is_internal unit) its m done (Ok (all, n))
+      → unfit n.typer.types n.typer.origins n.externals n.externals ≡ None
       → (o : Option External) → unfit n.typer.types n.typer.origins n.routines n.routines ≡ o
       → AllFit m (work_with {A = Unit {0}} {B = List TypedFunction} (λ again. unit_ended >> pass all) (unless_unfit o n))
       → Given (AreNamed done (defined_names (definitions_in (length before) unit unit)))
       (work_with {A = Unit {0}} {B = List TypedFunction} (λ again. unit_ended >> pass all) (unless_unfit o n))
       → Coming program units (before ++ unit ∷ []) its m done
       (work_with {A = Unit {0}} {B = List TypedFunction} (λ again. unit_ended >> pass all) (unless_unfit o n))
-  after_checked all n going None same fits named = λ grows. came all n (going grows) named fits grows same
-  after_checked all n going (Some it) same fits named = tt
+  after_checked all n going external None same fits named = λ grows. came all n (going grows) named fits grows same external
+  after_checked all n going external (Some it) same fits named = tt
 
   -- what external linkage comes to is looked at first
   after_first : (all : List TypedFunction) (n : Translator) → GoingRight program (is_internal unit) its m done (Ok (all, n)) → (o : Option External)
+      → unfit n.typer.types n.typer.origins n.externals n.externals ≡ o
       → AllFit m (work_with {A = Unit {0}} {B = List TypedFunction} (λ again. unit_ended >> pass all) ((unless_unfit o >> rechecked_all n.routines) n))
       → Given (AreNamed done (defined_names (definitions_in (length before) unit unit)))
       (work_with {A = Unit {0}} {B = List TypedFunction} (λ again. unit_ended >> pass all) ((unless_unfit o >> rechecked_all n.routines) n))
       → Coming program units (before ++ unit ∷ []) its m done
       (work_with {A = Unit {0}} {B = List TypedFunction} (λ again. unit_ended >> pass all) ((unless_unfit o >> rechecked_all n.routines) n))
-  after_first all n going None fits named =
-      after_checked all n going (unfit n.typer.types n.typer.origins n.routines n.routines) refl fits named
-  after_first all n going (Some it) fits named = tt
+  after_first all n going None external fits named =
+      after_checked all n going external (unfit n.typer.types n.typer.origins n.routines n.routines) refl fits named
+  after_first all n going (Some it) external fits named = tt
 
   after_externals : (given : Result (List TypedFunction × Translator) TypeError) → GoingRight program (is_internal unit) its m done given
       → AllFit m (work_with (λ all. Rattle.hs_linkage.specs.Linkage.rechecked >> (unit_ended >> pass all)) given)
@@ -308,7 +388,7 @@ module _ (program : TypedProgram) (sound : IsRight program.types) (anyone : Type
       → Coming program units (before ++ unit ∷ []) its m done
       (work_with (λ all. Rattle.hs_linkage.specs.Linkage.rechecked >> (unit_ended >> pass all)) given)
   after_externals (Ok q) going fits named =
-      after_first q.0 q.1 going (unfit q.1.typer.types q.1.typer.origins q.1.externals q.1.externals) fits named
+      after_first q.0 q.1 going (unfit q.1.typer.types q.1.typer.origins q.1.externals q.1.externals) refl fits named
   after_externals (Err why) going fits named = tt
 
   pub unit_right : Coming program units (before ++ unit ∷ []) its m done (unit_of done unit m)
@@ -337,6 +417,7 @@ came_then program units before later its m n p done some all first passes second
       claims = second.claims;
       claimed = λ number id is. second.claimed number id (first.claimed number id is);
       routines = λ number id is. second.routines number id (first.routines number id is);
+      entities = λ it is. second.entities it (first.entities it is);
       objects = λ place is at. second.objects place is (first.objects place is at);
       between = second.between;
       gives = λ endures are. second.gives endures (first.gives (endures_onward endures) are);
@@ -350,7 +431,7 @@ came_then program units before later its m n p done some all first passes second
           calls = all_of_prefix (IsNotedCall program program.types) n.typer.calls p.typer.calls passes.calls endures.calls;
           taken = all_of_prefix (IsMarkedIn program) n.typer.taken p.typer.taken passes.taken endures.taken;
           claims = record {
-            functions = λ number id is. endures.claims.functions number id (second.claimed number id is);
+            entities = all_by_among (IsFulfilled program) first.claims.entities second.claims.entities second.entities endures.claims.entities;
             routines = λ number id is. endures.claims.routines number id (second.routines number id is);
           };
           objects = λ place is at. endures.objects place is (second.objects place is at);
@@ -383,6 +464,7 @@ module _ (program : TypedProgram) (sound : IsRight program.types) (anyone : Type
         claims = its;
         claimed = λ number id is. is;
         routines = λ number id is. is;
+        entities = λ it is. is;
         objects = λ place is at. at;
         between = subst (λ before. Between program units before its m done) (sym (are ∙ append-nil before)) between;
         gives = λ endures are. are;
@@ -394,6 +476,9 @@ module _ (program : TypedProgram) (sound : IsRight program.types) (anyone : Type
       (λ claims all n next. units_right (before ++ unit ∷ []) rest (are ∙ sym (append_assoc before (unit ∷ []) rest)) claims n all next)
 
 -- ---- from the beginning
+
+none_before : (a : ℕ) → 0 ≤ a
+none_before a = omega arith
 
 -- before the first unit
 pub begins : (program : TypedProgram) (table : List Routine) (units : List (List ExternalDeclaration))
@@ -421,10 +506,22 @@ begins program table units =
         functions_there = λ number id claimed. absurd (none_some id claimed);
         routines_there = λ number id claimed. absurd (none_some id claimed);
         internal = internal;
+        traced = record {
+          counted = refl;
+          there = none_before 0;
+          begun = λ number it brace at known. absurd cc;
+          units = λ number it at from. absurd cc;
+          owned = tt;
+        };
+        typedefs = tt;
+        accounted = tt;
+        closed = (λ x y among. absurd among, λ x y among. absurd among);
       };
       functions = none_done program no_claims (before_units table (all_definitions 0 units));
       past = λ number id it claimed at internal. absurd (none_some id claimed);
       signed = tt;
+      externals = λ x y among. absurd among;
+      routines = λ x y among. absurd among;
     }
 
 -- Whatever the units come to, it goes on to the program as the program keeps it.

@@ -159,7 +159,7 @@ either_one true b is = inl refl
 either_one false b is = inr is
 
 -- two rows that are there, of one category, which is not that of functions
-abbrev AreObjects : Option Row → Option Row → Type 0
+abbrev pub AreObjects : Option Row → Option Row → Type 0
 AreObjects x y = (its : Category) × (category_of_row x ≡ Some its) × (category_of_row y ≡ Some its) × (its ≡ of_function → ⊥)
 
 -- an integer type that is compatible with enumerations is int
@@ -265,7 +265,7 @@ inside_rows test (Some (row.OpenArray of)) (Some (row.Function result parameters
 inside_rows test (Some (row.Function result parameters)) y is = absurd cc
 
 -- one type, or two such types
-abbrev AreOneOrObjects : TypeTable → TypeId → TypeId → Type 0
+abbrev pub AreOneOrObjects : TypeTable → TypeId → TypeId → Type 0
 AreOneOrObjects old a b = (a ≡ b) ⊎ AreObjects (row_of old a) (row_of old b)
 
 -- by the three tests
@@ -289,7 +289,7 @@ one_or_objects old o a b test is =
     outer (inr both) = inr (inside_rows test (row_of old a) (row_of old b) both)
 
 -- down to so many types inside
-within_objects : (old : TypeTable) (o : Origins) (count : ℕ) (a b : TypeId) → objects_agree_within count old o a b ≡ true → AreOneOrObjects old a b
+pub within_objects : (old : TypeTable) (o : Origins) (count : ℕ) (a b : TypeId) → objects_agree_within count old o a b ≡ true → AreOneOrObjects old a b
 within_objects old o zero a b is = inl (same-is a b is)
 within_objects old o (suc rest) a b is = one_or_objects old o a b (objects_agree_within rest old o) is
 
@@ -308,13 +308,19 @@ no_function_row found its gives list is no_function known =
     let same : Some its ≡ Some of_function = sym is ∙ ap category_of_row known in
     no_function cc
 
+-- a type of another category has no signature
+pub no_signature : (old types : TypeTable) → Grows old types → (id : TypeId) (its : Category) (parameters : List TypeId) (result : TypeId)
+    → category_of old id ≡ Some its → (its ≡ of_function → ⊥) → IsSignature types id parameters result → ⊥
+no_signature old types grows id its parameters result is no_function signed =
+    no_function_row (row_of types id) its result signed.0 (category_row_stays old types id its (row_of old id) grows refl is) no_function signed.1
+
 module _ (old types : TypeTable) (grows : Grows old types) where
   -- looked up by the number of the type
   category_stays : (id : TypeId) (its : Category) → category_of old id ≡ Some its → category_of types id ≡ Some its
   category_stays id its is = category_row_stays old types id its (row_of old id) grows refl is
 
   -- two types that are no functions
-  objects_shape : (a b : TypeId) → AreOneOrObjects old a b → SameShape types a b
+  pub objects_shape : (a b : TypeId) → AreOneOrObjects old a b → SameShape types a b
   objects_shape a b (inl same) = shape_same types a b same
   objects_shape a b (inr (its, is, is', no_function)) =
       record {

@@ -1,7 +1,7 @@
 -- Statements move on what is known of a program: scopes that begin in them end, and the variables that they make stay.
 --     scoped_moved                    a step in a scope of its own
 --     body_moved                      the body of a function
-use Rattle.std.proofs.Common.{◌≡◌, suc, true, not, List, [], ◌∷◌, ◌++◌, nat_eq, Option, Some, None, Result, Ok, Err, sym, subst, ◌∙◌}
+use Rattle.std.proofs.Common.{◌≡◌, suc, true, not, List, [], ◌∷◌, ◌++◌, nat_eq, Option, Some, None, Result, Ok, Err, refl, sym, ap, subst, ◌∙◌}
 use Rattle.std.specs.List.{list_any}
 use Rattle.indexmap.specs.IndexSet.{insert_key}
 use Rattle.hs_declarations.specs.Declarations.{block_declared}
@@ -11,6 +11,7 @@ use Rattle.hs_expressions.specs.Laws.{HasMore, IsConstant, IsTagAt, IsScoped, Ar
 use Rattle.hs_expressions.specs.Laws.Always.{Anything, deeper, value_always, of_types_always}
 use Rattle.hs_expressions.specs.Laws.Extending.{typed_always}
 use Rattle.hs_expressions.specs.Laws.Reached.{IsAllowedAt, Reaches, left_entered}
+use Rattle.hs_expressions.specs.Laws.Traced.{traced_left}
 use Rattle.hs_fitting.specs.Blocks.{block_declared_moved}
 use Rattle.hs_fitting.specs.Moving.{Moving, Moved, passes_moved, stops_moved, knowing_moved, unless_moved, then_moved, typing_moved}
 use Rattle.hs_linkage.specs.Works.{Work, knowing, unless}
@@ -66,6 +67,9 @@ left_reaches s new scoped reached =
       counts = reached.counts;
       keeps = reached.keeps;
       unit = reached.unit;
+      traced = traced_left s (enter s) new (left new.tags) refl refl refl
+          (ap (λ its. its.declarations)
+          (left_entered (IsTagAt (suc s.tags.level)) s.tags new.tags (λ it holds. holds) reached.tags scoped.tags)) reached.traced;
     }
 
 pub left_scoped : (s new : Typer) → IsScoped s → Reaches Anything (enter s) new → IsScoped (leave new)

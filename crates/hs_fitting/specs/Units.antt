@@ -26,6 +26,7 @@ use Rattle.hs_tokens.specs.declared.place.Place.{Place}
 use Rattle.hs_tree.specs.Fitting.{FitsDefinition}
 use Rattle.hs_tree.specs.Trees.{TypedFunction}
 use Rattle.hs_typer.specs.declared.type_error.TypeError.{TypeError}
+use Rattle.hs_typer.specs.declared.typer.Typer.{Typer}
 use Rattle.hs_types.specs.TypeTables.{TypeTable, Grows, is_complete}
 
 -- ---- units
@@ -103,6 +104,15 @@ externals_fit [] done m scoped are fit = (passes_self m scoped are, fit)
 externals_fit (it ∷ rest) done m scoped are fit =
     next_fits done rest m (external (length done) it m) fit (external_fits (length done) it m scoped are)
     (λ its n scoped are fit. externals_fit rest its n scoped are fit)
+
+-- what typing knows when a unit ends
+abbrev ended_typer : Typer → Typer
+ended_typer s =
+    record s {
+      names = record { declarations = []; level = 0 };
+      tags = record { declarations = []; level = 0 };
+      origins = record s.origins { unit = suc s.origins.unit; times = [] };
+    }
 
 -- a unit ends
 ended_passes : (m new : Translator) → Passes m new → Passes m (record new {

@@ -8,8 +8,9 @@ use Rattle.hs_expressions.specs.Binding.Keeping.{IsNoted, noted_first, noted_sec
 use Rattle.hs_expressions.specs.Laws.{IsPrefix, IsScoped}
 use Rattle.hs_expressions.specs.Laws.Always.{Anything}
 use Rattle.hs_expressions.specs.Laws.Reached.{prefix_then}
-use Rattle.hs_fitting.specs.Claims.{Claims, AreFulfilled, AreObjects, IsMet, Stands, Proceeds}
+use Rattle.hs_fitting.specs.Claims.{Claims, IsFulfilled, AreFulfilled, AreObjects, IsMet, Stands, Proceeds}
 use Rattle.hs_fitting.specs.Declaring.{either_moved}
+use Rattle.hs_fitting.specs.Entities.{all_by_among}
 use Rattle.hs_fitting.specs.Moves.{Moves}
 use Rattle.hs_fitting.specs.Moving.{Moved, Moving, passes_moved, stops_moved, knowing_moved, unless_moved, then_moved}
 use Rattle.hs_fitting.specs.Tests.{some_none}
@@ -39,6 +40,8 @@ module _ (types : TypeTable) where
       record {
         functions = λ number id is. is;
         routines = λ number id is. is;
+        entities = λ it is. is;
+        base = refl;
         objects = λ place is same. same;
         met = λ it is. is;
         fresh = λ number id it claimed none at met. some_none (its.functions number) id claimed none;
@@ -62,6 +65,8 @@ module _ (types : TypeTable) where
       record {
         functions = λ number id is. after.functions number id (before.functions number id is);
         routines = λ number id is. after.routines number id (before.routines number id is);
+        entities = λ it is. after.entities it (before.entities it is);
+        base = after.base ∙ before.base;
         objects = λ place is at. after.objects place is (before.objects place is at);
         met = λ it is. after.met it (before.met it is);
         fresh = fresh_then its mid later m n same before after.fresh;
@@ -76,7 +81,7 @@ module _ (program : TypedProgram) (function : TypedFunction) where
         noted = noted_first program function program.types Anything m.typer n.typer p.typer moves.typer continues.noted;
         locals = prefix_then (types_of n.locals) (types_of p.locals) (types_of function.variables) (moves.locals.more, moves.locals.are) continues.locals;
         claims = record {
-          functions = λ number id is. continues.claims.functions number id (proceeds.functions number id is);
+          entities = all_by_among (IsFulfilled program) its.entities later.entities proceeds.entities continues.claims.entities;
           routines = λ number id is. continues.claims.routines number id (proceeds.routines number id is);
         };
         objects = λ place is at. continues.objects place is (proceeds.objects place is at);

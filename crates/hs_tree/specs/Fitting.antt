@@ -11,6 +11,7 @@ use Rattle.hs_table.specs.declared.routine.Routine.{Routine}
 use Rattle.hs_tree.specs.Classes.{is_taken_anywhere}
 use Rattle.hs_tree.specs.Kinds.{AreAlike, number_kind, pointed, element, array_length, is_number, is_void, is_readable, IsNumber, IsAnyNumber, IsPointer, IsPointerTo, IsStruct, IsScalar, IsReadable, IsPointerToSize}
 use Rattle.hs_tree.specs.Roles.{FitsRole}
+use Rattle.hs_tree.specs.Sameness.{AreOne}
 use Rattle.hs_tree.specs.Trees as tree
 use Rattle.hs_tree.specs.Trees.{RightValue, LeftValue, RightValues, Starting, TypedItem, TypedDeclaration, TypedStatement, TypedBlock, TypedStatements, TypedFunction, TypedProgram, type_of, type_of_left}
 use Rattle.hs_tree.specs.declared.function.BoundRoutine.{BoundRoutine}
@@ -21,6 +22,7 @@ use Rattle.hs_tree.specs.declared.head.Variable.TheVariants as name
 use Rattle.hs_tree.specs.declared.head.VariableDecl.{VariableDecl}
 use Rattle.hs_tree.specs.declared.operators.Arithmetic.{Arithmetic}
 use Rattle.hs_tree.specs.declared.operators.Arithmetic.TheVariants as operator
+use Rattle.hs_tree.specs.declared.representatives.Representatives.{Representatives}
 use Rattle.hs_tree.specs.declared.statement.Label.{Label}
 use Rattle.hs_types.specs.Integers.{promoted}
 use Rattle.hs_types.specs.Rows.{integer_id}
@@ -133,14 +135,14 @@ IsObjectOf types None id = ⊥
 IsObjectOf types (Some it) id = AreAlike types it.variable.type_id id
 
 -- An automatic variable that is there, of that type. In its own initialiser an array may still be of unknown length (3.5.7).
-abbrev pub IsVariableOf : TypeTable → Option VariableDecl → TypeId → Type 0
-IsVariableOf types None id = ⊥
-IsVariableOf types (Some it) id = AreAlike types it.type_id id × (is_complete types id ≡ true → it.type_id ≡ id)
+abbrev pub IsVariableOf : Representatives → TypeTable → Option VariableDecl → TypeId → Type 0
+IsVariableOf same types None id = ⊥
+IsVariableOf same types (Some it) id = AreOne same types it.type_id id × (is_complete types id ≡ true → it.type_id ≡ id)
 
 -- The type that a name has where it stands: that of the variable, or one like that of the object, which may have other declarations.
 abbrev pub IsOfType : TypedProgram → TypedFunction → Variable → TypeId → Type 0
 IsOfType program function (name.Global place) id = IsObjectOf program.types (slice_get program.globals place) id
-IsOfType program function (name.Local place) id = IsVariableOf program.types (slice_get function.variables place) id
+IsOfType program function (name.Local place) id = IsVariableOf program.same program.types (slice_get function.variables place) id
 
 -- how many bytes a literal has
 abbrev pub size_of_bytes : Option (List ℕ) → Option ℕ
@@ -202,12 +204,12 @@ NamesField types (left (tree.member head field offset object)) = IsField types f
 NamesField types (left (tree.arrow head field offset pointer)) = IsField types field offset head.type_id
 NamesField types _ = Unit {0}
 
--- as many arguments as parameters, each of a type like its
-abbrev pub FitParameters : TypeTable → List TypeId → RightValues → Type 0
-FitParameters types [] tree.no_values = Unit {0}
-FitParameters types [] (tree.more_values e rest) = ⊥
-FitParameters types (id ∷ ids) tree.no_values = ⊥
-FitParameters types (id ∷ ids) (tree.more_values e rest) = AreAlike types (type_of e) id × FitParameters types ids rest
+-- as many arguments as parameters, each of a type that is `alike` to its
+abbrev pub FitParameters : (TypeId → TypeId → Type 0) → List TypeId → RightValues → Type 0
+FitParameters alike [] tree.no_values = Unit {0}
+FitParameters alike [] (tree.more_values e rest) = ⊥
+FitParameters alike (id ∷ ids) tree.no_values = ⊥
+FitParameters alike (id ∷ ids) (tree.more_values e rest) = alike (type_of e) id × FitParameters alike ids rest
 
 -- the types of variables
 abbrev pub types_of : List VariableDecl → List TypeId
@@ -215,25 +217,26 @@ types_of [] = []
 types_of (variable ∷ variables) = variable.type_id ∷ types_of variables
 
 -- a call with these arguments and of that type fits the parameters and the result
-abbrev pub FitsSignature : TypeTable → List TypeId → TypeId → RightValues → TypeId → Type 0
-FitsSignature types parameters result arguments id = FitParameters types parameters arguments × AreAlike types id result
+abbrev pub FitsSignature : (TypeId → TypeId → Type 0) → List TypeId → TypeId → RightValues → TypeId → Type 0
+FitsSignature alike parameters result arguments id = FitParameters alike parameters arguments × alike id result
 
 -- Each call of a function has its parameters and its result.
-abbrev pub FitsCalled : TypeTable → Option TypedFunction → RightValues → TypeId → Type 0
-FitsCalled types None arguments id = ⊥
-FitsCalled types (Some called) arguments id =
-    FitsSignature types (types_of (take called.parameters called.variables)) called.result arguments id
+abbrev pub FitsCalled : Representatives → TypeTable → Option TypedFunction → RightValues → TypeId → Type 0
+FitsCalled same types None arguments id = ⊥
+FitsCalled same types (Some called) arguments id =
+    FitsSignature (AreOne same types) (types_of (take called.parameters called.variables)) called.result arguments id
 
 -- the called function, by its number
 abbrev pub FitsFunction : TypedProgram → Node → Type 0
 FitsFunction program (right (tree.call head number routine arguments)) =
-    FitsCalled program.types (slice_get program.functions number) arguments head.type_id
+    FitsCalled program.same program.types (slice_get program.functions number) arguments head.type_id
 FitsFunction program _ = Unit {0}
 
 -- Each call of a routine has the parameters and the result of its declaration.
-abbrev pub FitsPrototype : TypeTable → Option Prototype → RightValues → TypeId → Type 0
-FitsPrototype types None arguments id = ⊥
-FitsPrototype types (Some prototype) arguments id = FitsSignature types prototype.parameters prototype.result arguments id
+abbrev pub FitsPrototype : Representatives → TypeTable → Option Prototype → RightValues → TypeId → Type 0
+FitsPrototype same types None arguments id = ⊥
+FitsPrototype same types (Some prototype) arguments id =
+    FitsSignature (AreOne same types) prototype.parameters prototype.result arguments id
 
 -- how a routine is declared, if it is called
 abbrev pub prototype_in : Option BoundRoutine → Option Prototype
@@ -243,7 +246,7 @@ prototype_in (Some it) = it.prototype
 -- the called routine, by its number
 abbrev pub FitsRoutine : TypedProgram → Node → Type 0
 FitsRoutine program (right (tree.call_routine head number arguments)) =
-    FitsPrototype program.types (prototype_in (slice_get program.routines number)) arguments head.type_id
+    FitsPrototype program.same program.types (prototype_in (slice_get program.routines number)) arguments head.type_id
 FitsRoutine program _ = Unit {0}
 
 -- The declaration of a routine fits its role.

@@ -6,6 +6,7 @@ pub mod Objects
 pub mod Representatives
 pub mod Roles
 pub mod RowLaws
+pub mod Sameness
 pub mod Straight
 pub mod Trees
 pub mod Views

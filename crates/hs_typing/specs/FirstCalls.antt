@@ -1,13 +1,13 @@
 -- The types with which routines are called first.
 --     first_count, none_count         as many as there are routines
 --     HasFirst, first_known           each call has a first one
---     IsCalled, AreCalled             a type with which a routine is called: of the shape that was claimed, and one that fits its role
+--     IsCalled, AreCalled             a type with which a routine is called: one that was claimed, and that fits its role
 --     first_called                    the first ones are such types
 use Rattle.std.proofs.Common.{◌≡◌, ◌<◌, ◌⊎◌, inl, inr, ℕ, zero, suc, true, List, [], ◌∷◌, length, slice_get, Option, Some, None, refl, sym, ap, subst, ◌∙◌, arith}
 use Rattle.std.specs.List.{AllByRecursion}
 use Rattle.std.specs.Prelude.{slice_set}
 use Rattle.hs_expressions.specs.Roles.{fits_role}
-use Rattle.hs_fitting.specs.Claims.{Claims, IsClaimed, IsCallClaimed}
+use Rattle.hs_fitting.specs.Claims.{Claims, IsOfClaim, IsCallClaimed}
 use Rattle.hs_table.specs.declared.routine.Routine.{Routine}
 use Rattle.hs_typer.specs.declared.typer.RoutineCall.{RoutineCall}
 use Rattle.hs_types.specs.TypeTables.{TypeTable}
@@ -116,7 +116,7 @@ first_known done (it ∷ rest) within =
 module _ (types : TypeTable) (its : Claims) (table : List Routine) where
   -- a type with which a routine is called
   abbrev pub IsCalled : ℕ → TypeId → Type 0
-  IsCalled number id = IsClaimed types (its.routines number) id × (fits_role types table number id ≡ true)
+  IsCalled number id = IsOfClaim types its number id × (fits_role types table number id ≡ true)
 
   -- all that are known
   abbrev pub AreCalled : List (Option TypeId) → Type 0

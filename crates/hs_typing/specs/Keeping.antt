@@ -11,8 +11,9 @@ use Rattle.hs_expressions.specs.Binding.Keeping.{IsBound}
 use Rattle.hs_expressions.specs.Laws.Reached.{all_so}
 use Rattle.hs_fitting.specs.Bodies.{first_same, rest_same}
 use Rattle.hs_fitting.specs.Claims.{no_claims, Endures}
+use Rattle.hs_fitting.specs.Exact.{AreJoined}
 use Rattle.hs_fitting.specs.Found.{place_found}
-use Rattle.hs_fitting.specs.Fulfilling.{stands_at_end, claims_fulfilled, claims_signed}
+use Rattle.hs_fitting.specs.Fulfilling.{stands_at_end, routines_one, claims_fulfilled, claims_signed}
 use Rattle.hs_fitting.specs.Functions.{functions_stand}
 use Rattle.hs_fitting.specs.Names.{names_of, defined_names, functions_are_named}
 use Rattle.hs_fitting.specs.Phrases.{IsRightPhrase}
@@ -40,6 +41,7 @@ use Rattle.hs_types.specs.TypeTables.{TypeTable, IsRight, Grows}
 use Rattle.hs_typing.specs.Ends.{passes}
 use Rattle.hs_typing.specs.Finishing.{program_at_end, finished_types}
 use Rattle.hs_typing.specs.Globals.{all_globals}
+use Rattle.hs_typing.specs.Joined.{joined_at_end}
 use Rattle.hs_typing.specs.Programs.{main_number, may_be_main, parts_of, assembled, usable_main, with_main, ended, typed}
 use Rattle.hs_typing.specs.Prototypes.{routines_count, all_roles, lasting}
 use Rattle.hs_typing.specs.declared.program.ProgramError.{ProgramError}
@@ -125,11 +127,16 @@ module _ (table : List Routine) (units : List (List ExternalDeclaration)) (all :
   came : Came at_end units units no_claims (before_units table (all_definitions 0 units)) [] all m
   came = coming at_end sound main_there.0 grows
 
+  -- one struct stands for two of one brace
+  joined : AreJoined at_end m
+  joined = joined_at_end m all number came.claims.base (stands_at_end at_end units came.claims m all came.between grows).traced
+
   endures : Endures at_end came.claims m
   endures =
       lasting m all number came.claims (stands_at_end at_end units came.claims m all came.between grows).calls
       (claims_signed at_end units came.claims m all came.between grows)
-      (claims_fulfilled at_end units came.claims m all came.between grows (length m.typer.table) refl refl (routines_count m all number))
+      (routines_one at_end units came.claims m all came.between grows joined)
+      (claims_fulfilled at_end units came.claims m all came.between grows joined (length m.typer.table) refl refl (routines_count m all number))
 
   rights : AllByRecursion (IsRightFunction at_end) all
   rights = came.gives endures tt

@@ -1,27 +1,32 @@
--- The routines of a program at the end of all units: each that is called is declared as at its first call, and all its calls have types of
--- that shape.
+-- The routines of a program at the end of all units: each that is called is declared as at its first call, and all its calls have types that are
+-- one with that.
 --     listed_is                       the types of a list of parameters, as the definition reads them
 --     prototype_is                    the prototype of a function type
 --     paired, bound_paired            the routines, each with its prototype
 --     AreSigned types its             what is claimed for routines are function types with fewer parameters than there are lists
+--     AreExact same types its table   two types that declarations gave one routine are one
 --     routines_count, all_noted_calls, all_roles      the laws
 --     lasting                         what was noted in all units is the program's
 use Rattle.std.proofs.Common.{◌≡◌, ◌≤◌, ◌<◌, ℕ, zero, suc, true, List, [], ◌∷◌, ◌++◌, length, slice_get, Option, Some, None, refl, sym, ap, subst, ◌∙◌, arith}
 use Rattle.std.proofs.lemmas.List.{append_assoc, append-nil}
 use Rattle.std.proofs.lemmas.Option.{slice_get_within}
 use Rattle.std.specs.List.{AllByRecursion}
-use Rattle.hs_expressions.specs.Binding.{IsList, IsSignature, AllAlike, IsLike, IsPrototype, IsNotedCall}
+use Rattle.hs_expressions.specs.Binding.{IsList, IsSignature, AllAlike, IsLike, IsLikeBy, IsPrototype, IsNotedCall}
 use Rattle.hs_expressions.specs.Laws.Reached.{all_so, prefix_self}
 use Rattle.hs_expressions.specs.Roles.{fits_routine}
 use Rattle.hs_fitting.specs.Claims.{Claims, IsClaimed, AreFulfilled, Endures, IsCallClaimed}
+use Rattle.hs_fitting.specs.Entities.{IsAmong}
 use Rattle.hs_fitting.specs.Roles.{role_fits}
-use Rattle.hs_fitting.specs.Shapes.{SameShape, shape_turned, shape_then}
 use Rattle.hs_linkage.specs.declared.translator.Translator.{Translator}
+use Rattle.hs_operands.specs.declared.operand.Bound.TheVariants as bound
 use Rattle.hs_table.specs.declared.routine.Routine.{Routine}
 use Rattle.hs_tree.specs.Fitting.{prototype_in, HasRole, HasRoleAs}
+use Rattle.hs_tree.specs.Sameness.{AreOne}
 use Rattle.hs_tree.specs.Trees.{TypedFunction}
 use Rattle.hs_tree.specs.declared.function.BoundRoutine.{BoundRoutine}
 use Rattle.hs_tree.specs.declared.function.Prototype.{Prototype}
+use Rattle.hs_tree.specs.declared.representatives.Representatives.{Representatives}
+use Rattle.hs_typer.specs.declared.typer.Entity.TheVariants as entity
 use Rattle.hs_typer.specs.declared.typer.RoutineCall.{RoutineCall}
 use Rattle.hs_types.specs.TypeTables.{TypeTable}
 use Rattle.hs_types.specs.declared.row.ListId.{ListId}
@@ -143,6 +148,13 @@ AreSigned types its =
     (number : ℕ) (id : TypeId) → its.routines number ≡ Some id
     → (parameters : List TypeId) × ((result : TypeId) × IsSignature types id parameters result × (length parameters < length types.lists))
 
+-- Two types that declarations gave one routine are one, by their results and parameters.
+abbrev pub AreExact : Representatives → TypeTable → Claims → List Routine → Type 0
+AreExact same types its table =
+    (number : ℕ) (one : Routine) → slice_get table number ≡ Some one → (id other : TypeId)
+    → IsAmong (entity.Function id (bound.Routine number)) its.entities → IsAmong (entity.Function other (bound.Routine number)) its.entities
+    → (ids : List TypeId) (gives : TypeId) → IsSignature types other ids gives → IsLikeBy (AreOne same types) types id ids gives
+
 -- as few
 as_few : (count count' limit : ℕ) → count ≡ count' → count' < limit → count < limit
 as_few count count' limit same few = omega (arith, same, few)
@@ -172,11 +184,6 @@ module _ (types : TypeTable) (its : Claims) (table : List Routine) (calls : List
   ids_called =
       first_called types its table (no_types table) calls (λ number id known. absurd (none_called types its table table number id known)) claimed
 
-  -- two types of what is claimed are of one shape
-  one_shape : (first : Option TypeId) (one other : TypeId) → IsClaimed types first one → IsClaimed types first other → SameShape types one other
-  one_shape None one other is is' = absurd is
-  one_shape (Some first) one other is is' = shape_then types one first other (shape_turned types first one is) is'
-
   -- the signature of a type, which is its prototype
   abbrev HasPrototype : TypeId → Type 0
   HasPrototype id =
@@ -198,25 +205,6 @@ module _ (types : TypeTable) (its : Claims) (table : List Routine) (calls : List
             (as_few (length like.0) (length of_first.0) (length types.lists) (alike_count types like.0 of_first.0 like.1.2) of_first.1.2),
       )
 
-  -- a call and its first one
-  call_noted : (it : RoutineCall) → IsCallClaimed types its table it → HasFirst ids it
-      → IsPrototype types types it.type_id (prototype_in (slice_get routines it.routine))
-  call_noted it is first =
-      let there : (routine : Routine) × (slice_get table it.routine ≡ Some routine)
-      = routine_there types it.type_id (slice_get table it.routine) is.1 in
-      let of_first : IsClaimed types (its.routines it.routine) first.0 = (ids_called it.routine first.0 first.1).0 in
-      let shape : SameShape types first.0 it.type_id = one_shape (its.routines it.routine) first.0 it.type_id of_first is.0 in
-      let given : HasPrototype first.0 = claimed_prototype it.routine first.0 (its.routines it.routine) refl of_first in
-      subst (IsPrototype types types it.type_id)
-      (sym (ap prototype_in (paired_at types table ids it.routine there.0 (Some first.0) there.1 first.1) ∙ given.3))
-      (shape.there given.0 given.1 given.2)
-
-  -- some of the calls
-  calls_noted : (some : List RoutineCall) → AllByRecursion (IsCallClaimed types its table) some → AllByRecursion (HasFirst ids) some
-      → AllByRecursion (λ it. IsPrototype types types it.type_id (prototype_in (slice_get routines it.routine))) some
-  calls_noted [] are first = tt
-  calls_noted (it ∷ rest) are first = (call_noted it are.0 first.0, calls_noted rest are.1 first.1)
-
   -- the routine of a call is one of the table
   call_within : (it : RoutineCall) → IsCallClaimed types its table it → it.routine < length (no_types table)
   call_within it is =
@@ -224,12 +212,34 @@ module _ (types : TypeTable) (its : Claims) (table : List Routine) (calls : List
       = routine_there types it.type_id (slice_get table it.routine) is.1 in
       subst (λ count. it.routine < count) (sym (none_count table)) (slice_get_within table it.routine there.0 there.1)
 
-  -- Each call fits the prototype of its routine.
-  pub routines_noted : AllByRecursion (λ it. IsPrototype types types it.type_id (prototype_in (slice_get routines it.routine))) calls
-  routines_noted =
-      calls_noted calls claimed
-      (first_known (no_types table) calls
-      (all_so (IsCallClaimed types its table) (λ it. it.routine < length (no_types table)) call_within calls claimed))
+  module _ (same : Representatives) (exact : AreExact same types its table) where
+    -- a call fits the prototype of its routine
+    abbrev IsNotedIn : RoutineCall → Type 0
+    IsNotedIn it = IsPrototype (AreOne same types) types it.type_id (prototype_in (slice_get routines it.routine))
+
+    -- a call and its first one
+    call_noted : (it : RoutineCall) → IsCallClaimed types its table it → HasFirst ids it → IsNotedIn it
+    call_noted it is first =
+        let there : (routine : Routine) × (slice_get table it.routine ≡ Some routine)
+        = routine_there types it.type_id (slice_get table it.routine) is.1 in
+        let called : IsCalled types its table it.routine first.0 = ids_called it.routine first.0 first.1 in
+        let given : HasPrototype first.0 = claimed_prototype it.routine first.0 (its.routines it.routine) refl called.0.0 in
+        subst (IsPrototype (AreOne same types) types it.type_id)
+        (sym (ap prototype_in (paired_at types table ids it.routine there.0 (Some first.0) there.1 first.1) ∙ given.3))
+        (exact it.routine there.0 there.1 it.type_id first.0 is.0.1 called.0.1 given.0 given.1 given.2)
+
+    -- some of the calls
+    calls_noted : (some : List RoutineCall) → AllByRecursion (IsCallClaimed types its table) some → AllByRecursion (HasFirst ids) some
+        → AllByRecursion IsNotedIn some
+    calls_noted [] are first = tt
+    calls_noted (it ∷ rest) are first = (call_noted it are.0 first.0, calls_noted rest are.1 first.1)
+
+    -- Each call fits the prototype of its routine.
+    pub routines_noted : AllByRecursion IsNotedIn calls
+    routines_noted =
+        calls_noted calls claimed
+        (first_known (no_types table) calls
+        (all_so (IsCallClaimed types its table) (λ it. it.routine < length (no_types table)) call_within calls claimed))
 
   -- a routine that is called or is not
   role_as : (number : ℕ) (routine : Routine) (id : Option TypeId) → slice_get table number ≡ Some routine → slice_get ids number ≡ Some id
@@ -237,7 +247,7 @@ module _ (types : TypeTable) (its : Claims) (table : List Routine) (calls : List
   role_as number routine None there known = tt
   role_as number routine (Some id) there known =
       let called : IsCalled types its table number id = ids_called number id known in
-      let given : HasPrototype id = claimed_prototype number id (its.routines number) refl called.0 in
+      let given : HasPrototype id = claimed_prototype number id (its.routines number) refl called.0.0 in
       subst (HasRoleAs types routine) (sym given.3) (role_fits types table number routine id given.0 given.1 there given.2 called.1)
 
   -- the one of a number
@@ -270,10 +280,12 @@ module _ (m : Translator) (functions : List TypedFunction) (main : ℕ) where
 
   module _ (its : Claims) (claimed : AllByRecursion (IsCallClaimed final its m.typer.table) m.typer.calls) (signed : AreSigned final its) where
     -- Each call that was noted is one of the program's.
-    pub all_noted_calls : AllByRecursion (IsNotedCall (program_at_end m functions main) (program_at_end m functions main).types) m.typer.calls
-    all_noted_calls =
-        subst (λ all. AllByRecursion (λ it. IsPrototype final final it.type_id (prototype_in (slice_get all it.routine))) m.typer.calls)
-        (sym routines_are) (routines_noted final its m.typer.table m.typer.calls claimed signed)
+    pub all_noted_calls : AreExact (program_at_end m functions main).same final its m.typer.table
+        → AllByRecursion (IsNotedCall (program_at_end m functions main) (program_at_end m functions main).types) m.typer.calls
+    all_noted_calls exact =
+        subst (λ all. AllByRecursion (λ it. IsPrototype (AreOne (program_at_end m functions main).same final) final it.type_id
+        (prototype_in (slice_get all it.routine))) m.typer.calls)
+        (sym routines_are) (routines_noted final its m.typer.table m.typer.calls claimed signed (program_at_end m functions main).same exact)
 
     -- Each declaration of a routine fits its role.
     pub all_roles : AllByRecursion (HasRole (program_at_end m functions main).types) (program_at_end m functions main).routines
@@ -281,12 +293,13 @@ module _ (m : Translator) (functions : List TypedFunction) (main : ℕ) where
         subst (AllByRecursion (HasRole final)) (sym routines_are) (routines_fit final its m.typer.table m.typer.calls claimed signed)
 
     -- What was noted in all units is the program's.
-    pub lasting : AreFulfilled (program_at_end m functions main) its → Endures (program_at_end m functions main) its m
-    lasting fulfilled =
+    pub lasting : AreExact (program_at_end m functions main).same final its m.typer.table → AreFulfilled (program_at_end m functions main) its
+        → Endures (program_at_end m functions main) its m
+    lasting exact fulfilled =
         record {
           types = finished_types m functions main;
           literals = prefix_self m.typer.literals;
-          calls = all_noted_calls;
+          calls = all_noted_calls exact;
           taken = all_marked m functions main;
           claims = fulfilled;
           objects = finished_objects m functions main;

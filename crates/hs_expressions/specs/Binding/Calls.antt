@@ -4,8 +4,7 @@ use Rattle.std.specs.Prelude.{take, ◌||◌}
 use Rattle.std.specs.List.{AllByRecursion}
 use Rattle.std.proofs.lemmas.List.{append_assoc, append-nil}
 use Rattle.std.proofs.lemmas.Option.{slice_get_within}
-use Rattle.hs_tree.specs.Kinds.{AreAlike}
-use Rattle.hs_expressions.specs.Binding.{AllAlike, IsBoundNode, IsList, IsSignature, IsDefined, IsPrototype, BindsAs, IsNotedAddress}
+use Rattle.hs_expressions.specs.Binding.{AllBy, IsBoundNode, IsList, IsSignature, IsDefined, IsPrototype, BindsAs, IsNotedAddress}
 use Rattle.hs_expressions.specs.Binding.Keeping.{Giving, Keeps, IsBound, IsBoundIn, IsBoundObject, plain_bound, of_types_keeps, then_keeps, so_keeps}
 use Rattle.hs_expressions.specs.Laws.Always.{refuses_always}
 use Rattle.hs_expressions.specs.Laws.Leaves.{addressed_always, call_with_always}
@@ -34,6 +33,7 @@ use Rattle.hs_tree.specs.Fitting.{types_of, prototype_in, FitParameters, FitsSig
 use Rattle.hs_tree.specs.Inside.{right}
 use Rattle.hs_tree.specs.Kinds.{is_void, is_readable}
 use Rattle.hs_tree.specs.RowLaws.{rights_from}
+use Rattle.hs_tree.specs.Sameness.{AreOne}
 use Rattle.hs_tree.specs.Trees as tree
 use Rattle.hs_tree.specs.Trees.{RightValue, RightValues, LeftValue, TypedFunction, TypedProgram, type_of, type_of_left}
 use Rattle.hs_tree.specs.declared.function.Prototype.{Prototype}
@@ -103,20 +103,20 @@ abbrev HasSignature : List TypeId → TypeId → RightValues → TypeId → Type
 HasSignature parameters result arguments id = HasParameters parameters arguments × (id ≡ result)
 
 -- of types like those of other parameters
-pub like_parameters : (types : TypeTable) (ids others : List TypeId) (arguments : RightValues) → AllAlike types ids others → HasParameters ids arguments
-    → FitParameters types others arguments
-like_parameters types [] [] tree.no_values like fits = tt
-like_parameters types [] [] (tree.more_values e rest) like fits = absurd fits
-like_parameters types [] (other ∷ others) arguments like fits = absurd like
-like_parameters types (id ∷ ids) [] arguments like fits = absurd like
-like_parameters types (id ∷ ids) (other ∷ others) tree.no_values like fits = absurd fits
-like_parameters types (id ∷ ids) (other ∷ others) (tree.more_values e rest) like fits =
-    (subst (λ its. AreAlike types its other) (sym fits.0) like.0, like_parameters types ids others rest like.1 fits.1)
+pub like_parameters : (alike : TypeId → TypeId → Type 0) (ids others : List TypeId) (arguments : RightValues) → AllBy alike ids others
+    → HasParameters ids arguments → FitParameters alike others arguments
+like_parameters alike [] [] tree.no_values like fits = tt
+like_parameters alike [] [] (tree.more_values e rest) like fits = absurd fits
+like_parameters alike [] (other ∷ others) arguments like fits = absurd like
+like_parameters alike (id ∷ ids) [] arguments like fits = absurd like
+like_parameters alike (id ∷ ids) (other ∷ others) tree.no_values like fits = absurd fits
+like_parameters alike (id ∷ ids) (other ∷ others) (tree.more_values e rest) like fits =
+    (subst (λ its. alike its other) (sym fits.0) like.0, like_parameters alike ids others rest like.1 fits.1)
 
-like_fits : (types : TypeTable) (ids others : List TypeId) (gives result : TypeId) (arguments : RightValues) (id : TypeId) → AllAlike types ids others
-    → AreAlike types gives result → HasSignature ids gives arguments id → FitsSignature types others result arguments id
-like_fits types ids others gives result arguments id like alike has =
-    (like_parameters types ids others arguments like has.0, subst (λ its. AreAlike types its result) (sym has.1) alike)
+like_fits : (alike : TypeId → TypeId → Type 0) (ids others : List TypeId) (gives result : TypeId) (arguments : RightValues) (id : TypeId)
+    → AllBy alike ids others → alike gives result → HasSignature ids gives arguments id → FitsSignature alike others result arguments id
+like_fits alike ids others gives result arguments id like one has =
+    (like_parameters alike ids others arguments like has.0, subst (λ its. alike its result) (sym has.1) one)
 
 module _ (program : TypedProgram) (function : TypedFunction) (final : TypeTable) where
   abbrev pub AreBound : List RightValue → Type 0
@@ -222,22 +222,24 @@ module _ (program : TypedProgram) (function : TypedFunction) (final : TypeTable)
     called_given at id arguments (Err why) same p given are = absurd cc
 
   -- a function that is defined, and a routine that is declared
-  defined_call : (id : TypeId) (p : TypeId × List RightValue) (o : Option TypedFunction) → IsDefined program.types final id o → IsCalled id p
-      → FitsCalled program.types o (rights_from p.1) p.0
+  defined_call : (id : TypeId) (p : TypeId × List RightValue) (o : Option TypedFunction) → IsDefined program final id o → IsCalled id p
+      → FitsCalled program.same program.types o (rights_from p.1) p.0
   defined_call id p None is fits = absurd is
   defined_call id p (Some its) is fits =
-      like_fits program.types is.0 (types_of (take its.parameters its.variables)) is.1.0 its.result (rights_from p.1) p.0 is.1.2 is.1.3 (fits.1 is.0 is.1.0 is.1.1)
+      like_fits (AreOne program.same program.types) is.0 (types_of (take its.parameters its.variables)) is.1.0 its.result
+      (rights_from p.1) p.0 is.1.2 is.1.3 (fits.1 is.0 is.1.0 is.1.1)
 
-  defined_there : (id : TypeId) (number : ℕ) (o : Option TypedFunction) → slice_get program.functions number ≡ o → IsDefined program.types final id o
+  defined_there : (id : TypeId) (number : ℕ) (o : Option TypedFunction) → slice_get program.functions number ≡ o → IsDefined program final id o
       → number < length program.functions
   defined_there id number None same is = absurd is
   defined_there id number (Some its) same is = slice_get_within program.functions number its same
 
-  prototype_call : (id : TypeId) (p : TypeId × List RightValue) (o : Option Prototype) → IsPrototype program.types final id o → IsCalled id p
-      → FitsPrototype program.types o (rights_from p.1) p.0
+  prototype_call : (id : TypeId) (p : TypeId × List RightValue) (o : Option Prototype)
+      → IsPrototype (AreOne program.same program.types) final id o → IsCalled id p
+      → FitsPrototype program.same program.types o (rights_from p.1) p.0
   prototype_call id p None is fits = absurd is
   prototype_call id p (Some its) is fits =
-      like_fits program.types is.0 its.parameters is.1.0 its.result (rights_from p.1) p.0 is.1.2 is.1.3 (fits.1 is.0 is.1.0 is.1.1)
+      like_fits (AreOne program.same program.types) is.0 its.parameters is.1.0 its.result (rights_from p.1) p.0 is.1.2 is.1.3 (fits.1 is.0 is.1.0 is.1.1)
 
   -- the call is bound
   abbrev IsCall : TypeId → Bound → TypeId × List RightValue → TypedOperand → Type 0

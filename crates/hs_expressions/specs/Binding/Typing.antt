@@ -146,7 +146,7 @@ module _ (program : TypedProgram) (function : TypedFunction) (old new : TypeTabl
       → IsSignature new id parameters result
   signature_later id parameters result is = (is.0, grows.rows id.number (row.Function result is.0) is.1, list_later is.0 parameters is.2)
 
-  defined_later : (id : TypeId) (o : Option TypedFunction) → IsDefined program.types old id o → IsDefined program.types new id o
+  defined_later : (id : TypeId) (o : Option TypedFunction) → IsDefined program old id o → IsDefined program new id o
   defined_later id None is = absurd is
   defined_later id (Some its) is = (is.0, (is.1.0, signature_later id is.0 is.1.0 is.1.1, is.1.2, is.1.3))
 

@@ -3,12 +3,13 @@
 --     Always allowed step            from every place of the text
 --     gives_always, refuses_always, looks_always, of_types_always, on_types_always       one step
 --     then_always, value_always, unevaluated_always, prototype_always    steps of others
-use Rattle.std.proofs.Common.{◌≡◌, ◌≤◌, ℕ, suc, Bool, true, false, List, [], Result, Ok, Err, refl, sym, ◌∙◌, if◌then◌else◌, arith}
+use Rattle.std.proofs.Common.{◌≡◌, ◌≤◌, ℕ, suc, Bool, true, false, List, [], Result, Ok, Err, refl, sym, ap, ◌∙◌, if◌then◌else◌, arith}
 use Rattle.std.specs.List.{AllByRecursion}
 use Rattle.hs_expressions.specs.Expressions.{enter, ending, prototype}
 use Rattle.hs_expressions.specs.Laws.{HasMore, IsTagAt, IsScoped}
 use Rattle.hs_expressions.specs.Laws.Grown.{Growing, lifted_grows, loaded_grows}
 use Rattle.hs_expressions.specs.Laws.Reached.{IsAllowedAt, Reaches, all_so, left_entered, reaches_self, reaches_then, reaches_types, scoped_after, reaches_wider}
+use Rattle.hs_expressions.specs.Laws.Traced.{traced_left}
 use Rattle.hs_expressions.specs.Operations.{value_of}
 use Rattle.hs_typer.specs.Steps.{Step, then_with, ◌>>=◌, ◌>>◌, give, refuse, kept, with_types, look, of_types, on_types, lifted, restored, unevaluated}
 use Rattle.hs_typer.specs.declared.type_error.TypeError.{TypeError}
@@ -96,6 +97,7 @@ module _ (allowed : Entity → Type 0) where
         counts = refl;
         keeps = reached.keeps;
         unit = reached.unit;
+        traced = reached.traced;
       }
   restored_reaches s (Err why) reached = tt
 
@@ -117,6 +119,9 @@ module _ (allowed : Entity → Type 0) where
         counts = reached.counts;
         keeps = reached.keeps ∙ sym scoped.closed;
         unit = reached.unit;
+        traced = traced_left s (inside s) p.1 (left p.1.tags) refl refl refl
+            (ap (λ its. its.declarations)
+            (left_entered (IsTagAt (suc s.tags.level)) s.tags p.1.tags (λ it holds. holds) reached.tags scoped.tags)) reached.traced;
       }
   ending_reaches false s (Err why) ends scoped reached = tt
 

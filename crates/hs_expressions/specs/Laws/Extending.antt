@@ -6,13 +6,14 @@ use Rattle.hs_typer.specs.Declarators.{formed, length_of, pointers_of, word_of, 
 use Rattle.hs_expressions.specs.Expressions.{first_place, type_by, int_value_of, typed, typed_all, typed_lefts, type_named, specified, specifier, members_of, members_as, constants_of, derivations, derivations_of, parameter_types}
 use Rattle.hs_expressions.specs.Laws.{IsConstant, Extends, TypingExtends}
 use Rattle.hs_expressions.specs.Laws.Always.{Reaching, Always, Anything, gives_always, looks_always, of_types_always, on_types_always, then_always, and_always, either_always, value_always, unevaluated_always, prototype_always, wider_always}
+use Rattle.hs_expressions.specs.Laws.Bodies.{body_always}
 use Rattle.hs_expressions.specs.Laws.Grown.{formed_grows, member_grows}
-use Rattle.hs_expressions.specs.Laws.Leaves.{string_always, prefix_object_always, call_operand_always, struct_type_always, enumeration_type_always, tagged_struct_always, begun_struct_always, begun_enumeration_always, completed_struct_always, completed_enumeration_always, list_of_always, enumerator_always, parameter_always}
+use Rattle.hs_expressions.specs.Laws.Leaves.{string_always, prefix_object_always, call_operand_always, struct_type_always, enumeration_type_always, tagged_struct_always, begun_enumeration_always, completed_enumeration_always, list_of_always, enumerator_always, parameter_always}
 use Rattle.hs_expressions.specs.Laws.Reached.{Reaches}
 use Rattle.hs_expressions.specs.Operations.{as_value, as_object, binary_of, is_arrow, member_operand, takes_object, prefix_value, postfix_of, assignment_of}
 use Rattle.hs_typer.specs.Primaries.{named, number_of, character_of}
-use Rattle.hs_typer.specs.Specifiers.{no_specifiers, with_basic, with_type, with_storage, type_from, typedef_of, tagged_enumeration, with_member, int_of, next_bits, then_next}
-use Rattle.hs_typer.specs.Steps.{Step, mapped}
+use Rattle.hs_typer.specs.Specifiers.{no_specifiers, with_basic, with_type, with_storage, type_from, typedef_of, struct_type, tagged_enumeration, with_member, int_of, next_bits, then_next}
+use Rattle.hs_typer.specs.Steps.{Step, ◌>>=◌, give, mapped}
 use Rattle.hs_typer.specs.declared.declarators.Derivation.TheVariants as derivation
 use Rattle.hs_typer.specs.declared.specifiers.Specifiers.{Specifiers}
 use Rattle.hs_typer.specs.declared.typer.Typer.{Typer}
@@ -108,7 +109,7 @@ mutual
   specified_always stored first done (syntax.more_specifiers it rest) =
       then_always (specifier_always stored first done it) (λ next. specified_always stored first next rest)
 
-  specifier_always : (stored : Bool) (first : Place) (done : Specifiers) (it : Specified) → Always IsConstant (specifier stored first done it)
+  pub specifier_always : (stored : Bool) (first : Place) (done : Specifiers) (it : Specified) → Always IsConstant (specifier stored first done it)
   specifier_always stored first done (syntax.storage word at) = looks_always (λ s. with_storage stored word at done)
   specifier_always stored first done (syntax.dropped word at) = gives_always done
   specifier_always stored first done (syntax.basic word at) = gives_always (with_basic word done)
@@ -117,10 +118,8 @@ mutual
   specifier_always stored first done (syntax.struct_tag at word) =
       then_always (tagged_struct_always word) (λ number. then_always (struct_type_always number) (λ id. gives_always (with_type id done)))
   specifier_always stored first done (syntax.struct_body at word brace members) =
-      then_always (begun_struct_always word)
-      (λ number. then_always (members_of_always at [] members)
-      (λ its. and_always (completed_struct_always first word brace number its)
-      (then_always (struct_type_always number) (λ id. gives_always (with_type id done)))))
+      body_always first word brace (members_of at [] members) (λ number. struct_type number >>= (λ id. give (with_type id done)))
+      (members_of_always at [] members) (λ number. then_always (struct_type_always number) (λ id. gives_always (with_type id done)))
   specifier_always stored first done (syntax.enum_tag at word) =
       then_always (looks_always (λ s. tagged_enumeration word (find word.text s.tags)))
       (λ number. then_always (enumeration_type_always number) (λ id. gives_always (with_type id done)))
@@ -131,7 +130,7 @@ mutual
       (then_always (enumeration_type_always number) (λ id. gives_always (with_type id done)))))
 
   -- members
-  members_of_always : (at : Place) (done : List Member) (its : Members) → Always IsConstant (members_of at done its)
+  pub members_of_always : (at : Place) (done : List Member) (its : Members) → Always IsConstant (members_of at done its)
   members_of_always at done syntax.no_members = gives_always done
   members_of_always at done (syntax.more_members specification its rest) =
       then_always (type_always (first_place at specification) (specified_always false (first_place at specification) no_specifiers specification))
@@ -158,7 +157,7 @@ mutual
   derivations_always at (syntax.pointing pointers direct) =
       then_always (derivations_of_always at direct) (λ its. gives_always (its ++ pointers_of pointers))
 
-  derivations_of_always : (at : Place) (it : Directly) → Always IsConstant (derivations_of at it)
+  pub derivations_of_always : (at : Place) (it : Directly) → Always IsConstant (derivations_of at it)
   derivations_of_always at syntax.nothing = gives_always []
   derivations_of_always at (syntax.identifier word) = gives_always []
   derivations_of_always at (syntax.parens_of it) = derivations_always at it

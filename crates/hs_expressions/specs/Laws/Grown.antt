@@ -1,6 +1,7 @@
 -- The table of types grows with every type, list and body that is put into it.
---     Growing types given       the table that is given, if one is, has grown
-use Rattle.std.proofs.Common.{◌≡◌, ℕ, zero, suc, Bool, true, false, ◌&&◌, ◌||◌, List, [], ◌∷◌, ◌++◌, Option, Some, None, Result, Ok, Err, refl, ap, if◌then◌else◌}
+--     GrowsPlainly old new      the table has grown, and has the same structs
+--     Growing types given       so has the table that is given, if one is
+use Rattle.std.proofs.Common.{◌≡◌, ℕ, zero, suc, Bool, true, false, ◌&&◌, ◌||◌, List, [], ◌∷◌, ◌++◌, Option, Some, None, Result, Ok, Err, refl, ap, ◌∙◌, if◌then◌else◌}
 use Rattle.std.specs.Prelude.{slice_get, slice_set, is_some, not}
 use Rattle.std.specs.List.{list_any}
 use Rattle.hs_typer.specs.Declarators.{is_function_row, is_array_row, added, untyped_end, derived_of, derived_from, formed_onto, formed, parameter_row, parameter_of, parameter_type, with_first, listed_onto, listed}
@@ -146,9 +147,26 @@ abbrev pub GrowsTo : {E : Type 0} → TypeTable → Result TypeTable E → Type 
 GrowsTo types (Ok new) = Grows types new
 GrowsTo types (Err why) = Unit {0}
 
--- with an answer beside it
+-- it has grown, and has the same structs
+abbrev pub GrowsPlainly : TypeTable → TypeTable → Type 0
+GrowsPlainly old new = Grows old new × (new.structs ≡ old.structs)
+
+-- by nothing, by one change after another, by a type, and by a list of parameter types
+pub plain_self : (types : TypeTable) → GrowsPlainly types types
+plain_self types = (grows_self types, refl)
+
+pub plain_then : (first second third : TypeTable) → GrowsPlainly first second → GrowsPlainly second third → GrowsPlainly first third
+plain_then first second third before after = (grows_then first second third before.0 after.0, after.1 ∙ before.1)
+
+pub plain_row : (its : Row) (types : TypeTable) → GrowsPlainly types (with_row its types)
+plain_row its types = (grows_row its types, refl)
+
+pub plain_list : (list : Parameters) (types : TypeTable) → GrowsPlainly types (with_list list types)
+plain_list list types = (grows_list list types, refl)
+
+-- with an answer beside it, and the same structs
 abbrev pub Growing : {A E : Type 0} → TypeTable → Result (A × TypeTable) E → Type 0
-Growing types (Ok p) = Grows types p.1
+Growing types (Ok p) = GrowsPlainly types p.1
 Growing types (Err why) = Unit {0}
 
 -- both ways of a test
@@ -186,7 +204,7 @@ enumerated_grows number its types =
 
 -- an array
 result_grows : (types : TypeTable) (given : Result Row TypeEnd) → Growing types (with_result types given)
-result_grows types (Ok row) = grows_row row types
+result_grows types (Ok row) = plain_row row types
 result_grows types (Err why) = tt
 
 pub arrayed_grows : (of : TypeId) (count : ℕ) (types : TypeTable) → Growing types (arrayed of count types)
@@ -200,17 +218,17 @@ end_grows at types (Err why) grows = tt
 -- what a declarator derives
 derived_of_grows : (at : Place) (its : Derivation) (of : TypeId) (types : TypeTable) → Growing types (derived_of at its of types)
 derived_of_grows at derivation.Pointer of types =
-    tested (is_function_row (row_of types of)) types (Err (Untyped at)) (added (row.Pointer of) types) tt (grows_row (row.Pointer of) types)
+    tested (is_function_row (row_of types of)) types (Err (Untyped at)) (added (row.Pointer of) types) tt (plain_row (row.Pointer of) types)
 derived_of_grows at (derivation.Array count) of types = end_grows at types (arrayed of count types) (arrayed_grows of count types)
 derived_of_grows at derivation.OpenArray of types =
-    tested (is_some (layout_of types of)) types (added (row.OpenArray of) types) (Err (Untyped at)) (grows_row (row.OpenArray of) types) tt
+    tested (is_some (layout_of types of)) types (added (row.OpenArray of) types) (Err (Untyped at)) (plain_row (row.OpenArray of) types) tt
 derived_of_grows at (derivation.Function list) of types =
     tested (is_function_row (row_of types of) || is_array_row (row_of types of)) types (Err (Untyped at)) (added (row.Function of list) types) tt
-    (grows_row (row.Function of list) types)
+    (plain_row (row.Function of list) types)
 
 -- what grew from a table that grew
-further : {A E : Type 0} → (types new : TypeTable) (given : Result (A × TypeTable) E) → Grows types new → Growing new given → Growing types given
-further types new (Ok p) before after = grows_then types new p.1 before after
+further : {A E : Type 0} → (types new : TypeTable) (given : Result (A × TypeTable) E) → GrowsPlainly types new → Growing new given → Growing types given
+further types new (Ok p) before after = plain_then types new p.1 before after
 further types new (Err why) before after = tt
 
 derived_from_grows : (at : Place) (its : Derivation) (types : TypeTable) (given : Result (TypeId × TypeTable) TypeError) → Growing types given
@@ -225,18 +243,18 @@ formed_onto_grows at (its ∷ rest) types given grows =
     derived_from_grows at its types (formed_onto at rest given) (formed_onto_grows at rest types given grows)
 
 pub formed_grows : (at : Place) (its : List Derivation) (id : TypeId) (types : TypeTable) → Growing types (formed at its id types)
-formed_grows at its id types = formed_onto_grows at its types (Ok (id, types)) (grows_self types)
+formed_grows at its id types = formed_onto_grows at its types (Ok (id, types)) (plain_self types)
 
 -- the type of a parameter
 parameter_row_grows : (at : Place) (id : TypeId) (o : Option Row) (types : TypeTable) → Growing types (parameter_row at id o types)
 parameter_row_grows at id None types = tt
 parameter_row_grows at id (Some row.Void) types = tt
-parameter_row_grows at id (Some (row.Integer kind)) types = grows_self types
-parameter_row_grows at id (Some (row.Pointer of)) types = grows_self types
-parameter_row_grows at id (Some (row.Enumeration number)) types = grows_self types
-parameter_row_grows at id (Some (row.Struct number)) types = grows_self types
-parameter_row_grows at id (Some (row.Array of length layout)) types = grows_row (row.Pointer of) types
-parameter_row_grows at id (Some (row.OpenArray of)) types = grows_row (row.Pointer of) types
+parameter_row_grows at id (Some (row.Integer kind)) types = plain_self types
+parameter_row_grows at id (Some (row.Pointer of)) types = plain_self types
+parameter_row_grows at id (Some (row.Enumeration number)) types = plain_self types
+parameter_row_grows at id (Some (row.Struct number)) types = plain_self types
+parameter_row_grows at id (Some (row.Array of length layout)) types = plain_row (row.Pointer of) types
+parameter_row_grows at id (Some (row.OpenArray of)) types = plain_row (row.Pointer of) types
 parameter_row_grows at id (Some (row.Function result parameters)) types = tt
 
 parameter_of_grows : (at : Place) (types : TypeTable) (given : Result (TypeId × TypeTable) TypeError) → Growing types given
@@ -249,14 +267,14 @@ pub parameter_type_grows : (at : Place) (its : List Derivation) (id : TypeId) (t
 parameter_type_grows at its id types = parameter_of_grows at types (formed at its id types) (formed_grows at its id types)
 
 -- a list of parameters
-pub listed_grows : (ids : List TypeId) (types : TypeTable) → Grows types (listed ids types).1
-listed_grows ids types = onto ids (list_id_of Empty types, with_list Empty types) (grows_list Empty types)
+pub listed_grows : (ids : List TypeId) (types : TypeTable) → GrowsPlainly types (listed ids types).1
+listed_grows ids types = onto ids (list_id_of Empty types, with_list Empty types) (plain_list Empty types)
   where
-    onto : (ids : List TypeId) (p : ListId × TypeTable) → Grows types p.1 → Grows types (listed_onto ids p).1
+    onto : (ids : List TypeId) (p : ListId × TypeTable) → GrowsPlainly types p.1 → GrowsPlainly types (listed_onto ids p).1
     onto [] p grows = grows
     onto (id ∷ ids) p grows =
-        grows_then types (listed_onto ids p).1 (with_first id (listed_onto ids p)).1 (onto ids p grows)
-        (grows_list (More id (listed_onto ids p).0) (listed_onto ids p).1)
+        plain_then types (listed_onto ids p).1 (with_first id (listed_onto ids p)).1 (onto ids p grows)
+        (plain_list (More id (listed_onto ids p).0) (listed_onto ids p).1)
 
 -- a member
 member_of_grows : (done : List Member) (word : Word) (types : TypeTable) (given : Result (TypeId × TypeTable) TypeError) → Growing types given
@@ -278,12 +296,12 @@ lifted_grows types (Ok p) grows = grows
 lifted_grows types (Err why) grows = tt
 
 loaded_as_grows : (types : TypeTable) (it : LeftValue) (o : Option TypeId) → Growing types (loaded_as types it o)
-loaded_as_grows types it (Some of) = grows_row (row.Pointer of) types
+loaded_as_grows types it (Some of) = plain_row (row.Pointer of) types
 loaded_as_grows types it None =
     tested (is_readable types (type_of_left it)) types (Ok (tree.load (head_of_left it) it, types))
-    (Err (operand_end.Untyped (head_of_left it).at)) (grows_self types) tt
+    (Err (operand_end.Untyped (head_of_left it).at)) (plain_self types) tt
 
 pub loaded_grows : (types : TypeTable) (it : TypedOperand) → Growing types (loaded types it)
-loaded_grows types (operand.value e) = grows_self types
+loaded_grows types (operand.value e) = plain_self types
 loaded_grows types (operand.object it) = loaded_as_grows types it (element types (type_of_left it))
 loaded_grows types (operand.function it) = tt

@@ -93,7 +93,7 @@ module _ (program : TypedProgram) (function : TypedFunction) where
   loaded_gives sound s it (Ok p) same =
       λ grows more is.
       (operators_typed program function s.types sound
-      (grows_then s.types p.1 program.types (subst (Growing s.types) same (loaded_grows s.types it)) grows)).loaded
+      (grows_then s.types p.1 program.types (subst (Growing s.types) same (loaded_grows s.types it)).0 grows)).loaded
       it p.0 p.1 is same grows
   loaded_gives sound s it (Err why) same = tt
 

@@ -5,13 +5,16 @@ use Rattle.hs_typer.specs.Declarators.{parameter_type, listed, word_of, place_of
 use Rattle.hs_typer.specs.Declaring.{list_of, declare_parameter, parameter}
 use Rattle.hs_expressions.specs.Laws.{IsConstant, IsTagAt}
 use Rattle.hs_expressions.specs.Laws.Always.{Reaching, Always, Anything, gives_always, refuses_always, of_types_always, on_types_always, then_always, and_always}
-use Rattle.hs_expressions.specs.Laws.Grown.{Growing, GrowsTo, grows_row, grows_struct, grows_enumeration, arrayed_grows, completed_grows, enumerated_grows, listed_grows, parameter_type_grows}
-use Rattle.hs_expressions.specs.Laws.Reached.{IsAllowedAt, prefix_self, prefix_if, more_self, more_one, reaches_self, reaches_types, reaches_named, reaches_noted, reaches_origins}
+use Rattle.hs_expressions.specs.Laws.Grown.{Growing, GrowsTo, plain_self, plain_row, grows_struct, grows_enumeration, arrayed_grows, enumerated_grows, listed_grows, parameter_type_grows}
+use Rattle.hs_expressions.specs.Laws.Braces.{firsts_traced, enumeration_first, enumeration_later}
+use Rattle.hs_expressions.specs.Laws.Origins.{traced_struct}
+use Rattle.hs_expressions.specs.Laws.Reached.{IsAllowedAt, prefix_self, prefix_if, more_self, more_one, reaches_self, reaches_types, reaches_named, reaches_names, reaches_noted, reaches_further}
+use Rattle.hs_expressions.specs.Laws.Traced.{traced_tags}
 use Rattle.hs_expressions.specs.Operations.{taken_by, address_as, addressed, prefix_object, stepped, bound_call, call_with, call_operand}
 use Rattle.hs_typer.specs.Origins.{with_struct_origin, with_enumeration_origin, brace_of, kept_for, times_at, first_at, first_name, is_plain, joined, met, closed, tags_agree}
 use Rattle.hs_typer.specs.Primaries.{string_bytes, string_in, string_as, string_of}
 use Rattle.hs_expressions.specs.Roles.{fits_role}
-use Rattle.hs_typer.specs.Specifiers.{struct_type, enumeration_type, new_struct, new_tagged_struct, tagged_struct_as, tagged_struct, begun_struct_as, begun_struct, new_enumeration, new_tagged_enumeration, begun_enumeration_as, begun_enumeration, with_body_in, struct_with_body, completed_struct, enumeration_with_body, completed_enumeration, enumerator}
+use Rattle.hs_typer.specs.Specifiers.{struct_type, enumeration_type, new_struct, new_tagged_struct, tagged_struct_as, tagged_struct, begun_struct_as, begun_struct, new_enumeration, new_tagged_enumeration, begun_enumeration_as, begun_enumeration, with_body_in, enumeration_with_body, completed_enumeration, enumerator}
 use Rattle.hs_typer.specs.Steps.{lifted}
 use Rattle.hs_typer.specs.declared.declarators.Derivation.{Derivation}
 use Rattle.hs_typer.specs.declared.origins.Brace.{Brace}
@@ -42,18 +45,30 @@ use Rattle.hs_tree.specs.declared.head.Variable.TheVariants as variable
 use Rattle.hs_tree.specs.declared.operators.Arithmetic.TheVariants as arithmetic
 use Rattle.hs_types.specs.Growing.{grows_self}
 use Rattle.hs_types.specs.Rows.{integer_id}
-use Rattle.hs_types.specs.TypeTables.{TypeTable, with_row, arrayed, awaits_body, completed, enumerated, with_struct, with_enumeration}
+use Rattle.hs_types.specs.TypeTables.{TypeTable, with_row, arrayed, awaits_body, enumerated, with_struct, with_enumeration, with_constants}
 use Rattle.hs_types.specs.declared.body.Enumerator.{Enumerator}
-use Rattle.hs_types.specs.declared.body.Member.{Member}
 use Rattle.hs_types.specs.declared.integer.Integer.TheVariants as kind
 use Rattle.hs_types.specs.declared.row.Row.TheVariants as row
 use Rattle.hs_types.specs.declared.row.TypeId.{TypeId}
 use Rattle.hs_types.specs.declared.types.TypeEnd.{TypeEnd}
+use Rattle.hs_types.specs.declared.types.TypeEnd.TheVariants as end
 
 -- a body begins in the unit where it stands
-met_unit : (at : Place) (it : Tag) (brace : Brace) (o : Origins) → (met at it brace o).unit ≡ o.unit
+pub met_unit : (at : Place) (it : Tag) (brace : Brace) (o : Origins) → (met at it brace o).unit ≡ o.unit
 met_unit at (tag.Struct number) brace o = refl
 met_unit at (tag.Enumeration number) brace o = refl
+
+-- the structs are those that there were
+abbrev HasStructs : {E : Type 0} → TypeTable → Result TypeTable E → Type 0
+HasStructs types (Ok new) = new.structs ≡ types.structs
+HasStructs types (Err why) = Unit {0}
+
+enumerated_structs : (number : ℕ) (its : List Enumerator) (types : TypeTable) → HasStructs types (enumerated number its types)
+enumerated_structs number its types = by_test (awaits_body (slice_get types.enumerations number))
+  where
+    by_test : (b : Bool) → HasStructs {E = TypeEnd} types (if b then Ok (with_constants number its types) else Err end.Redefined)
+    by_test true = refl
+    by_test false = tt
 
 module _ (allowed : Entity → Type 0) where
   -- an answer under a test
@@ -79,7 +94,7 @@ module _ (allowed : Entity → Type 0) where
   address_reaches : (s : Typer) (at : Place) (given : Result LeftValue TypeError) → Reaching allowed s (address_as at given s)
   address_reaches s at (Ok it) =
       reaches_noted allowed s (with_row (row.Pointer (type_of_left it)) s.types) s.literals
-      (if s.counts then s.taken ++ taken_by it else s.taken) s.calls (grows_row (row.Pointer (type_of_left it)) s.types)
+      (if s.counts then s.taken ++ taken_by it else s.taken) s.calls (plain_row (row.Pointer (type_of_left it)) s.types)
       (prefix_self s.literals) (prefix_if s.counts s.taken (taken_by it)) (prefix_self s.calls)
   address_reaches s at (Err why) = tt
 
@@ -92,7 +107,7 @@ module _ (allowed : Entity → Type 0) where
       )
   routine_reaches true it number made s =
       reaches_noted allowed s s.types s.literals s.taken (s.calls ++ record { routine = number; type_id = it.head.type_id } ∷ [])
-      (grows_self s.types) (prefix_self s.literals) (prefix_self s.taken) (record { routine = number; type_id = it.head.type_id } ∷ [], refl)
+      (plain_self s.types) (prefix_self s.literals) (prefix_self s.taken) (record { routine = number; type_id = it.head.type_id } ∷ [], refl)
   routine_reaches false it number made s = tt
 
   bound_reaches : (its : Bound) (it : Designator) (p : TypeId × List RightValue) (s : Typer) → Reaching allowed s (bound_call its it p s)
@@ -102,23 +117,26 @@ module _ (allowed : Entity → Type 0) where
       (operand.value (call_routine_of it.head.at number p)) s
   bound_reaches bound.Nothing it p s = tt
 
-  tagged_struct_reaches : (word : Word) (s : Typer) → Reaching allowed s (new_tagged_struct word s)
+  pub tagged_struct_reaches : (word : Word) (s : Typer) → Reaching allowed s (new_tagged_struct word s)
   tagged_struct_reaches word s =
-      reaches_origins allowed s
-      (record s { types = with_struct s.types; tags = declared word.text (tag.Struct (length s.types.structs)) s.tags })
-      (with_struct_origin (Some word.text) s.origins) refl
-      (reaches_named allowed s (with_struct s.types) s.names (declared word.text (tag.Struct (length s.types.structs)) s.tags) (grows_struct s.types)
-      (more_self (IsAllowedAt allowed s.names.level) s.names)
-      (more_one (IsTagAt s.tags.level) word.text (tag.Struct (length s.types.structs)) s.tags refl))
+      reaches_named allowed s (with_struct s.types) s.names (declared word.text (tag.Struct (length s.types.structs)) s.tags)
+      (with_struct_origin (Some word.text) s.origins) (grows_struct s.types) (more_self (IsAllowedAt allowed s.names.level) s.names)
+      (more_one (IsTagAt s.tags.level) word.text (tag.Struct (length s.types.structs)) s.tags refl) refl
+      (λ base is. traced_struct base s.types.structs s.origins s.tags.declarations
+      (declared word.text (tag.Struct (length s.types.structs)) s.tags).declarations
+      (record { tag = Some word.text; unit = s.origins.unit; brace = None }) refl refl (λ there own. (there, own)) is)
 
   tagged_enumeration_reaches : (word : Word) (s : Typer) → Reaching allowed s (new_tagged_enumeration word s)
   tagged_enumeration_reaches word s =
-      reaches_origins allowed s
-      (record s { types = with_enumeration s.types; tags = declared word.text (tag.Enumeration (length s.types.enumerations)) s.tags })
-      (with_enumeration_origin s.origins) refl
-      (reaches_named allowed s (with_enumeration s.types) s.names (declared word.text (tag.Enumeration (length s.types.enumerations)) s.tags)
-      (grows_enumeration s.types) (more_self (IsAllowedAt allowed s.names.level) s.names)
-      (more_one (IsTagAt s.tags.level) word.text (tag.Enumeration (length s.types.enumerations)) s.tags refl))
+      reaches_named allowed s (with_enumeration s.types) s.names (declared word.text (tag.Enumeration (length s.types.enumerations)) s.tags)
+      (with_enumeration_origin s.origins) (grows_enumeration s.types) (more_self (IsAllowedAt allowed s.names.level) s.names)
+      (more_one (IsTagAt s.tags.level) word.text (tag.Enumeration (length s.types.enumerations)) s.tags refl) refl
+      (λ base is.
+      let one = firsts_traced base s.types.structs s.origins (with_enumeration_origin s.origins) s.tags.declarations refl refl (λ other old. old) is in (
+        traced_tags base s.types.structs (with_enumeration_origin s.origins) s.tags.declarations
+            (declared word.text (tag.Enumeration (length s.types.enumerations)) s.tags).declarations one.0 (tt, one.0.owned),
+        one.1,
+      ))
 
   -- a struct that a tag names
   tagged_reaches : (word : Word) (o : Option Tag) (s : Typer) → Reaching allowed s (tagged_struct_as word o s)
@@ -138,26 +156,33 @@ module _ (allowed : Entity → Type 0) where
   begun_enumeration_reaches word None s = tagged_enumeration_reaches word s
   begun_enumeration_reaches word (Some its) s = tt
 
-  -- a body
+  -- the constants of an enumeration
   body_reaches : (s : Typer) (first : Place) (word : Option Word) (given : Result TypeTable TypeEnd) → GrowsTo s.types given
-      → Reaching allowed s (with_body_in s first word given)
-  body_reaches s first word (Ok types) grows = reaches_types allowed s types grows
-  body_reaches s first word (Err why) grows = tt
+      → HasStructs s.types given → Reaching allowed s (with_body_in s first word given)
+  body_reaches s first word (Ok types) grows same = reaches_types allowed s types (grows, same)
+  body_reaches s first word (Err why) grows same = tt
 
-  -- which may be one with another
-  joined_reaches : (at : Place) (it : Tag) (brace : Brace) (o : Option Tag) (s : Typer) → Reaching allowed s (joined at it brace o s)
-  joined_reaches at it brace None s = reaches_origins allowed s s (first_at brace it (met at it brace s.origins)) (met_unit at it brace s.origins)
-      (reaches_self allowed s)
-  joined_reaches at it brace (Some first) s =
-      if_reaches {A = Unit {0}} (tags_agree s.types (met at it brace s.origins) first it) s (Ok (tt, record s { origins = met at it brace s.origins }))
-      (Err (Clash at (first_name s.types it))) (reaches_origins allowed s s (met at it brace s.origins) (met_unit at it brace s.origins) (reaches_self allowed s)) tt
+  -- at their brace
+  constants_joined_reaches : (at : Place) (number : ℕ) (brace : Brace) (o : Option Tag) (s : Typer) → kept_for brace s.origins.firsts ≡ o
+      → Reaching allowed s (joined at (tag.Enumeration number) brace o s)
+  constants_joined_reaches at number brace None s free =
+      reaches_further allowed s s s.types (first_at brace (tag.Enumeration number) (met at (tag.Enumeration number) brace s.origins))
+      (reaches_self allowed s) (grows_self s.types) (met_unit at (tag.Enumeration number) brace s.origins)
+      (λ base is. enumeration_first base s.types.structs s.origins s.tags.declarations at brace is number free)
+  constants_joined_reaches at number brace (Some first) s kept =
+      if_reaches {A = Unit {0}} (tags_agree s.types (met at (tag.Enumeration number) brace s.origins) first (tag.Enumeration number)) s
+      (Ok (tt, record s { origins = met at (tag.Enumeration number) brace s.origins })) (Err (Clash at (first_name s.types (tag.Enumeration number))))
+      (reaches_further allowed s s s.types (met at (tag.Enumeration number) brace s.origins) (reaches_self allowed s) (grows_self s.types)
+      (met_unit at (tag.Enumeration number) brace s.origins)
+      (λ base is. enumeration_later base s.types.structs s.origins s.tags.declarations at brace is number)) tt
 
-  closed_reaches : (at : Place) (it : Tag) (s : Typer) → Reaching allowed s (closed at it s)
-  closed_reaches at it s =
+  constants_closed_reaches : (at : Place) (number : ℕ) (s : Typer) → Reaching allowed s (closed at (tag.Enumeration number) s)
+  constants_closed_reaches at number s =
       if_reaches {A = Unit {0}} (is_plain at.origin) s
-      (joined at it (brace_of at (times_at at s.origins)) (kept_for (brace_of at (times_at at s.origins)) s.origins.firsts) s) (Ok (tt, s))
-      (joined_reaches at it (brace_of at (times_at at s.origins)) (kept_for (brace_of at (times_at at s.origins)) s.origins.firsts) s)
-      (reaches_self allowed s)
+      (joined at (tag.Enumeration number) (brace_of at (times_at at s.origins)) (kept_for (brace_of at (times_at at s.origins)) s.origins.firsts) s)
+      (Ok (tt, s))
+      (constants_joined_reaches at number (brace_of at (times_at at s.origins))
+      (kept_for (brace_of at (times_at at s.origins)) s.origins.firsts) s refl) (reaches_self allowed s)
 
   -- a name of an allowed sort
   declared_reaches : (nothing : Unit {0}) (word : Word) (it : Entity) → allowed it → (b : Bool) (s : Typer)
@@ -166,8 +191,8 @@ module _ (allowed : Entity → Type 0) where
       )
   declared_reaches nothing word it fits true s = tt
   declared_reaches nothing word it fits false s =
-      reaches_named allowed s s.types (declared word.text it s.names) s.tags (grows_self s.types)
-      (more_one (IsAllowedAt allowed s.names.level) word.text it s.names (refl, fits)) (more_self (IsTagAt s.tags.level) s.tags)
+      reaches_names allowed s (declared word.text it s.names)
+      (more_one (IsAllowedAt allowed s.names.level) word.text it s.names (refl, fits))
 
 module _ {allowed : Entity → Type 0} where
   pub string_always : (first : Word) (others : List Word) → Always allowed (string_of first others)
@@ -202,27 +227,31 @@ module _ {allowed : Entity → Type 0} where
   -- the types of structs and enumerations
   pub struct_type_always : (number : ℕ) → Always allowed (struct_type number)
   struct_type_always number =
-      record { from = λ s scoped. reaches_types allowed s (with_row (row.Struct number) s.types) (grows_row (row.Struct number) s.types) }
+      record { from = λ s scoped. reaches_types allowed s (with_row (row.Struct number) s.types) (plain_row (row.Struct number) s.types) }
 
   pub enumeration_type_always : (number : ℕ) → Always allowed (enumeration_type number)
   enumeration_type_always number =
       record {
-        from = λ s scoped. reaches_types allowed s (with_row (row.Enumeration number) s.types) (grows_row (row.Enumeration number) s.types);
+        from = λ s scoped. reaches_types allowed s (with_row (row.Enumeration number) s.types) (plain_row (row.Enumeration number) s.types);
       }
 
   -- a new one, with a tag or without
   new_struct_always : Always allowed new_struct
   new_struct_always =
       record {
-        from = λ s scoped. reaches_origins allowed s (record s { types = with_struct s.types }) (with_struct_origin None s.origins) refl
-            (reaches_types allowed s (with_struct s.types) (grows_struct s.types));
+        from = λ s scoped. reaches_named allowed s (with_struct s.types) s.names s.tags (with_struct_origin None s.origins) (grows_struct s.types)
+            (more_self (IsAllowedAt allowed s.names.level) s.names) (more_self (IsTagAt s.tags.level) s.tags) refl
+            (λ base is. traced_struct base s.types.structs s.origins s.tags.declarations s.tags.declarations
+            (record { tag = None; unit = s.origins.unit; brace = None }) refl refl (λ there own. own) is);
       }
 
   new_enumeration_always : Always allowed new_enumeration
   new_enumeration_always =
       record {
-        from = λ s scoped. reaches_origins allowed s (record s { types = with_enumeration s.types }) (with_enumeration_origin s.origins) refl
-            (reaches_types allowed s (with_enumeration s.types) (grows_enumeration s.types));
+        from = λ s scoped. reaches_named allowed s (with_enumeration s.types) s.names s.tags (with_enumeration_origin s.origins)
+            (grows_enumeration s.types) (more_self (IsAllowedAt allowed s.names.level) s.names) (more_self (IsTagAt s.tags.level) s.tags) refl
+            (λ base is. firsts_traced base s.types.structs s.origins (with_enumeration_origin s.origins) s.tags.declarations refl refl
+            (λ other old. old) is);
       }
 
   pub tagged_struct_always : (word : Word) → Always allowed (tagged_struct word)
@@ -236,28 +265,21 @@ module _ {allowed : Entity → Type 0} where
   begun_enumeration_always None = new_enumeration_always
   begun_enumeration_always (Some word) = record { from = λ s scoped. begun_enumeration_reaches allowed word (find_here word.text s.tags) s }
 
-  closed_always : (at : Place) (it : Tag) → Always allowed (closed at it)
-  closed_always at it = record { from = λ s scoped. closed_reaches allowed at it s }
-
-  struct_always : (first : Place) (word : Option Word) (number : ℕ) (members : List Member)
-      → Always allowed (struct_with_body first word number members)
-  struct_always first word number members =
-      record { from = λ s scoped. body_reaches allowed s first word (completed number members s.types) (completed_grows number members s.types) }
-
-  pub completed_struct_always : (first : Place) (word : Option Word) (brace : Place) (number : ℕ) (members : List Member)
-      → Always allowed (completed_struct first word brace number members)
-  completed_struct_always first word brace number members =
-      and_always (struct_always first word number members) (closed_always brace (tag.Struct number))
+  closed_always : (at : Place) (number : ℕ) → Always allowed (closed at (tag.Enumeration number))
+  closed_always at number = record { from = λ s scoped. constants_closed_reaches allowed at number s }
 
   enumeration_always : (first : Place) (word : Option Word) (number : ℕ) (its : List Enumerator)
       → Always allowed (enumeration_with_body first word number its)
   enumeration_always first word number its =
-      record { from = λ s scoped. body_reaches allowed s first word (enumerated number its s.types) (enumerated_grows number its s.types) }
+      record {
+        from = λ s scoped. body_reaches allowed s first word (enumerated number its s.types) (enumerated_grows number its s.types)
+            (enumerated_structs number its s.types);
+      }
 
   pub completed_enumeration_always : (first : Place) (word : Option Word) (brace : Place) (number : ℕ) (its : List Enumerator)
       → Always allowed (completed_enumeration first word brace number its)
   completed_enumeration_always first word brace number its =
-      and_always (enumeration_always first word number its) (closed_always brace (tag.Enumeration number))
+      and_always (enumeration_always first word number its) (closed_always brace number)
 
   -- a list of parameter types
   pub list_of_always : (ids : List TypeId) → Always allowed (list_of ids)

@@ -9,6 +9,8 @@ use Rattle.std.specs.List.{AllByRecursion}
 use Rattle.std.proofs.lemmas.Bool.Decides.{nat_tests}
 use Rattle.std.proofs.lemmas.List.{append_assoc, append-nil}
 use native.Mathlib.Numerals.{unary_clauses}
+use Rattle.hs_expressions.specs.Laws.Grown.{GrowsPlainly}
+use Rattle.hs_expressions.specs.Laws.Traced.{TracedTo, traced_self, traced_then, traced_same}
 use Rattle.hs_expressions.specs.Laws.{HasMore, IsTagAt, IsPrefix, AreOutside, IsScoped}
 use Rattle.hs_typer.specs.declared.origins.Origins.{Origins}
 use Rattle.hs_typer.specs.declared.typer.Entity.{Entity}
@@ -138,6 +140,7 @@ pub record Reaches (allowed : Entity → Type 0) (old new : Typer) : Type 0 wher
   pub counts : new.counts ≡ old.counts
   pub keeps : new.keeps ≡ old.keeps
   pub unit : new.origins.unit ≡ old.origins.unit
+  pub traced : TracedTo old new
 
 module _ (allowed : Entity → Type 0) where
   -- by no step
@@ -154,6 +157,7 @@ module _ (allowed : Entity → Type 0) where
         counts = refl;
         keeps = refl;
         unit = refl;
+        traced = traced_self s;
       }
 
   -- by one step after another
@@ -170,13 +174,15 @@ module _ (allowed : Entity → Type 0) where
         counts = after.counts ∙ before.counts;
         keeps = after.keeps ∙ before.keeps;
         unit = after.unit ∙ before.unit;
+        traced = traced_then first second third before.traced after.traced;
       }
 
-  -- with more types, names and tags
-  pub reaches_named : (s : Typer) (types : TypeTable) (names : Scoped Entity) (tags : Scoped Tag) → Grows s.types types
-      → HasMore (IsAllowedAt allowed s.names.level) s.names names → HasMore (IsTagAt s.tags.level) s.tags tags
-      → Reaches allowed s (record s { types = types; names = names; tags = tags })
-  reaches_named s types names tags grows more more' =
+  -- with more types, names and tags, and with other origins
+  pub reaches_named : (s : Typer) (types : TypeTable) (names : Scoped Entity) (tags : Scoped Tag) (origins : Origins) → Grows s.types types
+      → HasMore (IsAllowedAt allowed s.names.level) s.names names → HasMore (IsTagAt s.tags.level) s.tags tags → origins.unit ≡ s.origins.unit
+      → TracedTo s (record s { types = types; names = names; tags = tags; origins = origins })
+      → Reaches allowed s (record s { types = types; names = names; tags = tags; origins = origins })
+  reaches_named s types names tags origins grows more more' same traced =
       record {
         types = grows;
         names = more;
@@ -187,21 +193,29 @@ module _ (allowed : Entity → Type 0) where
         table = refl;
         counts = refl;
         keeps = refl;
-        unit = refl;
+        unit = same;
+        traced = traced;
       }
 
+  -- with more names alone
+  pub reaches_names : (s : Typer) (names : Scoped Entity) → HasMore (IsAllowedAt allowed s.names.level) s.names names
+      → Reaches allowed s (record s { names = names })
+  reaches_names s names more =
+      reaches_named s s.types names s.tags s.origins (grows_self s.types) more (more_self (IsTagAt s.tags.level) s.tags) refl (traced_self s)
+
   -- with more types alone
-  pub reaches_types : (s : Typer) (types : TypeTable) → Grows s.types types → Reaches allowed s (record s { types = types })
+  pub reaches_types : (s : Typer) (types : TypeTable) → GrowsPlainly s.types types → Reaches allowed s (record s { types = types })
   reaches_types s types grows =
-      reaches_named s types s.names s.tags grows (more_self (IsAllowedAt allowed s.names.level) s.names) (more_self (IsTagAt s.tags.level) s.tags)
+      reaches_named s types s.names s.tags s.origins grows.0 (more_self (IsAllowedAt allowed s.names.level) s.names)
+      (more_self (IsTagAt s.tags.level) s.tags) refl (traced_same s (record s { types = types }) grows.1 refl refl)
 
   -- with more types, and more that is noted
   pub reaches_noted : (s : Typer) (types : TypeTable) (literals : List (List ℕ)) (taken : List Taken) (calls : List RoutineCall)
-      → Grows s.types types → IsPrefix s.literals literals → IsPrefix s.taken taken → IsPrefix s.calls calls
+      → GrowsPlainly s.types types → IsPrefix s.literals literals → IsPrefix s.taken taken → IsPrefix s.calls calls
       → Reaches allowed s (record s { types = types; literals = literals; taken = taken; calls = calls })
   reaches_noted s types literals taken calls grows more more' more'' =
       record {
-        types = grows;
+        types = grows.0;
         names = more_self (IsAllowedAt allowed s.names.level) s.names;
         tags = more_self (IsTagAt s.tags.level) s.tags;
         literals = more;
@@ -211,14 +225,16 @@ module _ (allowed : Entity → Type 0) where
         counts = refl;
         keeps = refl;
         unit = refl;
+        traced = traced_same s (record s { types = types; literals = literals; taken = taken; calls = calls }) grows.1 refl refl;
       }
 
-  -- Where structs and enumerations come from is no part of it, but that it is in the same unit.
-  pub reaches_origins : (old new : Typer) (origins : Origins) → origins.unit ≡ new.origins.unit → Reaches allowed old new
-      → Reaches allowed old (record new { origins = origins })
-  reaches_origins old new origins same reached =
+  -- after what was reached, with more types and with other origins
+  pub reaches_further : (old new : Typer) (types : TypeTable) (origins : Origins) → Reaches allowed old new → Grows new.types types
+      → origins.unit ≡ new.origins.unit → TracedTo old (record new { types = types; origins = origins })
+      → Reaches allowed old (record new { types = types; origins = origins })
+  reaches_further old new types origins reached grows same traced =
       record {
-        types = reached.types;
+        types = grows_then old.types new.types types reached.types grows;
         names = reached.names;
         tags = reached.tags;
         literals = reached.literals;
@@ -228,6 +244,7 @@ module _ (allowed : Entity → Type 0) where
         counts = reached.counts;
         keeps = reached.keeps;
         unit = same ∙ reached.unit;
+        traced = traced;
       }
 
   -- The scopes are those that there were.
@@ -259,4 +276,5 @@ reaches_wider allowed wider so old new reached =
       counts = reached.counts;
       keeps = reached.keeps;
       unit = reached.unit;
+      traced = reached.traced;
     }

@@ -1,0 +1,105 @@
+-- Structs of one brace are one in the program (X3.159-1989 3.1.2.6, and own).
+--     structs_at              what stands for the struct of a number
+--     first_stands            for a struct with its body that is the first one of its brace
+--     joined_at_end           so one struct stands for two of one brace, and no struct has got a body since all units were typed
+use Rattle.std.proofs.Common.{◌≡◌, ℕ, zero, suc, ◌+◌, true, List, [], ◌∷◌, ◌++◌, length, slice_get, Some, is_some, refl, sym, ap, subst, ◌∙◌, if◌then◌else◌, arith}
+use Rattle.std.proofs.lemmas.List.{length-append}
+use Rattle.hs_expressions.specs.Laws.Traced.{HasFirst, IsTracedAt}
+use Rattle.hs_fitting.specs.Exact.{AreJoined}
+use Rattle.hs_fitting.specs.Sameness.{HasBody}
+use Rattle.hs_linkage.specs.declared.translator.Translator.{Translator}
+use Rattle.hs_same_types.specs.Representatives.{struct_in, first_at, named, struct_of, structs_of, representatives}
+use Rattle.hs_tree.specs.Representatives.{or_itself, struct_for}
+use Rattle.hs_tree.specs.Trees.{TypedFunction}
+use Rattle.hs_typer.specs.Origins.{kept_for}
+use Rattle.hs_typer.specs.declared.origins.Brace.{Brace}
+use Rattle.hs_typer.specs.declared.origins.Origin.{Origin}
+use Rattle.hs_typer.specs.declared.origins.Origins.{Origins}
+use Rattle.hs_typer.specs.declared.typer.Tag.TheVariants as tag
+use Rattle.hs_types.specs.TypeTables.{TypeTable, body_in}
+use Rattle.hs_typing.specs.Ends.{taken_globals}
+use Rattle.hs_typing.specs.Finishing.{program_at_end, globals_add}
+
+-- ---- what stands for each struct
+
+-- the last one of a list
+last_at : {A : Type 0} → (its : List A) (it : A) → slice_get (its ++ it ∷ []) (length its) ≡ Some it
+last_at [] it = refl
+last_at (first ∷ rest) it = last_at rest it
+
+-- those before it
+before_last : {A : Type 0} → (its : List A) (last : A) (number : ℕ) (it : A) → slice_get its number ≡ Some it
+    → slice_get (its ++ last ∷ []) number ≡ Some it
+before_last [] last number it at = absurd cc
+before_last (first ∷ rest) last zero it at = at
+before_last (first ∷ rest) last (suc number) it at = before_last rest last number it at
+
+-- numbers
+none_more : (a : ℕ) → a ≡ a + 0
+none_more a = omega arith
+
+-- nothing is before the first one
+after_none : (a : ℕ) → 0 + a ≡ a
+after_none a = omega arith
+
+-- one place further
+one_further : (a b c : ℕ) → a ≡ b + 1 → a + c ≡ b + suc c
+one_further a b c is = omega (arith, is)
+
+module _ (types : TypeTable) (o : Origins) where
+  -- those that are done stay
+  done_stay : (done : List ℕ) (its : List Origin) (number first : ℕ) → slice_get done number ≡ Some first
+      → slice_get (structs_of types o done its) number ≡ Some first
+  done_stay done [] number first at = at
+  done_stay done (it ∷ rest) number first at =
+      done_stay (done ++ struct_of types o (length done) it ∷ []) rest number first
+      (before_last done (struct_of types o (length done) it) number first at)
+
+  -- the struct of that number, behind those that are done
+  pub structs_at : (done : List ℕ) (its : List Origin) (number : ℕ) (it : Origin) → slice_get its number ≡ Some it
+      → slice_get (structs_of types o done its) (length done + number) ≡ Some (struct_of types o (length done + number) it)
+  structs_at done [] number it at = absurd cc
+  structs_at done (first ∷ rest) zero it at =
+      let same : first ≡ it = cc in
+      subst (λ n. slice_get (structs_of types o done (first ∷ rest)) n ≡ Some (struct_of types o n it)) (none_more (length done))
+      (done_stay (done ++ struct_of types o (length done) first ∷ []) rest (length done) (struct_of types o (length done) first)
+      (last_at done (struct_of types o (length done) first)) ∙ ap (λ it. Some (struct_of types o (length done) it)) same)
+  structs_at done (first ∷ rest) (suc number) it at =
+      let all : List ℕ = done ++ struct_of types o (length done) first ∷ [] in
+      subst (λ n. slice_get (structs_of types o all rest) n ≡ Some (struct_of types o n it))
+      (one_further (length all) (length done) number (length-append done (struct_of types o (length done) first ∷ [])))
+      (structs_at all rest number it at)
+
+  -- of all structs
+  all_at : (number : ℕ) (it : Origin) → slice_get o.structs number ≡ Some it
+      → slice_get (structs_of types o [] o.structs) number ≡ Some (struct_of types o number it)
+  all_at number it at =
+      subst (λ n. slice_get (structs_of types o [] o.structs) n ≡ Some (struct_of types o n it)) (after_none number)
+      (structs_at [] o.structs number it at)
+
+  -- The first one of its brace stands for a struct with its body.
+  pub first_stands : (number first : ℕ) (it : Origin) (brace : Brace) → slice_get o.structs number ≡ Some it → it.brace ≡ Some brace
+      → HasBody types number → kept_for brace o.firsts ≡ Some (tag.Struct first) → struct_for (representatives types o) number ≡ first
+  first_stands number first it brace at known has kept =
+      ap (or_itself number) (all_at number it at)
+      ∙ ap (λ b. or_itself number (if b then first_at o.firsts it.brace else named types o.structs it.tag)) has
+      ∙ ap (λ brace. or_itself number (first_at o.firsts brace)) known
+      ∙ ap (λ o. or_itself number (struct_in o)) kept
+
+-- ---- the program
+
+module _ (m : Translator) (functions : List TypedFunction) (main : ℕ) (base : ℕ) (traced : IsTracedAt base m.typer) where
+  -- no struct has got a body since
+  same_structs : (program_at_end m functions main).types.structs ≡ m.typer.types.structs
+  same_structs = (globals_add (taken_globals [] m.typer.taken) 0 [] m.objects m.typer.types).structs
+
+  -- One struct stands for two of one brace.
+  pub joined_at_end : AreJoined (program_at_end m functions main) m
+  joined_at_end =
+      record {
+        bodies = λ number has. subst (λ its. is_some (body_in (slice_get its number)) ≡ true) same_structs has;
+        joined = λ number other brace is is' has has'.
+            let first : HasFirst m.typer.origins brace = (traced.begun number is.0 brace is.1 is.2).1 in
+            first_stands (program_at_end m functions main).types m.typer.origins number first.0 is.0 brace is.1 is.2 has first.1
+            ∙ sym (first_stands (program_at_end m functions main).types m.typer.origins other first.0 is'.0 brace is'.1 is'.2 has' first.1);
+      }
