@@ -1,21 +1,27 @@
 -- What the code of a program keeps (own).
---     scope_of program function                what the kinds of the operations of a function depend on
---     IsInRange scope code op                  what an operation names is there, and where it goes too
---     IsCodeOf scope code                      the code of a function: all that it names is there, and each operation has its operands
---     AreCodesOf program functions codes       of these functions, in their order
---     IsCode program codes                     of the program
-use Rattle.std.specs.Prelude.{◌≡◌, ◌<◌, ◌≤◌, ℕ, true, List, [], ◌∷◌, length, map, take, slice_get, Some, is_some}
+--     scope_of program function                        what the kinds of the operations of a function depend on
+--     IsInRange program classes function code op       what an operation names is there, and where it goes too
+--     IsCodeOf program classes function code           the code of a function: all that it names is there, and each operation has its operands
+--     AreCodesOf program classes functions codes       of these functions, in their order
+--     IsCode program classes codes                     of the program
+use Rattle.std.specs.Prelude.{◌≡◌, ◌<◌, ◌≤◌, ℕ, Bool, true, false, not, List, [], ◌∷◌, length, map, take, slice_get, Option, Some, None}
 use Rattle.hs_code.specs.Stacks.{Scope, Signature, IsStacked, variable_in}
 use Rattle.hs_code.specs.declared.function_code.Case.{Case}
 use Rattle.hs_code.specs.declared.function_code.FunctionCode.{FunctionCode}
 use Rattle.hs_code.specs.declared.function_code.Placed.{Placed}
+use Rattle.hs_code.specs.declared.op.Access.{Access}
+use Rattle.hs_code.specs.declared.op.Access.TheVariants as access
 use Rattle.hs_code.specs.declared.op.Object.TheVariants as object
 use Rattle.hs_code.specs.declared.op.Op.{Op}
 use Rattle.hs_code.specs.declared.op.Op.TheVariants as op
+use Rattle.hs_tree.specs.Classes.{is_slot}
 use Rattle.hs_tree.specs.Fitting.{types_of}
 use Rattle.hs_tree.specs.Trees.{TypedFunction, TypedProgram}
 use Rattle.hs_tree.specs.Views.{program_of}
+use Rattle.hs_tree.specs.declared.class.Class.{Class}
+use Rattle.hs_tree.specs.declared.head.VariableDecl.{VariableDecl}
 use Rattle.hs_tree.specs.declared.program.Program.{Program}
+use Rattle.hs_types.specs.TypeTables.{TypeTable}
 
 -- ---- of a program
 
@@ -37,21 +43,35 @@ scope_of program function =
 
 -- ---- of one function
 
-module _ (program : TypedProgram) (function : TypedFunction) (code : FunctionCode) where
+-- a variable that is there, and is an object
+abbrev pub is_object : TypeTable → Option VariableDecl → Bool
+is_object types None = false
+is_object types (Some variable) = not (is_slot types variable)
+
+-- a variable that is there, and is a slot
+abbrev pub is_slot_in : TypeTable → Option VariableDecl → Bool
+is_slot_in types None = false
+is_slot_in types (Some variable) = is_slot types variable
+
+module _ (program : TypedProgram) (classes : List Class) (function : TypedFunction) (code : FunctionCode) where
   -- an operation of the function
   abbrev pub IsTarget : ℕ → Type 0
   IsTarget at = at < length code.ops
 
-  -- a variable of the program or of the function
-  abbrev pub IsVariable : Rattle.hs_tree.specs.declared.head.Variable.Variable → Type 0
-  IsVariable name = is_some (variable_in (scope_of program function) name) ≡ true
+  -- the class of a pointer is one of the program
+  abbrev pub HasClass : Access → Type 0
+  HasClass (access.Number kind) = Unit {0}
+  HasClass (access.Pointer class) = class < length classes
+  HasClass (access.Struct size) = Unit {0}
 
   -- what it names is there, and where it goes too
   abbrev pub IsInRange : Op → Type 0
-  IsInRange (op.Address (object.Variable name)) = IsVariable name
+  IsInRange (op.Address (object.Variable name)) = is_object program.types (variable_in (scope_of program function) name) ≡ true
   IsInRange (op.Address (object.Literal place)) = place < length program.literals
-  IsInRange (op.Get name) = IsVariable name
-  IsInRange (op.Set name) = IsVariable name
+  IsInRange (op.Get name) = is_slot_in program.types (variable_in (scope_of program function) name) ≡ true
+  IsInRange (op.Set name) = is_slot_in program.types (variable_in (scope_of program function) name) ≡ true
+  IsInRange (op.Load its) = HasClass its
+  IsInRange (op.Store its) = HasClass its
   IsInRange (op.Jump target) = IsTarget target
   IsInRange (op.Zero target) = IsTarget target
   IsInRange (op.Pick target) = IsTarget target
@@ -68,16 +88,17 @@ module _ (program : TypedProgram) (function : TypedFunction) (code : FunctionCod
     pub stacked : IsStacked (scope_of program function) code
 
 -- one after the other
-abbrev pub AreCodesOf : TypedProgram → List TypedFunction → List FunctionCode → Type 0
-AreCodesOf program [] [] = Unit {0}
-AreCodesOf program [] (code ∷ codes) = ⊥
-AreCodesOf program (function ∷ functions) [] = ⊥
-AreCodesOf program (function ∷ functions) (code ∷ codes) = IsCodeOf program function code × AreCodesOf program functions codes
+abbrev pub AreCodesOf : TypedProgram → List Class → List TypedFunction → List FunctionCode → Type 0
+AreCodesOf program classes [] [] = Unit {0}
+AreCodesOf program classes [] (code ∷ codes) = ⊥
+AreCodesOf program classes (function ∷ functions) [] = ⊥
+AreCodesOf program classes (function ∷ functions) (code ∷ codes) =
+    IsCodeOf program classes function code × AreCodesOf program classes functions codes
 
 -- as contracts see the program
 abbrev pub view_program : Program → TypedProgram
 view_program its = program_of its.types its.globals its.literals its.functions.items its.routines its.same its.taken its.main
 
 -- of each function
-abbrev pub IsCode : TypedProgram → List FunctionCode → Type 0
-IsCode program codes = AreCodesOf program program.functions codes
+abbrev pub IsCode : TypedProgram → List Class → List FunctionCode → Type 0
+IsCode program classes codes = AreCodesOf program classes program.functions codes

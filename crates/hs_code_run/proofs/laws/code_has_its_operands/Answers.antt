@@ -7,4 +7,5 @@ use Rattle.hs_code_run.specs.Laws.Depths.Programs.{code_is_stacked}
 pub returns : goal.returns
 returns c =
     ∥∥₁_map₂ c.args.code.now.whole c.args.code.now.program.now.fits
-    (λ is fits. code_is_stacked (view_program c.args.code.now.program.now) c.args.code.now.functions.items fits.functions is)
+    (λ is fits.
+    code_is_stacked (view_program c.args.code.now.program.now) c.args.code.now.classes.items c.args.code.now.functions.items fits.functions is)

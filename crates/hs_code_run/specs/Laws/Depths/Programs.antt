@@ -10,29 +10,31 @@ use Rattle.hs_code_run.specs.Codes.{CodeFunction, function_with, functions_with,
 use Rattle.hs_code_run.specs.Depths.{AreStacked, IsStackedFunction}
 use Rattle.hs_tree.specs.Fitting.{FitsDefinition}
 use Rattle.hs_tree.specs.Trees.{TypedFunction, TypedProgram}
+use Rattle.hs_tree.specs.declared.class.Class.{Class}
 
 -- the signatures are those of the functions
-signatures : (program : TypedProgram) (functions : List TypedFunction) (its : List FunctionCode) → AreCodesOf program functions its
-    → map signature_of (functions_with functions its) ≡ map codes.signature_of functions
-signatures program [] [] are = refl
-signatures program [] (code ∷ its) are = absurd are
-signatures program (function ∷ functions) [] are = absurd are
-signatures program (function ∷ functions) (code ∷ its) are = ap (λ rest. codes.signature_of function ∷ rest) (signatures program functions its are.1)
+signatures : (program : TypedProgram) (classes : List Class) (functions : List TypedFunction) (its : List FunctionCode)
+    → AreCodesOf program classes functions its → map signature_of (functions_with functions its) ≡ map codes.signature_of functions
+signatures program classes [] [] are = refl
+signatures program classes [] (code ∷ its) are = absurd are
+signatures program classes (function ∷ functions) [] are = absurd are
+signatures program classes (function ∷ functions) (code ∷ its) are =
+    ap (λ rest. codes.signature_of function ∷ rest) (signatures program classes functions its are.1)
 
-module _ (program : TypedProgram) (its : List FunctionCode) (are : IsCode program its) where
+module _ (program : TypedProgram) (classes : List Class) (its : List FunctionCode) (are : IsCode program classes its) where
   -- one function
-  function_stacked : (function : TypedFunction) (code : FunctionCode) → IsCodeOf program function code
+  function_stacked : (function : TypedFunction) (code : FunctionCode) → IsCodeOf program classes function code
       → function.parameters ≤ length function.variables → IsStackedFunction (code_program program its) (function_with function code)
   function_stacked function code is few =
       record {
         parameters = few;
         code =
             subst (λ (all : List Signature). IsStacked (record (codes.scope_of program function) { functions = all }) code)
-            (sym (signatures program program.functions its are)) is.stacked;
+            (sym (signatures program classes program.functions its are)) is.stacked;
       }
 
   -- by its place
-  all_stacked : (functions : List TypedFunction) (rest : List FunctionCode) → AreCodesOf program functions rest
+  all_stacked : (functions : List TypedFunction) (rest : List FunctionCode) → AreCodesOf program classes functions rest
       → AllByRecursion (FitsDefinition program.types) functions → (place : ℕ) (function : CodeFunction)
       → slice_get (functions_with functions rest) place ≡ Some function → IsStackedFunction (code_program program its) function
   all_stacked [] [] all fit place function is = absurd cc
@@ -46,6 +48,7 @@ module _ (program : TypedProgram) (its : List FunctionCode) (are : IsCode progra
   all_stacked (one ∷ functions) (code ∷ rest) all fit (suc place) function is = all_stacked functions rest all.1 fit.1 place function is
 
 -- each function of the program has its operands
-pub code_is_stacked : (program : TypedProgram) (its : List FunctionCode) → AllByRecursion (FitsDefinition program.types) program.functions
-    → IsCode program its → AreStacked (code_program program its)
-code_is_stacked program its fit are place function is = all_stacked program its are program.functions its are fit place function is
+pub code_is_stacked : (program : TypedProgram) (classes : List Class) (its : List FunctionCode)
+    → AllByRecursion (FitsDefinition program.types) program.functions → IsCode program classes its → AreStacked (code_program program its)
+code_is_stacked program classes its fit are place function is =
+    all_stacked program classes its are program.functions its are fit place function is
