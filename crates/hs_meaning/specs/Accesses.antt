@@ -5,8 +5,7 @@
 --     loaded access its machine           what a load through a pointer gives, or why it stops
 --     stored access its value machine     the machine after a store through a pointer, or why it stops
 -- An access through a handle reads its master pointer if it is a load of a pointer, and is a BadLoad otherwise, whatever the state of the block.
-use Rattle.std.specs.Prelude.{ℤ, ℕ, pos, negsuc, ◌+◌, nat_le, Bool, true, false, not, ◌&&◌, List, [], ◌∷◌, ◌++◌, length, take, drop, slice_get, Option, Some, None, Result, Ok, Err}
-use Rattle.hs_heap.specs.Blocks as heap
+use Rattle.std.specs.Prelude.{ℤ, ℕ, pos, negsuc, ◌+◌, nat_le, Bool, false, not, List, [], ◌∷◌, ◌++◌, length, take, drop, slice_get, Option, Some, None, Result, Ok, Err}
 use Rattle.hs_heap.specs.Blocks.{Block, place_for, master_of}
 use Rattle.hs_heap.specs.Memory.{block_at, put_block}
 use Rattle.hs_heap.specs.declared.cell.Cell.{Cell}
@@ -16,7 +15,7 @@ use Rattle.hs_heap.specs.declared.cell.Spot as spot
 use Rattle.hs_heap.specs.declared.stop.HeapStop.{HeapStop}
 use Rattle.hs_meaning.specs.Machine.{Machine, Object, Done, done, stopped, has_ended, with_blocks, with_object}
 use Rattle.hs_meaning.specs.Stops.{Stops, stops_if, first_stop, heap_stop}
-use Rattle.hs_meaning.specs.Values.{Value, pointer, Access, of_number, of_pointer, of_struct, length_of, cells_for, store_stop, value_in, load_stops}
+use Rattle.hs_meaning.specs.Values.{Value, pointer, Access, of_pointer, length_of, cells_for, store_stop, value_in, load_stops}
 use Rattle.hs_meaning.specs.declared.outcome.Stop.{Stop}
 use Rattle.hs_meaning.specs.declared.outcome.Stop.TheVariants as stop
 

@@ -12,14 +12,14 @@ pub mod Expressions
 pub mod Statements
 use Rattle.std.specs.Prelude.{◌≡◌, ℤ, ℕ, Bool, true, false, List, [], ◌∷◌, slice_get}
 use Rattle.hs_base.specs.declared.pos.Pos.{Pos}
-use Rattle.hs_meaning.specs.Evaluation.{Flow, onward, breaks, continues, returned, Job, turn_of, call_of, Location, in_slot, at_pointer, variable_at, address_of, decided_by, returned_value}
+use Rattle.hs_meaning.specs.Evaluation.{Flow, onward, breaks, continues, returned, Job, turn_of, call_of, Location, in_slot, at_address, variable_at, address_of, decided_by, returned_value}
 use Rattle.hs_meaning.specs.Frames.{missing_value, opened}
 use Rattle.hs_meaning.specs.Machine.{Binding}
 use Rattle.hs_meaning.specs.Objects.{constant_value}
 use Rattle.hs_meaning.specs.Operations.{Operation}
 use Rattle.hs_meaning.specs.Runs.{own_locals, closes}
 use Rattle.hs_meaning.specs.Steps.{State, Ran, went, over, Step, ◌>>=◌, then_with, give, ends, either, acts, perform, used}
-use Rattle.hs_meaning.specs.Values.{Value, pointer, pointer_in}
+use Rattle.hs_meaning.specs.Values.{Value}
 use Rattle.hs_meaning.specs.declared.outcome.Outcome.{Outcome}
 use Rattle.hs_meaning.specs.declared.outcome.Outcome.TheVariants.{Finished, Stopped}
 use Rattle.hs_meaning.specs.declared.outcome.Stop.TheVariants as stop
@@ -93,12 +93,12 @@ module _ (R : Relation) where
   Lists (a ∷ rest) [] = ⊥
   Lists (a ∷ rest) (b ∷ others) = R.values a b × Lists rest others
 
-  -- one slot, or where pointers that correspond reach
+  -- one slot, or addresses that correspond
   abbrev pub Locations : Location → Location → Type 0
   Locations (in_slot a) (in_slot b) = a ≡ b
-  Locations (in_slot a) (at_pointer b) = ⊥
-  Locations (at_pointer a) (in_slot b) = ⊥
-  Locations (at_pointer a) (at_pointer b) = R.values (pointer a) (pointer b)
+  Locations (in_slot a) (at_address b) = ⊥
+  Locations (at_address a) (in_slot b) = ⊥
+  Locations (at_address a) (at_address b) = R.values a b
 
   -- in one way, with values that correspond
   abbrev pub Flows : Flow → Flow → Type 0
@@ -118,7 +118,6 @@ module _ (R : Relation) where
 pub record Leaves (R : Relation) (setting : Setting) : Type 1 where
   -- constants correspond to themselves
   pub constant : (its : Constant) → R.values (constant_value setting its) (constant_value setting its)
-  pub pointed : (a b : Value) → R.values a b → R.values (pointer (pointer_in a)) (pointer (pointer_in b))
   pub performed : (at : Pos) (its : Operation) (a b : List Value) → Lists R a b → Follows R R.values (perform setting at its a) (perform setting at its b)
   pub used_as : (at : Pos) (a b : Value) → R.values a b → Follows R Same (used at a) (used at b)
   pub variable : (at : Pos) (name : Variable) → Follows R (Locations R) (acts at (variable_at name)) (acts at (variable_at name))

@@ -4,7 +4,7 @@
 --     class_of_type, class_of_scalar      the class of a pointer that is no field, and of a scalar inside an object
 --     classes_of program                  all classes, in their order
 use Rattle.indexmap.specs.IndexSet.{insert_key}
-use Rattle.std.specs.Prelude.{ℕ, Bool, true, false, not, ◌&&◌, List, [], ◌∷◌, ◌++◌, take, slice_get, Option, Some, None, if◌then◌else◌}
+use Rattle.std.specs.Prelude.{Bool, true, false, not, ◌&&◌, List, [], ◌∷◌, ◌++◌, take, slice_get, Option, Some, None, if◌then◌else◌}
 use Rattle.hs_meaning.specs.Scalars.{Scalar, scalars_of}
 use Rattle.hs_tree.specs.Classes.{class_of, class_of_field, is_slot}
 use Rattle.hs_tree.specs.Fitting.{declared}

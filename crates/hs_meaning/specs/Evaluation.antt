@@ -1,15 +1,15 @@
 -- What expressions mean (X3.159-1989 3.3): the steps that give the value of one, or designate an object.
 --     Flow                           how a statement goes on
 --     Job                            what costs a turn: one more turn of a loop, and a call of a function
---     Location                       where an object is: in a slot, or where a pointer reaches
+--     Location                       where an object is: in a slot, or at an address
 --     value_of setting again e       the value of an expression
---     location_of setting again e    the object that it designates
+--     addressed setting again e      the address of the object that an lvalue designates
+--     location_of e address          that object: a variable may be a slot
 --     values_of setting again list   the values of arguments
 -- `again` does a job. It takes the turn, so the recursion on trees is structural; `Runs.antt` says what jobs are.
-use Rattle.std.specs.Prelude.{ℕ, pos, Bool, true, false, ◌||◌, List, [], ◌∷◌, slice_get, Option, Some, None}
+use Rattle.std.specs.Prelude.{ℕ, pos, Bool, true, false, List, [], ◌∷◌, slice_get, Option, Some, None}
 use Rattle.hs_base.specs.declared.pos.Pos.{Pos}
 use Rattle.hs_heap.specs.Shift.{Powers}
-use Rattle.hs_heap.specs.declared.cell.Pointer.{Pointer}
 use Rattle.hs_heap.specs.declared.cell.Pointer.TheVariants.{Nil, Fixed}
 use Rattle.hs_meaning.specs.Machine.{Machine, Done, done, stopped, Binding, slot, object_at, binding_of}
 use Rattle.hs_meaning.specs.Numbers.{truth}
@@ -18,8 +18,7 @@ use Rattle.hs_meaning.specs.Operations as operation
 use Rattle.hs_meaning.specs.Operations.{Operation}
 use Rattle.hs_meaning.specs.Settings.{Setting, access_of}
 use Rattle.hs_meaning.specs.Steps.{Step, ◌>>=◌, ◌>>◌, give, either, acts, perform, condition, operands, shifted_by}
-use Rattle.hs_meaning.specs.Values.{Value, number, pointer, Access, pointer_in}
-use Rattle.hs_meaning.specs.declared.outcome.Stop.{Stop}
+use Rattle.hs_meaning.specs.Values.{Value, number, pointer, Access}
 use Rattle.hs_meaning.specs.declared.outcome.Stop.TheVariants as stop
 use Rattle.hs_tree.specs.Trees as tree
 use Rattle.hs_tree.specs.Trees.{RightValue, LeftValue, RightValues, TypedFunction, TypedStatement}
@@ -28,7 +27,6 @@ use Rattle.hs_tree.specs.declared.function.BoundRoutine.{BoundRoutine}
 use Rattle.hs_tree.specs.declared.head.Head.{Head}
 use Rattle.hs_tree.specs.declared.head.Variable.{Variable}
 use Rattle.hs_tree.specs.declared.operators.Stride.{Stride}
-use Rattle.hs_types.specs.declared.integer.Integer.{Integer}
 
 -- A statement goes on to the next one, leaves a loop or a switch, goes to the next turn of a loop, or returns a value at a place.
 pub data Flow : Type 0 where
@@ -42,10 +40,10 @@ pub data Job : Type 0 where
   turn_of : TypedFunction → TypedStatement → Job
   call_of : ℕ → List Value → Pos → Job
 
--- where an object is: in a slot, or where a pointer reaches
+-- where an object is: in a slot, or at an address, which is a pointer
 pub data Location : Type 0 where
   in_slot : Variable → Location
-  at_pointer : Pointer → Location
+  at_address : Value → Location
 
 -- ---- objects
 
@@ -53,30 +51,35 @@ pub data Location : Type 0 where
 abbrev pub located : Variable → Option Binding → Machine → Done Location
 located name None machine = stopped stop.BadPointer machine
 located name (Some (slot value)) machine = done (in_slot name) machine
-located name (Some (object_at place)) machine = done (at_pointer (Fixed place (pos 0))) machine
+located name (Some (object_at place)) machine = done (at_address (pointer (Fixed place (pos 0)))) machine
 
 -- of a variable that is there
 abbrev pub variable_at : Variable → Machine → Done Location
 variable_at name machine = located name (binding_of name machine) machine
 
--- where a pointer reaches
-abbrev pub reached : Value → Location
-reached value = at_pointer (pointer_in value)
-
 -- the value of an object
 abbrev pub read : Setting → Pos → Access → Location → Step Value
 read setting at access (in_slot name) = perform setting at (operation.get name) []
-read setting at access (at_pointer its) = perform setting at (operation.load access) (pointer its ∷ [])
+read setting at access (at_address its) = perform setting at (operation.load access) (its ∷ [])
 
 -- an object is given a value, which is the value of the assignment
 abbrev pub written : Setting → Pos → Access → Location → Value → Step Value
 written setting at access (in_slot name) value = perform setting at (operation.set name) (value ∷ [])
-written setting at access (at_pointer its) value = perform setting at (operation.store access) (pointer its ∷ value ∷ [])
+written setting at access (at_address its) value = perform setting at (operation.store access) (its ∷ value ∷ [])
 
 -- its address; a slot has none
 abbrev pub address_of : Location → Machine → Done Value
 address_of (in_slot name) machine = stopped stop.BadPointer machine
-address_of (at_pointer its) machine = done (pointer its) machine
+address_of (at_address its) machine = done its machine
+
+-- the object that an lvalue designates (3.2.2.1): a variable, or what is at the address of any other
+abbrev pub location_of : LeftValue → Step Value → Step Location
+location_of (tree.variable head name) address = acts head.at.pos (variable_at name)
+location_of (tree.literal head place) address = address >>= (λ its. give (at_address its))
+location_of (tree.target head its) address = address >>= (λ its. give (at_address its))
+location_of (tree.element head size pointer_first a b) address = address >>= (λ its. give (at_address its))
+location_of (tree.member head field bytes object) address = address >>= (λ its. give (at_address its))
+location_of (tree.arrow head field bytes its) address = address >>= (λ its. give (at_address its))
 
 -- the object and its value
 abbrev pub read_with : Setting → Pos → Access → Location → Step (Location × Value)
@@ -136,9 +139,9 @@ module _ (setting : Setting) (again : Job → Step Flow) where
     pub value_of : RightValue → Step Value
     value_of (tree.number head bits) = give (number bits)
     value_of (tree.nil head) = give (pointer Nil)
-    value_of (tree.load head object) = location_of object >>= (λ place. read setting head.at.pos (access_of setting object) place)
-    value_of (tree.decay head array) = location_of array >>= (λ place. acts head.at.pos (address_of place))
-    value_of (tree.address head object) = location_of object >>= (λ place. acts head.at.pos (address_of place))
+    value_of (tree.load head object) = location_of object (addressed object) >>= read setting head.at.pos (access_of setting object)
+    value_of (tree.decay head array) = addressed array
+    value_of (tree.address head object) = addressed object
     value_of (tree.cast head operand) = value_of operand
     value_of (tree.convert_number head kind operand) = on_one head (operation.convert kind) (value_of operand)
     value_of (tree.convert_pointer head operand) = value_of operand
@@ -163,19 +166,19 @@ module _ (setting : Setting) (again : Job → Step Flow) where
         value_of test >>= condition head.at.pos >>= (λ is. either is (value_of first) (value_of second))
     value_of (tree.comma head lefts last) = each_of lefts >> value_of last
     value_of (tree.assign head into from) =
-        operands (location_of into) (value_of from) >>= (λ both. written setting head.at.pos (access_of setting into) both.0 both.1)
+        operands (location_of into (addressed into)) (value_of from) >>= (λ both. written setting head.at.pos (access_of setting into) both.0 both.1)
     value_of (tree.update head operator kind to into from) =
-        operands (location_of into >>= read_with setting head.at.pos (access_of setting into)) (value_of from)
+        operands (location_of into (addressed into) >>= read_with setting head.at.pos (access_of setting into)) (value_of from)
         >>= (λ both. updated head (access_of setting into) (operation.arithmetic operator kind) (operation.convert to) both.0.0 both.0.1 both.1)
     value_of (tree.advance head stride into from) =
-        operands (location_of into >>= read_with setting head.at.pos (access_of setting into)) (value_of from)
+        operands (location_of into (addressed into) >>= read_with setting head.at.pos (access_of setting into)) (value_of from)
         >>= (λ both. advanced head (access_of setting into) stride both.0.0 both.0.1 both.1)
     value_of (tree.post_update head operator kind to into) =
-        location_of into >>= read_with setting head.at.pos (access_of setting into)
+        location_of into (addressed into) >>= read_with setting head.at.pos (access_of setting into)
         >>= (λ both. updated head (access_of setting into) (operation.arithmetic operator kind) (operation.convert to) both.0 both.1 (number 1)
         >> give both.1)
     value_of (tree.post_advance head stride into) =
-        location_of into >>= read_with setting head.at.pos (access_of setting into)
+        location_of into (addressed into) >>= read_with setting head.at.pos (access_of setting into)
         >>= (λ both. advanced head (access_of setting into) stride both.0 both.1 (number 1) >> give both.1)
     value_of (tree.call head place routine arguments) =
         values_of arguments >>= (λ values. decided_by (bound_to setting routine) >> again (call_of place values head.at.pos))
@@ -183,18 +186,15 @@ module _ (setting : Setting) (again : Job → Step Flow) where
     value_of (tree.call_routine head place arguments) =
         values_of arguments >>= (λ values. decided_by (slice_get setting.routines place) >> perform setting head.at.pos (operation.routine place) values)
 
-    -- the object that an lvalue designates (3.2.2.1)
-    pub location_of : LeftValue → Step Location
-    location_of (tree.variable head name) = acts head.at.pos (variable_at name)
-    location_of (tree.literal head place) = give (at_pointer (Fixed (object_of_base setting (base.Literal place)) (pos 0)))
-    location_of (tree.target head its) = value_of its >>= (λ value. give (reached value))
-    location_of (tree.element head size pointer_first a b) =
+    -- the address of the object that an lvalue designates (3.3.3.2); a slot has none
+    pub addressed : LeftValue → Step Value
+    addressed (tree.variable head name) = acts head.at.pos (variable_at name) >>= (λ place. acts head.at.pos (address_of place))
+    addressed (tree.literal head place) = give (pointer (Fixed (object_of_base setting (base.Literal place)) (pos 0)))
+    addressed (tree.target head its) = value_of its
+    addressed (tree.element head size pointer_first a b) =
         on_two head (operation.step (record { size = size; backward = false }) pointer_first) (value_of a) (value_of b)
-        >>= (λ value. give (reached value))
-    location_of (tree.member head field bytes object) =
-        on_one head (operation.offset bytes) (location_of object >>= (λ place. acts head.at.pos (address_of place))) >>= (λ value. give (reached value))
-    location_of (tree.arrow head field bytes its) =
-        on_one head (operation.offset bytes) (value_of its) >>= (λ value. give (reached value))
+    addressed (tree.member head field bytes object) = on_one head (operation.offset bytes) (addressed object)
+    addressed (tree.arrow head field bytes its) = on_one head (operation.offset bytes) (value_of its)
 
     -- arguments are operands
     pub values_of : RightValues → Step (List Value)

@@ -11,7 +11,6 @@ use Rattle.hs_meaning.specs.Machine.{Machine, Object, Binding, slot, object_at, 
 use Rattle.hs_meaning.specs.Objects.{bindings, objects_for}
 use Rattle.hs_meaning.specs.Settings.{Setting, access_of_type}
 use Rattle.hs_meaning.specs.Values.{Value, number, pointer}
-use Rattle.hs_meaning.specs.declared.outcome.Stop.{Stop}
 use Rattle.hs_meaning.specs.declared.outcome.Stop.TheVariants as stop
 use Rattle.hs_tree.specs.Kinds.{is_pointer, is_struct_row}
 use Rattle.hs_tree.specs.declared.head.VariableDecl.{VariableDecl}

@@ -8,7 +8,7 @@
 --     reshaped_by lives role its machine     the machine after a role that takes bytes for the block, if there is room
 --     handle_if, with_block, object_if, with_object_if       blocks and objects that are made
 --     dispose_stop, disposed_object          objects that are disposed
-use Rattle.std.specs.Prelude.{ℤ, ℕ, pos, negsuc, ◌+◌, ◌%◌, ◌==◌, nat_le, Bool, true, false, not, ◌&&◌, ◌||◌, List, [], ◌∷◌, ◌++◌, length, map, replicate, slice_get, Option, Some, None, Result, Ok, Err, if◌then◌else◌}
+use Rattle.std.specs.Prelude.{ℤ, ℕ, pos, negsuc, ◌+◌, ◌==◌, nat_le, Bool, true, false, not, ◌&&◌, [], ◌∷◌, ◌++◌, length, replicate, slice_get, Option, Some, None, Result, Ok, Err, if◌then◌else◌}
 use Rattle.std.specs.List.{list_any}
 use Rattle.std.specs.Ordering.{int_eq}
 use Rattle.hs_heap.specs.Blocks.{Block, new_block, changed, emptied}
@@ -19,7 +19,7 @@ use Rattle.hs_heap.specs.declared.cell.Pointer.TheVariants.{Nil, Fixed, Handle, 
 use Rattle.hs_heap.specs.declared.stop.HeapStop.{HeapStop}
 use Rattle.hs_meaning.specs.Machine.{Machine, Object, allocated, is_allocated, ended_object, with_blocks, with_object, new_object, has_room_for}
 use Rattle.hs_meaning.specs.Numbers.{signed}
-use Rattle.hs_meaning.specs.Stops.{Stops, stops_if, heap_stop}
+use Rattle.hs_meaning.specs.Stops.{stops_if, heap_stop}
 use Rattle.hs_meaning.specs.Values.{Value, pointer, bits_in}
 use Rattle.hs_meaning.specs.declared.outcome.Stop.{Stop}
 use Rattle.hs_meaning.specs.declared.outcome.Stop.TheVariants as stop

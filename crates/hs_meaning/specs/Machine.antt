@@ -7,7 +7,7 @@
 --     binding_of name machine       what a variable is there; with_value name value machine, a slot with another value
 --     with_object, with_blocks      a machine with another object, or other blocks
 --     new_object, ended_object      one object more; an object whose life has ended
-use Rattle.std.specs.Prelude.{ℕ, ◌+◌, ◌-◌, ◌==◌, nat_le, Bool, true, false, ◌&&◌, List, [], ◌∷◌, ◌++◌, map, length, sum_by, slice_get, slice_set, Option, Some, None}
+use Rattle.std.specs.Prelude.{ℕ, ◌+◌, nat_le, Bool, true, false, ◌&&◌, List, [], ◌∷◌, ◌++◌, length, slice_get, slice_set, Option, Some, None}
 use Rattle.hs_heap.specs.Blocks.{Block}
 use Rattle.hs_heap.specs.declared.cell.Cell.{Cell}
 use Rattle.hs_meaning.specs.Values.{Value}

@@ -6,7 +6,6 @@
 use Rattle.std.specs.Prelude.{ℕ, suc, pos, ◌+◌, List, [], ◌∷◌, ◌++◌, map, length, replicate, slice_get, Option, Some, None, if◌then◌else◌}
 use Rattle.hs_heap.specs.declared.cell.Cell.{Cell}
 use Rattle.hs_heap.specs.declared.cell.Cell.TheVariants.{Undefined, Byte}
-use Rattle.hs_heap.specs.declared.cell.Pointer.{Pointer}
 use Rattle.hs_heap.specs.declared.cell.Pointer.TheVariants.{Nil, Fixed}
 use Rattle.hs_meaning.specs.Accesses.{with_cells_from}
 use Rattle.hs_meaning.specs.Classes.{class_of_scalar}

@@ -9,13 +9,13 @@
 --     made_value, made_machine                      its result
 --     plain routine prototype values machine        all of this
 use Rattle.std.specs.Fmt.{decimal, signed_decimal}
-use Rattle.std.specs.Prelude.{ℕ, zero, suc, pos, ◌+◌, ◌/◌, ◌==◌, Bool, true, false, ◌&&◌, not, List, [], ◌∷◌, ◌++◌, length, map, take, replicate, slice_get, Option, Some, None, if◌then◌else◌}
-use Rattle.hs_heap.specs.Blocks.{Block, size_of, new_block}
-use Rattle.hs_heap.specs.Memory.{block_at, has_room}
+use Rattle.std.specs.Prelude.{ℕ, zero, suc, ◌+◌, ◌/◌, ◌==◌, Bool, true, false, List, [], ◌∷◌, ◌++◌, map, take, replicate, slice_get, Option, Some, None, if◌then◌else◌}
+use Rattle.hs_heap.specs.Blocks.{size_of, new_block}
+use Rattle.hs_heap.specs.Memory.{has_room}
 use Rattle.hs_heap.specs.declared.cell.Cell.TheVariants.{Byte}
 use Rattle.hs_heap.specs.declared.cell.Pointer.{Pointer}
 use Rattle.hs_heap.specs.declared.cell.Pointer.TheVariants.{Nil, Fixed, Handle, Spot}
-use Rattle.hs_meaning.specs.Accesses.{use_stops, with_cells_at, by_stop}
+use Rattle.hs_meaning.specs.Accesses.{use_stops, with_cells_at}
 use Rattle.hs_meaning.specs.Handles.{handle_stop, handle_if, object_if}
 use Rattle.hs_meaning.specs.Machine.{Machine, Object, Done, done, stopped, allocated, has_ended, has_room_for, new_object, with_blocks}
 use Rattle.hs_meaning.specs.Numbers.{signed}

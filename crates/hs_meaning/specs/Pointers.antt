@@ -7,7 +7,7 @@
 --     moved_stops bytes its                 why a pointer does not go so many bytes on
 --     moved_by bytes its                    where it is then
 --     stride_bytes stride bits              how many bytes a step is
-use Rattle.std.specs.Prelude.{ℤ, ℕ, pos, negsuc, ◌+ℤ◌, ◌-ℤ◌, ◌*ℤ◌, neg_ℤ, int_le, int_lt, int_div, ◌==◌, Bool, true, false, not, ◌&&◌, List, [], ◌∷◌, Option, Some, None}
+use Rattle.std.specs.Prelude.{ℤ, ℕ, pos, negsuc, ◌+ℤ◌, ◌-ℤ◌, ◌*ℤ◌, neg_ℤ, int_le, int_lt, int_div, ◌==◌, Bool, true, false, not, ◌&&◌, [], ◌∷◌, Option, Some, None}
 use Rattle.std.specs.Ordering.{int_eq}
 use Rattle.hs_heap.specs.Blocks.{Block, is_disposed}
 use Rattle.hs_heap.specs.Memory.{block_at}

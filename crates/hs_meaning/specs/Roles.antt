@@ -3,7 +3,7 @@
 --     role_value role values machine       what it gives
 --     role_machine role values machine     the machine after it
 -- The argument of a role that is no handle role is tested first; a state byte is no number.
-use Rattle.std.specs.Prelude.{ℤ, ℕ, pos, negsuc, ◌+◌, ◌%◌, ◌==◌, nat_le, Bool, true, false, not, List, [], ◌∷◌, ◌++◌, Option, Some, None, Result}
+use Rattle.std.specs.Prelude.{ℕ, ◌%◌, Bool, true, false, not, List, [], ◌∷◌, ◌++◌, Option, Some, None, Result}
 use Rattle.hs_heap.specs.Blocks.{Block, disposed, size_of, resized, with_lock, with_purge_bit, state_of, with_state, reallocated, has_life}
 use Rattle.hs_heap.specs.declared.cell.Pointer.{Pointer}
 use Rattle.hs_heap.specs.declared.cell.Pointer.TheVariants.{Nil, Fixed, Handle, Spot}
@@ -17,7 +17,7 @@ use Rattle.hs_meaning.specs.Values.{Value, number, pointer, state, structure, bi
 use Rattle.hs_meaning.specs.declared.outcome.Stop.{Stop}
 use Rattle.hs_meaning.specs.declared.outcome.Stop.TheVariants as stop
 use Rattle.hs_table.specs.declared.role.Role.{Role}
-use Rattle.hs_table.specs.declared.role.Role.TheVariants.{NewHandle, DisposeHandle, GetSize, SetSize, Lock, Unlock, Purge, NoPurge, GetState, SetState, Empty, Realloc, NewPtr, DisposePtr, BlockMove, Getchar, Putchar, Plain}
+use Rattle.hs_table.specs.declared.role.Role.TheVariants.{NewHandle, DisposeHandle, GetSize, SetSize, Lock, Unlock, Purge, NoPurge, GetState, SetState, Empty, Realloc, NewPtr, DisposePtr, BlockMove, Getchar, Putchar}
 
 -- the address of a master pointer
 abbrev pub is_handle : Pointer → Bool

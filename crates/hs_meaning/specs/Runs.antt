@@ -7,12 +7,12 @@
 --     still_run program input turns       the run on the heap that never moves: its schedule is empty
 --     IsMisuse outcome                    it stopped at a use of a stale pointer or of a purged handle
 --     IsSafe program                      no schedule changes a run, and no run ends in a misuse
-use Rattle.std.specs.Prelude.{◌≡◌, ℤ, ℕ, zero, suc, pos, Bool, true, false, List, [], ◌∷◌, slice_get, Option, Some, None}
+use Rattle.std.specs.Prelude.{◌≡◌, ℤ, ℕ, zero, suc, pos, List, [], slice_get, Option, Some, None}
 use Rattle.hs_base.specs.declared.pos.Pos.{Pos}
 use Rattle.hs_heap.specs.declared.decision.Decision.{Decision}
-use Rattle.hs_meaning.specs.Evaluation.{Flow, onward, breaks, continues, returned, Job, turn_of, call_of, returned_value}
+use Rattle.hs_meaning.specs.Evaluation.{Flow, onward, breaks, continues, returned, Job, turn_of, call_of}
 use Rattle.hs_meaning.specs.Frames.{opened, closed}
-use Rattle.hs_meaning.specs.Machine.{Machine, Binding, Done, done, stopped}
+use Rattle.hs_meaning.specs.Machine.{Machine, Binding, Done, done}
 use Rattle.hs_meaning.specs.Numbers.{signed}
 use Rattle.hs_meaning.specs.Objects.{starting_machine}
 use Rattle.hs_meaning.specs.Settings.{Setting, setting_of}

@@ -5,12 +5,12 @@
 --     executed_all entry statements    a list of statements, from its start or from a label on
 --     next_turn statement              one turn of a loop, without the turn itself
 --     body_of function                 the value that a function returns, and where
-use Rattle.std.specs.Prelude.{ℕ, pos, ◌==◌, Bool, true, false, ◌||◌, List, [], ◌∷◌, slice_get, Option, Some, None}
+use Rattle.std.specs.Prelude.{ℕ, ◌==◌, Bool, true, false, ◌||◌, List, [], ◌∷◌, slice_get, Option, Some, None}
 use Rattle.std.specs.List.{list_any}
 use Rattle.hs_base.specs.declared.pos.Pos.{Pos}
 use Rattle.hs_heap.specs.declared.cell.Pointer.TheVariants.{Nil}
 use Rattle.hs_meaning.specs.Classes.{class_of_type, class_of_scalar}
-use Rattle.hs_meaning.specs.Evaluation.{Flow, onward, breaks, continues, returned, Job, turn_of, Location, in_slot, at_pointer, value_of, variable_at, written}
+use Rattle.hs_meaning.specs.Evaluation.{Flow, onward, breaks, continues, returned, Job, turn_of, Location, in_slot, at_address, value_of, variable_at, written}
 use Rattle.hs_meaning.specs.Frames.{missing_value}
 use Rattle.hs_meaning.specs.Objects.{constant_value}
 use Rattle.hs_meaning.specs.Operations as operation
@@ -131,8 +131,8 @@ module _ (setting : Setting) (again : Job → Step Flow) (function : TypedFuncti
   -- a scalar gets its constant: it is a slot, or lies inside an object
   abbrev pub scalar_started : Pos → Location → List Part → Scalar → Step Value
   scalar_started at (in_slot name) parts its = perform setting at (operation.set name) (scalar_value setting its.type_id (part_at its.offset parts) ∷ [])
-  scalar_started at (at_pointer front) parts its =
-      perform setting at (operation.offset its.offset) (pointer front ∷ []) >>= (λ address.
+  scalar_started at (at_address front) parts its =
+      perform setting at (operation.offset its.offset) (front ∷ []) >>= (λ address.
       perform setting at (operation.store (access_of_scalar its)) (address ∷ scalar_value setting its.type_id (part_at its.offset parts) ∷ []))
 
   -- all of them, in order

@@ -8,7 +8,7 @@
 --     operands first second          two operands, from the left; arguments are operands too
 --     shifted_by powers              a routine that moves or purges takes the next decision
 --     turn                           one turn is taken
-use Rattle.std.specs.Prelude.{ℕ, zero, suc, ◌==◌, Bool, true, false, not, ◌||◌, List, [], ◌∷◌, Option, Some, None}
+use Rattle.std.specs.Prelude.{ℕ, zero, suc, ◌==◌, Bool, true, false, not, ◌||◌, List, [], ◌∷◌}
 use Rattle.hs_base.specs.declared.pos.Pos.{Pos}
 use Rattle.hs_heap.specs.Shift.{Powers, shift}
 use Rattle.hs_heap.specs.declared.decision.Decision.{Decision}
@@ -19,7 +19,7 @@ use Rattle.hs_meaning.specs.Operations.{Operation, operate}
 use Rattle.hs_meaning.specs.Settings.{Setting}
 use Rattle.hs_meaning.specs.Values.{Value, bits_in, number_stop}
 use Rattle.hs_meaning.specs.declared.outcome.Outcome.{Outcome}
-use Rattle.hs_meaning.specs.declared.outcome.Outcome.TheVariants.{Finished, Stopped, TurnsSpent}
+use Rattle.hs_meaning.specs.declared.outcome.Outcome.TheVariants.{Stopped, TurnsSpent}
 
 -- where a run is
 pub record State : Type 0 where

@@ -1,10 +1,10 @@
 -- Statements and expressions that other rows leave out: `else`, a `return` inside a switch, declarations of two names, values of assignments,
 -- decisions that are taken after arguments, and what initialisers store.
-use Rattle.std.proofs.Common.{ℕ, pos, negsuc, Bool, true, false, List, [], ◌∷◌, ◌++◌, Some, None, refl, arith}
+use Rattle.std.proofs.Common.{ℕ, pos, negsuc, true, false, List, [], ◌∷◌, ◌++◌, Some, None, refl, arith}
 use Rattle.std.specs.Prelude.{codes}
 use Rattle.hs_heap.specs.declared.decision.Decision.{Decision}
-use Rattle.hs_meaning.proofs.Programs.Forms.{address, as_kind, body_with, calls, case, decay, forward, function_with, id, labelled, loaded, minus, more_types}
-use Rattle.hs_meaning.proofs.Programs.Forms.{of_ints, plain_routine, spent, switch, taken_variable, with_routine}
+use Rattle.hs_meaning.proofs.Programs.Forms.{as_kind, body_with, case, decay, forward, function_with, id, labelled, loaded, minus, more_types}
+use Rattle.hs_meaning.proofs.Programs.Forms.{of_ints, plain_routine, spent, switch, with_routine}
 use Rattle.hs_meaning.proofs.Programs.Frame.{made, written}
 use Rattle.hs_meaning.proofs.Programs.Row.{Run, run, ◌comes_to◌}
 use Rattle.hs_meaning.proofs.Programs.Terms.{at, at_pointer, char, done_by, everything, finished, function, get, head, int, local, long, no_input, num}
@@ -13,7 +13,6 @@ use Rattle.hs_meaning.specs.declared.outcome.Stop.TheVariants as stop
 use Rattle.hs_tree.specs.Trees.{RightValue, TypedDeclaration, TypedStatement}
 use Rattle.hs_tree.specs.Trees as tree
 use Rattle.hs_tree.specs.declared.head.VariableDecl.{VariableDecl}
-use Rattle.hs_tree.specs.declared.operators.Arithmetic.{Arithmetic}
 use Rattle.hs_tree.specs.declared.operators.Arithmetic.TheVariants.{Add, BitAnd, BitOr, Remainder}
 use Rattle.hs_tree.specs.declared.operators.Unary.TheVariants.{Plus}
 use Rattle.hs_types.specs.Rows.{void_id, integer_id, char_pointer_id, char_handle_id}

@@ -7,7 +7,7 @@ use Rattle.hs_meaning.proofs.Programs.Forms.{through, two}
 use Rattle.hs_meaning.proofs.Programs.Frame.{variables, made, written, printed}
 use Rattle.hs_meaning.proofs.Programs.Row.{Run, run, ◌comes_to◌}
 use Rattle.hs_meaning.proofs.Programs.Terms.{at_pointer, char, done_by, everything, finished, function, get, head, int, local, lock, long_num, no_input, num}
-use Rattle.hs_meaning.proofs.Programs.Terms.{nothing, one, program_with, put, return, stopped, unlock, variable}
+use Rattle.hs_meaning.proofs.Programs.Terms.{nothing, one, program_with, put, return, stopped, unlock}
 use Rattle.hs_meaning.specs.declared.outcome.Stop.TheVariants as stop
 use Rattle.hs_tree.specs.Trees.{RightValue, LeftValue, TypedStatement}
 use Rattle.hs_tree.specs.Trees as tree

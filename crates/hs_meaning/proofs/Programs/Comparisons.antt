@@ -2,7 +2,7 @@
 use Rattle.std.proofs.Common.{ℕ, pos, List, [], ◌∷◌, ◌++◌, refl, arith}
 use Rattle.std.specs.Prelude.{codes}
 use Rattle.hs_heap.specs.declared.decision.Decision.{Decision}
-use Rattle.hs_meaning.proofs.Programs.Forms.{as_kind, as_pointer, address, calls, compared, of_ints, plus, taken_variable, two}
+use Rattle.hs_meaning.proofs.Programs.Forms.{as_kind, address, calls, compared, of_ints, plus, taken_variable, two}
 use Rattle.hs_meaning.proofs.Programs.Frame.{variables, made, written}
 use Rattle.hs_meaning.proofs.Programs.Row.{Run, run, ◌comes_to◌}
 use Rattle.hs_meaning.proofs.Programs.Terms.{at_pointer, char, done_by, everything, finished, get, head, int, local, long, long_num, new_handle, no_input}

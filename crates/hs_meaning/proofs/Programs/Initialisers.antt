@@ -2,7 +2,7 @@
 use Rattle.std.proofs.Common.{ℕ, pos, List, [], ◌∷◌, Some, None, refl, arith}
 use Rattle.std.specs.Prelude.{true, codes}
 use Rattle.hs_meaning.proofs.Programs.Forms.{as_pointer, as_kind, calls, counted, compared, of_ints, function_with, body_with, starts, taken_variable}
-use Rattle.hs_meaning.proofs.Programs.Forms.{address, decay, loaded, element, id, field}
+use Rattle.hs_meaning.proofs.Programs.Forms.{address, decay, loaded, element, id}
 use Rattle.hs_meaning.proofs.Programs.Globals.{types, of_int, first_of_array, first_of_struct}
 use Rattle.hs_meaning.proofs.Programs.Row.{Run, run, ◌comes_to◌}
 use Rattle.hs_meaning.proofs.Programs.Terms.{char, int, get, put, local, num, one, done_by, return, new_handle, variable, program_with, no_input, finished}

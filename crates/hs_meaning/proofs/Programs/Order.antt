@@ -1,7 +1,6 @@
 -- In which order an operation is tested for its stops, where two of them apply; and stops of roles that other rows do not have.
 use Rattle.std.proofs.Common.{ℕ, pos, List, [], ◌∷◌, ◌++◌, refl, arith}
 use Rattle.std.specs.Prelude.{true, codes}
-use Rattle.hs_heap.specs.declared.decision.Decision.{Decision}
 use Rattle.hs_meaning.proofs.Programs.Forms.{address, as_kind, as_pointer, assigned, calls, compared, id, minus, more_types, nil, of_ints, plus, taken_variable}
 use Rattle.hs_meaning.proofs.Programs.Forms.{three, through, two}
 use Rattle.hs_meaning.proofs.Programs.Frame.{variables, made, written}

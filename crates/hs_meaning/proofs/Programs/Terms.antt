@@ -3,7 +3,7 @@
 --     local, global                       variables
 --     get, put, num, long_num             the value of a local, an assignment to one, and numbers
 --     program types ..                    a program with one function
-use Rattle.std.specs.Prelude.{ℕ, ℤ, pos, Bool, true, false, List, [], ◌∷◌, Some, codes}
+use Rattle.std.specs.Prelude.{ℕ, ℤ, Bool, true, false, List, [], ◌∷◌, Some, codes}
 use Rattle.hs_base.specs.declared.pos.Pos.{Pos}
 use Rattle.hs_heap.specs.declared.decision.Decision.{Decision}
 use Rattle.hs_heap.specs.declared.decision.Which.TheVariants.{All, These}

@@ -11,7 +11,7 @@ use Rattle.hs_meaning.specs.Evaluation.{Flow, onward, breaks, continues, returne
 use Rattle.hs_meaning.specs.Numbers.{signed}
 use Rattle.hs_meaning.specs.Runs.{called, finished, main_called, again_within}
 use Rattle.hs_meaning.specs.Statements.{opening_of}
-use Rattle.hs_meaning.specs.Steps.{Step, ◌>>=◌, ◌>>◌, give, ends, turn}
+use Rattle.hs_meaning.specs.Steps.{Step, ends, turn}
 use Rattle.hs_meaning.specs.Values.{Value}
 use Rattle.hs_meaning.specs.declared.outcome.Outcome.TheVariants.{TurnsSpent}
 use Rattle.hs_meaning.specs.Settings.{Setting}

@@ -1,14 +1,13 @@
 -- Two runs that correspond in each operation and job correspond in each expression.
-use Rattle.std.specs.Prelude.{◌≡◌, ℕ, pos, Bool, true, false, not, List, [], ◌∷◌, slice_get, Option, Some, None, ◌==◌}
+use Rattle.std.specs.Prelude.{◌≡◌, ℕ, pos, Bool, true, false, not, [], ◌∷◌, Option, Some, None, ◌==◌}
 use Rattle.std.proofs.Common.{refl, ap}
 use Rattle.hs_base.specs.declared.pos.Pos.{Pos}
-use Rattle.hs_meaning.specs.Beside.{Relation, Follows, gives, thens, eithers, Units, Same, Lists, Locations, Flows, Pairs, Leaves, Agains}
-use Rattle.hs_meaning.specs.Evaluation.{Flow, Job, call_of, Location, in_slot, at_pointer, read, written, address_of, read_with, reached, decided_by, bound_to, truth_value, on_one, on_two, updated, advanced, value_of, location_of, values_of, each_of, returned_value}
-use Rattle.hs_meaning.specs.Numbers.{truth}
+use Rattle.hs_meaning.specs.Beside.{Relation, Follows, gives, thens, Units, Same, Lists, Locations, Pairs, Leaves, Agains}
+use Rattle.hs_meaning.specs.Evaluation.{Flow, Job, Location, in_slot, at_address, read, written, read_with, decided_by, bound_to, truth_value, on_one, on_two, updated, advanced, value_of, addressed, location_of, values_of, each_of}
 use Rattle.hs_meaning.specs.Operations as operation
 use Rattle.hs_meaning.specs.Operations.{Operation}
-use Rattle.hs_meaning.specs.Steps.{Step, ◌>>=◌, ◌>>◌, give, either, acts, perform, condition, used, operands}
-use Rattle.hs_meaning.specs.Values.{Value, number, pointer, Access, pointer_in}
+use Rattle.hs_meaning.specs.Steps.{Step, ◌>>=◌, give, either, perform, condition, operands}
+use Rattle.hs_meaning.specs.Values.{Value, number, Access}
 use Rattle.hs_tree.specs.Trees as tree
 use Rattle.hs_meaning.specs.Settings.{Setting}
 use Rattle.hs_tree.specs.Trees.{RightValue, LeftValue, RightValues}
@@ -50,30 +49,41 @@ module _ (R : Relation) (setting : Setting) (leaves : Leaves R setting) where
 
   -- ---- objects
 
-  reached_alike : (a b : Value) → R.values a b → Locations R (reached a) (reached b)
-  reached_alike a b is = leaves.pointed a b is
-
   pub read_follows : (at : Pos) (access : Access) (a b : Location) → Locations R a b
       → Follows R R.values (read setting at access a) (read setting at access b)
   read_follows at access (in_slot a) (in_slot b) is =
       Rattle.std.proofs.Common.subst (λ n. Follows R R.values (read setting at access (in_slot a)) (read setting at access (in_slot n))) is
       (leaves.performed at (operation.get a) [] [] tt)
-  read_follows at access (in_slot a) (at_pointer b) is = absurd is
-  read_follows at access (at_pointer a) (in_slot b) is = absurd is
-  read_follows at access (at_pointer a) (at_pointer b) is = performed_one at (operation.load access) (pointer a) (pointer b) is
+  read_follows at access (in_slot a) (at_address b) is = absurd is
+  read_follows at access (at_address a) (in_slot b) is = absurd is
+  read_follows at access (at_address a) (at_address b) is = performed_one at (operation.load access) a b is
 
   pub written_follows : (at : Pos) (access : Access) (a b : Location) (v w : Value) → Locations R a b → R.values v w
       → Follows R R.values (written setting at access a v) (written setting at access b w)
   written_follows at access (in_slot a) (in_slot b) v w is so =
       Rattle.std.proofs.Common.subst (λ n. Follows R R.values (written setting at access (in_slot a) v) (written setting at access (in_slot n) w)) is
       (performed_one at (operation.set a) v w so)
-  written_follows at access (in_slot a) (at_pointer b) v w is so = absurd is
-  written_follows at access (at_pointer a) (in_slot b) v w is so = absurd is
-  written_follows at access (at_pointer a) (at_pointer b) v w is so = performed_two at (operation.store access) (pointer a) (pointer b) v w is so
+  written_follows at access (in_slot a) (at_address b) v w is so = absurd is
+  written_follows at access (at_address a) (in_slot b) v w is so = absurd is
+  written_follows at access (at_address a) (at_address b) v w is so = performed_two at (operation.store access) a b v w is so
 
   read_with_follows : (at : Pos) (access : Access) (a b : Location) → Locations R a b
       → Follows R (Pairs R (Locations R) R.values) (read_with setting at access a) (read_with setting at access b)
   read_with_follows at access a b is = thens (read_follows at access a b is) (λ v w so. gives (is, so))
+
+  -- the object at an address, if it is no variable
+  reached_follows : {f g : Step Value} → Follows R R.values f g
+      → Follows R (Locations R) (f >>= (λ its. give (at_address its))) (g >>= (λ its. give (at_address its)))
+  reached_follows address = thens address (λ a b is. gives is)
+
+  -- the object that an lvalue designates
+  located_follows : (e : LeftValue) {f g : Step Value} → Follows R R.values f g → Follows R (Locations R) (location_of e f) (location_of e g)
+  located_follows (tree.variable head name) address = leaves.variable head.at.pos name
+  located_follows (tree.literal head place) address = reached_follows address
+  located_follows (tree.target head its) address = reached_follows address
+  located_follows (tree.element head size pointer_first a b) address = reached_follows address
+  located_follows (tree.member head field bytes object) address = reached_follows address
+  located_follows (tree.arrow head field bytes its) address = reached_follows address
 
   -- ---- operands
 
@@ -128,9 +138,9 @@ module _ (R : Relation) (setting : Setting) (leaves : Leaves R setting) where
       pub value_follows : (e : RightValue) → Follows R R.values (value_of setting again e) (value_of setting other e)
       value_follows (tree.number head bits) = gives (number_follows bits)
       value_follows (tree.nil head) = gives (leaves.constant constant.Nil)
-      value_follows (tree.load head object) = thens (location_follows object) (λ a b is. read_follows head.at.pos _ a b is)
-      value_follows (tree.decay head array) = thens (location_follows array) (λ a b is. leaves.address head.at.pos a b is)
-      value_follows (tree.address head object) = thens (location_follows object) (λ a b is. leaves.address head.at.pos a b is)
+      value_follows (tree.load head object) = thens (located_follows object (address_follows object)) (λ a b is. read_follows head.at.pos _ a b is)
+      value_follows (tree.decay head array) = address_follows array
+      value_follows (tree.address head object) = address_follows object
       value_follows (tree.cast head operand) = value_follows operand
       value_follows (tree.convert_number head kind operand) = on_one_follows head (operation.convert kind) (value_follows operand)
       value_follows (tree.convert_pointer head operand) = value_follows operand
@@ -156,20 +166,20 @@ module _ (R : Relation) (setting : Setting) (leaves : Leaves R setting) where
           tested head.at.pos (value_follows test) (value_follows first) (value_follows second)
       value_follows (tree.comma head lefts last) = thens (each_follows lefts) (λ a b is. value_follows last)
       value_follows (tree.assign head into from) =
-          thens (operands_follow (location_follows into) (value_follows from))
+          thens (operands_follow (located_follows into (address_follows into)) (value_follows from))
           (λ a b is. written_follows head.at.pos _ a.0 b.0 a.1 b.1 is.0 is.1)
       value_follows (tree.update head operator kind to into from) =
-          thens (operands_follow (thens (location_follows into) (λ a b is. read_with_follows head.at.pos _ a b is)) (value_follows from))
+          thens (operands_follow (thens (located_follows into (address_follows into)) (λ a b is. read_with_follows head.at.pos _ a b is)) (value_follows from))
           (λ a b is. updated_follows head _ (operation.arithmetic operator kind) (operation.convert to) a.0.0 b.0.0 a.0.1 b.0.1 a.1 b.1 is.0.0 is.0.1 is.1)
       value_follows (tree.advance head stride into from) =
-          thens (operands_follow (thens (location_follows into) (λ a b is. read_with_follows head.at.pos _ a b is)) (value_follows from))
+          thens (operands_follow (thens (located_follows into (address_follows into)) (λ a b is. read_with_follows head.at.pos _ a b is)) (value_follows from))
           (λ a b is. advanced_follows head _ stride a.0.0 b.0.0 a.0.1 b.0.1 a.1 b.1 is.0.0 is.0.1 is.1)
       value_follows (tree.post_update head operator kind to into) =
-          thens (thens (location_follows into) (λ a b is. read_with_follows head.at.pos _ a b is))
+          thens (thens (located_follows into (address_follows into)) (λ a b is. read_with_follows head.at.pos _ a b is))
           (λ a b is. thens (updated_follows head _ (operation.arithmetic operator kind) (operation.convert to) a.0 b.0 a.1 b.1 (number 1) (number 1)
           is.0 is.1 (number_follows 1)) (λ m n so. gives is.1))
       value_follows (tree.post_advance head stride into) =
-          thens (thens (location_follows into) (λ a b is. read_with_follows head.at.pos _ a b is))
+          thens (thens (located_follows into (address_follows into)) (λ a b is. read_with_follows head.at.pos _ a b is))
           (λ a b is. thens (advanced_follows head _ stride a.0 b.0 a.1 b.1 (number 1) (number 1) is.0 is.1 (number_follows 1)) (λ m n so. gives is.1))
       value_follows (tree.call head place routine arguments) =
           thens (thens (values_follow arguments) (λ a b is. thens (decided_follows routine) (λ m n so. agains.calls place head.at.pos a b is)))
@@ -177,19 +187,15 @@ module _ (R : Relation) (setting : Setting) (leaves : Leaves R setting) where
       value_follows (tree.call_routine head place arguments) =
           thens (values_follow arguments) (λ a b is. thens (leaves.decided place) (λ m n so. leaves.performed head.at.pos (operation.routine place) a b is))
 
-      -- the object that it designates
-      pub location_follows : (e : LeftValue) → Follows R (Locations R) (location_of setting again e) (location_of setting other e)
-      location_follows (tree.variable head name) = leaves.variable head.at.pos name
-      location_follows (tree.literal head place) = gives (leaves.constant (constant.Address (base.Literal place) (pos 0)))
-      location_follows (tree.target head its) = thens (value_follows its) (λ a b is. gives (reached_alike a b is))
-      location_follows (tree.element head size pointer_first a b) =
-          thens (on_two_follows head (operation.step (record { size = size; backward = false }) pointer_first) (value_follows a) (value_follows b))
-          (λ a b is. gives (reached_alike a b is))
-      location_follows (tree.member head field bytes object) =
-          thens (on_one_follows head (operation.offset bytes) (thens (location_follows object) (λ a b is. leaves.address head.at.pos a b is)))
-          (λ a b is. gives (reached_alike a b is))
-      location_follows (tree.arrow head field bytes its) =
-          thens (on_one_follows head (operation.offset bytes) (value_follows its)) (λ a b is. gives (reached_alike a b is))
+      -- the address of an object
+      pub address_follows : (e : LeftValue) → Follows R R.values (addressed setting again e) (addressed setting other e)
+      address_follows (tree.variable head name) = thens (leaves.variable head.at.pos name) (λ a b is. leaves.address head.at.pos a b is)
+      address_follows (tree.literal head place) = gives (leaves.constant (constant.Address (base.Literal place) (pos 0)))
+      address_follows (tree.target head its) = value_follows its
+      address_follows (tree.element head size pointer_first a b) =
+          on_two_follows head (operation.step (record { size = size; backward = false }) pointer_first) (value_follows a) (value_follows b)
+      address_follows (tree.member head field bytes object) = on_one_follows head (operation.offset bytes) (address_follows object)
+      address_follows (tree.arrow head field bytes its) = on_one_follows head (operation.offset bytes) (value_follows its)
 
       -- arguments
       pub values_follow : (its : RightValues) → Follows R (Lists R) (values_of setting again its) (values_of setting other its)

@@ -1,15 +1,13 @@
 -- Two runs that correspond in each operation and job correspond in each statement.
-use Rattle.std.proofs.Common.{◌≡◌, ℕ, pos, Bool, true, false, List, [], ◌∷◌, slice_get, Option, Some, None, refl, subst}
+use Rattle.std.proofs.Common.{◌≡◌, ℕ, Bool, true, false, List, [], ◌∷◌, Option, Some, None, refl, subst}
 use Rattle.hs_base.specs.declared.pos.Pos.{Pos}
-use Rattle.hs_meaning.specs.Beside.{Relation, Follows, gives, thens, eithers, Units, Same, Lists, Locations, Flows, Leaves, Agains}
+use Rattle.hs_meaning.specs.Beside.{Relation, Follows, gives, thens, eithers, Units, Same, Locations, Flows, Leaves, Agains}
 use Rattle.hs_meaning.specs.Beside.Expressions as expressions
-use Rattle.hs_meaning.specs.Evaluation.{Flow, onward, breaks, continues, returned, Job, turn_of, Location, in_slot, at_pointer, value_of, variable_at, written}
-use Rattle.hs_meaning.specs.Frames.{missing_value}
+use Rattle.hs_meaning.specs.Evaluation.{Flow, onward, breaks, continues, returned, Job, Location, in_slot, at_address, value_of}
 use Rattle.hs_meaning.specs.Operations as operation
 use Rattle.hs_meaning.specs.Scalars.{Scalar, scalars_of}
 use Rattle.hs_meaning.specs.Statements.{Entry, from_start, entry_for, begins, after, after_turn, after_switch, part_at, scalar_value, type_in, closing_of, access_of_scalar, scalar_started, scalars_started, value_started, started, items_started, declarations_started, evaluated, tested, turns_if, returns, executed, executed_block, executed_switch, executed_all, next_turn, ended_at, body_of}
-use Rattle.hs_meaning.specs.Steps.{Step, ◌>>=◌, ◌>>◌, give, either, acts, perform, used, condition}
-use Rattle.hs_meaning.specs.Values.{Value, number, pointer}
+use Rattle.hs_meaning.specs.Steps.{Step, ◌>>=◌, condition}
 use Rattle.hs_tree.specs.Trees as tree
 use Rattle.hs_meaning.specs.Settings.{Setting}
 use Rattle.hs_tree.specs.Trees.{RightValue, Starting, TypedItem, TypedDeclaration, TypedStatement, TypedBlock, TypedStatements, TypedFunction}
@@ -101,10 +99,10 @@ module _ (R : Relation) (setting : Setting) (leaves : Leaves R setting) (again o
       subst (λ n. Follows R R.values (scalar_started setting again function at (in_slot a) parts its)
       (scalar_started setting other function at (in_slot n) parts its)) is
       (expressions.performed_one R setting leaves at (operation.set a) _ _ (scalar_value_follows its.type_id (part_at its.offset parts)))
-  scalar_follows at (in_slot a) (at_pointer b) parts its is = absurd is
-  scalar_follows at (at_pointer a) (in_slot b) parts its is = absurd is
-  scalar_follows at (at_pointer a) (at_pointer b) parts its is =
-      thens (expressions.performed_one R setting leaves at (operation.offset its.offset) (pointer a) (pointer b) is)
+  scalar_follows at (in_slot a) (at_address b) parts its is = absurd is
+  scalar_follows at (at_address a) (in_slot b) parts its is = absurd is
+  scalar_follows at (at_address a) (at_address b) parts its is =
+      thens (expressions.performed_one R setting leaves at (operation.offset its.offset) a b is)
       (λ v w so. expressions.performed_two R setting leaves at (operation.store (access_of_scalar setting again function its)) v w _ _ so
       (scalar_value_follows its.type_id (part_at its.offset parts)))
 

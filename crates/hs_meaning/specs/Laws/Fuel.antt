@@ -1,25 +1,24 @@
 -- Fuel: a run never needs more fuel than one for each turn, and one.
 --     Bounded most            the pace: one state, with at most so many turns
 --     enough_fuel             the law
-use Rattle.std.proofs.Common.{◌≡◌, ◌≤◌, ℤ, ℕ, zero, suc, List, [], slice_get, Option, Some, None, refl, sym, ap, ◌∙◌, subst, arith}
+use Rattle.std.proofs.Common.{◌≡◌, ◌≤◌, ℤ, ℕ, zero, suc, List, slice_get, refl, sym, ap, ◌∙◌, subst, arith}
 use Rattle.hs_base.specs.declared.pos.Pos.{Pos}
 use Rattle.hs_heap.specs.declared.decision.Decision.{Decision}
-use Rattle.hs_meaning.specs.Beside.{Relation, Alike, Follows, gives, Units, Same, Lists, Flows, Leaves, Agains}
+use Rattle.hs_meaning.specs.Beside.{Relation, Alike, Follows, Same, Lists, Flows, Leaves, Agains}
 use Rattle.hs_meaning.specs.Beside.Calls as calls
 use Rattle.hs_meaning.specs.Beside.Statements as statements
-use Rattle.hs_meaning.specs.Evaluation.{Flow, Job, turn_of, call_of, decided_by, powers_of}
+use Rattle.hs_meaning.specs.Evaluation.{Flow, Job}
 use Rattle.hs_meaning.specs.Laws.Paces.{Pace, at_pace, leaves_at, decides_by}
-use Rattle.hs_meaning.specs.Machine.{Machine, Done, done, stopped}
+use Rattle.hs_meaning.specs.Machine.{Done, done, stopped}
 use Rattle.hs_meaning.specs.Runs.{work, called, again_within, starting, ran_within}
 use Rattle.hs_meaning.specs.Statements.{next_turn}
 use Rattle.hs_meaning.specs.Settings.{Setting, setting_of}
-use Rattle.hs_meaning.specs.Steps.{State, Ran, went, over, Step, then_with, either, decided, shifted_by, acts, ran_at, turn_from}
+use Rattle.hs_meaning.specs.Steps.{State, Ran, went, over, Step, then_with, ran_at, turn_from}
 use Rattle.hs_meaning.specs.Values.{Value}
 use Rattle.hs_meaning.specs.declared.input.Input.{Input}
 use Rattle.hs_meaning.specs.declared.outcome.Outcome.{Outcome}
 use Rattle.hs_meaning.specs.declared.outcome.Outcome.TheVariants.{Finished}
 use Rattle.hs_tree.specs.Trees.{TypedFunction, TypedStatement, TypedProgram}
-use Rattle.hs_tree.specs.declared.function.BoundRoutine.{BoundRoutine}
 
 -- the other run has ended likewise
 abbrev pub IsEnding : {A : Type 0} → Outcome → State → Ran A → Type 0

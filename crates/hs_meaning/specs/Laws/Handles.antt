@@ -1,9 +1,9 @@
 -- An access through a handle that is no load of a pointer stops with BadLoad, whatever the state of the block.
-use Rattle.std.proofs.Common.{◌≡◌, ℕ, List, [], ◌∷◌, Option, Some, None, refl}
+use Rattle.std.proofs.Common.{◌≡◌, ℕ, None, refl}
 use Rattle.hs_heap.specs.declared.cell.Pointer.TheVariants.{Handle}
-use Rattle.hs_meaning.specs.Accesses.{loaded, stored, unless_stopped, use_stops, with_cells_at}
+use Rattle.hs_meaning.specs.Accesses.{loaded, stored}
 use Rattle.hs_meaning.specs.Machine.{Machine, stopped}
-use Rattle.hs_meaning.specs.Values.{Value, Access, of_number, of_pointer, of_struct, cells_for, store_stop, length_of}
+use Rattle.hs_meaning.specs.Values.{Value, Access, of_number, of_struct, store_stop}
 use Rattle.hs_meaning.specs.declared.outcome.Stop.TheVariants as stop
 use Rattle.hs_types.specs.declared.integer.Integer.{Integer}
 

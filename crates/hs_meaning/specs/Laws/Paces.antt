@@ -6,15 +6,15 @@
 use Rattle.std.proofs.Common.{◌≡◌, ℤ, ℕ, ◌||◌, List, [], ◌∷◌, slice_get, Option, Some, None, refl, ap, ◌∙◌, subst}
 use Rattle.hs_base.specs.declared.pos.Pos.{Pos}
 use Rattle.hs_meaning.specs.Beside.{Relation, Follows, gives, eithers, Units, Same, Lists, Locations, Flows, Leaves}
-use Rattle.hs_meaning.specs.Evaluation.{Flow, onward, breaks, continues, returned, Location, in_slot, at_pointer, variable_at, address_of, decided_by, powers_of, returned_value}
+use Rattle.hs_meaning.specs.Evaluation.{Flow, onward, breaks, continues, returned, Location, in_slot, at_address, variable_at, address_of, decided_by, powers_of, returned_value}
 use Rattle.hs_meaning.specs.Frames.{missing_value, opened}
 use Rattle.hs_heap.specs.Shift.{Powers}
 use Rattle.hs_tree.specs.declared.function.BoundRoutine.{BoundRoutine}
-use Rattle.hs_meaning.specs.Machine.{Machine, Binding, Done, done, stopped}
-use Rattle.hs_meaning.specs.Operations.{Operation, operate}
+use Rattle.hs_meaning.specs.Machine.{Machine, Done, stopped}
+use Rattle.hs_meaning.specs.Operations.{operate}
 use Rattle.hs_meaning.specs.Runs.{own_locals, closes}
-use Rattle.hs_meaning.specs.Steps.{State, Ran, went, over, Step, then_with, ends, acts, decided, perform, used, number_used}
-use Rattle.hs_meaning.specs.Values.{Value, pointer, pointer_in}
+use Rattle.hs_meaning.specs.Steps.{State, Ran, went, over, Step, then_with, acts, decided, perform, used, number_used}
+use Rattle.hs_meaning.specs.Values.{Value}
 use Rattle.hs_meaning.specs.declared.outcome.Outcome.{Outcome}
 use Rattle.hs_meaning.specs.declared.outcome.Outcome.TheVariants.{Finished}
 use Rattle.hs_meaning.specs.declared.outcome.Stop.TheVariants as stop
@@ -57,9 +57,9 @@ module _ (pace : Pace) where
 
   locations_same : (a b : Location) → Locations relation a b → a ≡ b
   locations_same (in_slot a) (in_slot b) is = ap in_slot is
-  locations_same (in_slot a) (at_pointer b) is = absurd is
-  locations_same (at_pointer a) (in_slot b) is = absurd is
-  locations_same (at_pointer a) (at_pointer b) is = ap (λ v. at_pointer (pointer_in v)) is
+  locations_same (in_slot a) (at_address b) is = absurd is
+  locations_same (at_address a) (in_slot b) is = absurd is
+  locations_same (at_address a) (at_address b) is = ap at_address is
 
   flows_same : (a b : Flow) → Flows relation a b → a ≡ b
   flows_same onward onward is = refl
@@ -84,7 +84,7 @@ module _ (pace : Pace) where
     where
       itself : (a : Location) → Locations relation a a
       itself (in_slot a) = refl
-      itself (at_pointer a) = refl
+      itself (at_address a) = refl
 
   module _ {A : Type 0} {same : A → A → Type 0} (widened : (a b : A) → a ≡ b → same a b) where
     wider : (r r' : Ran A) → Rattle.hs_meaning.specs.Beside.Alike relation Same r r' → Rattle.hs_meaning.specs.Beside.Alike relation same r r'
@@ -111,7 +111,6 @@ module _ (pace : Pace) where
   leaves_at setting its =
       record {
         constant = λ c. refl;
-        pointed = λ a b is. ap (λ v. pointer (pointer_in v)) is;
         performed = λ at op a b is. by_equal (λ vs. perform setting at op vs) a b (lists_same a b is) (its.acts_alike at (operate setting op a));
         used_as = λ at a b is. by_equal (λ v. used at v) a b is (its.acts_alike at (number_used a));
         variable = λ at name. follows_wider locations_of (its.acts_alike at (variable_at name));

@@ -10,14 +10,14 @@ use Rattle.hs_heap.specs.Blocks.{Block}
 use Rattle.hs_heap.specs.Shift.{Powers, shift, shift_from, shifted}
 use Rattle.hs_heap.specs.declared.decision.Decision.{Decision}
 use Rattle.hs_heap.specs.declared.decision.Which.TheVariants.{These}
-use Rattle.hs_meaning.specs.Beside.{Relation, Alike, Follows, gives, thens, Units, Same, Leaves}
+use Rattle.hs_meaning.specs.Beside.{Relation, Alike, Follows, gives, Units, Same, Leaves}
 use Rattle.hs_meaning.specs.Beside.Calls as calls
 use Rattle.hs_meaning.specs.Evaluation.{decided_by, powers_of}
 use Rattle.hs_meaning.specs.Laws.Paces.{Pace, at_pace, leaves_at, decides_by}
-use Rattle.hs_meaning.specs.Machine.{Machine, Done, done, stopped, with_blocks}
+use Rattle.hs_meaning.specs.Machine.{Done, done, stopped, with_blocks}
 use Rattle.hs_meaning.specs.Runs.{starting, ran_within, run, still_run, ending_of}
-use Rattle.hs_meaning.specs.Settings.{Setting, setting_of}
-use Rattle.hs_meaning.specs.Steps.{State, Ran, went, over, Step, then_with, either, decided, next_decision, later_decisions, after_decision, acts, ran_at, turn, turn_from}
+use Rattle.hs_meaning.specs.Settings.{setting_of}
+use Rattle.hs_meaning.specs.Steps.{State, Ran, went, over, Step, then_with, either, decided, next_decision, later_decisions, after_decision, ran_at, turn, turn_from}
 use Rattle.hs_meaning.specs.declared.input.Input.{Input}
 use Rattle.hs_meaning.specs.declared.outcome.Outcome.{Outcome}
 use Rattle.hs_tree.specs.Trees.{TypedProgram}

@@ -9,7 +9,7 @@ use Rattle.hs_heap.specs.Shift.{Powers}
 use Rattle.hs_meaning.specs.Beside.{Relation, Alike, Follows, gives, thens, Units, Same, Lists, Locations, Flows, Leaves, Agains}
 use Rattle.hs_meaning.specs.Beside.Calls as calls
 use Rattle.hs_meaning.specs.Beside.Statements as statements
-use Rattle.hs_meaning.specs.Evaluation.{Flow, onward, breaks, continues, returned, Location, in_slot, at_pointer, variable_at, address_of, decided_by, powers_of, returned_value}
+use Rattle.hs_meaning.specs.Evaluation.{Flow, onward, breaks, continues, returned, Location, in_slot, at_address, variable_at, address_of, decided_by, powers_of, returned_value}
 use Rattle.hs_meaning.specs.Frames.{missing_value, opened}
 use Rattle.hs_meaning.specs.Laws.Schedules.{AreStill, decision_stays, HasNoMovers, movers_alone_see_schedules}
 use Rattle.hs_meaning.specs.Laws.Unmoved.{IsUnmoved, IsStillMachine, IsStillDone, IsUnmovedLocation, IsUnmovedFlow}
@@ -18,17 +18,13 @@ use Rattle.hs_meaning.specs.Laws.Unmoved.Fine.{Anything}
 use Rattle.hs_meaning.specs.Laws.Unmoved.Frames.{AreUnmovedBindings, opened_still, closed_still, owned_still, missing_still}
 use Rattle.hs_meaning.specs.Laws.Unmoved.Operations.{operated}
 use Rattle.hs_meaning.specs.Laws.Unmoved.Starts.{constant_unmoved, starting_is_still}
-use Rattle.hs_meaning.specs.Laws.Unmoved.Values.{pointer_in_unmoved}
 use Rattle.hs_meaning.specs.Machine.{Machine, Done, done, stopped}
 use Rattle.hs_meaning.specs.Operations.{Operation, operate}
 use Rattle.hs_meaning.specs.Runs.{own_locals, closes, again_within, starting, ran_in, ran_within, still_run, ending_of, IsMisuse, IsSafe}
 use Rattle.hs_meaning.specs.Settings.{Setting, setting_of}
 use Rattle.hs_meaning.specs.Steps.{State, Ran, went, over, Step, either, decided, after_decision, later_decisions, acts, ran_at, perform, used, number_used, turn, turn_from}
-use Rattle.hs_meaning.specs.Values.{Value, pointer, pointer_in}
+use Rattle.hs_meaning.specs.Values.{Value}
 use Rattle.hs_meaning.specs.declared.input.Input.{Input}
-use Rattle.hs_meaning.specs.declared.outcome.Outcome.TheVariants.{Stopped}
-use Rattle.hs_meaning.specs.declared.outcome.Stop.{Stop}
-use Rattle.hs_meaning.specs.declared.outcome.Stop.TheVariants as stop
 use Rattle.hs_tree.specs.Trees.{TypedFunction, TypedProgram}
 use Rattle.hs_tree.specs.declared.function.BoundRoutine.{BoundRoutine}
 use Rattle.hs_tree.specs.declared.head.VariableDecl.{VariableDecl}
@@ -58,9 +54,9 @@ lists_unmoved (a ∷ rest) (b ∷ others) is = both (lists_unmoved rest others i
 
 locations_unmoved : (a b : Location) → Locations Still a b → (a ≡ b) × IsUnmovedLocation a
 locations_unmoved (in_slot a) (in_slot b) is = (ap in_slot is, tt)
-locations_unmoved (in_slot a) (at_pointer b) is = absurd is
-locations_unmoved (at_pointer a) (in_slot b) is = absurd is
-locations_unmoved (at_pointer a) (at_pointer b) is = (ap (λ v. at_pointer (pointer_in v)) is.0, is.1)
+locations_unmoved (in_slot a) (at_address b) is = absurd is
+locations_unmoved (at_address a) (in_slot b) is = absurd is
+locations_unmoved (at_address a) (at_address b) is = (ap at_address is.0, is.1)
 
 flows_unmoved : (a b : Flow) → Flows Still a b → (a ≡ b) × IsUnmovedFlow a
 flows_unmoved onward onward is = (refl, tt)
@@ -82,7 +78,7 @@ flows_unmoved (returned v at) (returned w at') is = (ap (λ v. returned v at) is
 
 locations_of : (a : Location) → IsUnmovedLocation a → Locations Still a a
 locations_of (in_slot a) is = refl
-locations_of (at_pointer a) is = (refl, is)
+locations_of (at_address a) is = (refl, is)
 
 -- ---- what the machine does
 
@@ -165,7 +161,6 @@ leaves : (setting : Setting) → Leaves Still setting
 leaves setting =
     record {
       constant = λ its. (refl, constant_unmoved setting its);
-      pointed = λ a b is. (ap (λ v. pointer (pointer_in v)) is.0, pointer_in_unmoved a is.1);
       performed = λ at its a b is. performed_still setting at its a b (lists_unmoved a b is);
       used_as = λ at a b is.
           of_equal Same (λ v. used at v) a b is.0

@@ -2,24 +2,21 @@
 --     later more s                         the state with more turns
 --     MoreTurns more                       the pace
 --     stays_with_more_turns                the law
-use Rattle.std.proofs.Common.{◌≡◌, ◌≤◌, ℤ, ℕ, zero, suc, ◌+◌, Bool, true, false, List, [], ◌∷◌, slice_get, Option, Some, None, refl, sym, ap, ◌∙◌, subst, arith}
+use Rattle.std.proofs.Common.{◌≡◌, ◌≤◌, ℤ, ℕ, zero, suc, ◌+◌, List, slice_get, refl, sym, ap, ◌∙◌, subst, arith}
 use Rattle.hs_base.specs.declared.pos.Pos.{Pos}
-use Rattle.hs_heap.specs.Shift.{Powers}
 use Rattle.hs_heap.specs.declared.decision.Decision.{Decision}
-use Rattle.hs_meaning.specs.Beside.{Relation, Alike, Follows, gives, thens, Units, Same, Leaves}
+use Rattle.hs_meaning.specs.Beside.{Relation, Alike, Follows, Units, Same, Leaves}
 use Rattle.hs_meaning.specs.Beside.Calls as calls
-use Rattle.hs_meaning.specs.Evaluation.{decided_by, powers_of}
 use Rattle.hs_meaning.specs.Laws.Fuel.{enough_fuel}
 use Rattle.hs_meaning.specs.Laws.Paces.{Pace, at_pace, leaves_at, decides_by}
-use Rattle.hs_meaning.specs.Machine.{Machine, Done, done, stopped}
-use Rattle.hs_meaning.specs.Runs.{starting, ran_within, run, Ending, ending_of}
+use Rattle.hs_meaning.specs.Machine.{Done, done, stopped}
+use Rattle.hs_meaning.specs.Runs.{starting, ran_within, run, ending_of}
 use Rattle.hs_meaning.specs.Settings.{Setting, setting_of}
-use Rattle.hs_meaning.specs.Steps.{State, Ran, went, over, Step, then_with, either, decided, shifted_by, after_decision, acts, ran_at, turn, turn_from}
+use Rattle.hs_meaning.specs.Steps.{State, Ran, went, over, Step, then_with, ran_at, turn, turn_from}
 use Rattle.hs_meaning.specs.declared.input.Input.{Input}
 use Rattle.hs_meaning.specs.declared.outcome.Outcome.{Outcome}
 use Rattle.hs_meaning.specs.declared.outcome.Outcome.TheVariants.{Finished, Stopped, TurnsSpent}
 use Rattle.hs_tree.specs.Trees.{TypedProgram}
-use Rattle.hs_tree.specs.declared.function.BoundRoutine.{BoundRoutine}
 
 -- the same state, with so many turns more
 abbrev pub later : ℕ → State → State

@@ -23,7 +23,7 @@ use Rattle.hs_heap.specs.declared.cell.Cell.TheVariants.{Undefined, Byte, State,
 use Rattle.hs_heap.specs.declared.cell.Pointer.{Pointer}
 use Rattle.hs_heap.specs.declared.presence.Presence.{Presence}
 use Rattle.hs_heap.specs.declared.presence.Presence.TheVariants.{Present, Emptied, Purged, Disposed}
-use Rattle.hs_meaning.specs.Evaluation.{Flow, onward, breaks, continues, returned, Location, in_slot, at_pointer}
+use Rattle.hs_meaning.specs.Evaluation.{Flow, onward, breaks, continues, returned, Location, in_slot, at_address}
 use Rattle.hs_meaning.specs.Runs.{IsMisuseStop}
 use Rattle.hs_meaning.specs.Machine.{Machine, Object, Binding, slot, object_at, Done, done, stopped}
 use Rattle.hs_meaning.specs.Values.{Value, number, pointer, state, structure, epoch_of}
@@ -85,10 +85,10 @@ abbrev pub IsStillDone : {A : Type 0} → (A → Type 0) → Done A → Type 0
 IsStillDone fact (done it machine) = fact it × IsStillMachine machine
 IsStillDone fact (stopped why machine) = ¬ (IsMisuseStop why)
 
--- where such a pointer reaches
+-- at such an address
 abbrev pub IsUnmovedLocation : Location → Type 0
 IsUnmovedLocation (in_slot name) = Unit {0}
-IsUnmovedLocation (at_pointer its) = IsUnmovedPointer its
+IsUnmovedLocation (at_address its) = IsUnmoved its
 
 -- a return of such a value
 abbrev pub IsUnmovedFlow : Flow → Type 0

@@ -5,7 +5,7 @@ use Rattle.std.proofs.Common.{ℕ, suc, pos, Bool, true, false, List, [], ◌∷
 use Rattle.hs_heap.specs.declared.cell.Pointer.TheVariants.{Fixed}
 use Rattle.hs_meaning.specs.Accesses.{stored}
 use Rattle.hs_meaning.specs.Classes.{class_of_type}
-use Rattle.hs_meaning.specs.Evaluation.{Flow, onward, breaks, continues, returned, Location, in_slot, at_pointer, located, variable_at, address_of, returned_value}
+use Rattle.hs_meaning.specs.Evaluation.{Flow, onward, breaks, continues, returned, Location, in_slot, at_address, located, variable_at, address_of, returned_value}
 use Rattle.hs_meaning.specs.Frames.{has_frame, in_frame, given_to, given_all, opened_if, opened, without_objects, missing_by, missing_value}
 use Rattle.hs_meaning.specs.Laws.Epochs.{EpochsStay, KeepsEpochs, same_stay, keeps_after, by_stop_keeps, and_then_keeps}
 use Rattle.hs_meaning.specs.Laws.Epochs.Accesses.{stored_keeps}
@@ -39,7 +39,7 @@ variable_keeps variable machine = located_keeps variable (binding_of variable ma
 -- the address of an object
 pub address_keeps : (its : Location) (machine : Machine) → KeepsEpochs machine (address_of its machine)
 address_keeps (in_slot variable) machine = same_stay machine
-address_keeps (at_pointer its) machine = same_stay machine
+address_keeps (at_address its) machine = same_stay machine
 
 -- the value that a function returned
 pub returned_keeps : (flow : Flow) (machine : Machine) → KeepsEpochs machine (returned_value flow machine)

@@ -4,7 +4,7 @@
 --     address_still            the address of an object
 --     returned_still           the value that a function returned
 use Rattle.std.proofs.Common.{Option, Some, None, refl}
-use Rattle.hs_meaning.specs.Evaluation.{Flow, onward, breaks, continues, returned, Location, in_slot, at_pointer, located, variable_at, address_of, returned_value}
+use Rattle.hs_meaning.specs.Evaluation.{Flow, onward, breaks, continues, returned, Location, in_slot, at_address, located, variable_at, address_of, returned_value}
 use Rattle.hs_meaning.specs.Laws.Unmoved.{IsUnmoved, IsUnmovedLocation, IsUnmovedFlow, IsStillMachine, IsStillDone}
 use Rattle.hs_meaning.specs.Laws.Unmoved.Fine.{Anything, number_fine, by_stop_still}
 use Rattle.hs_meaning.specs.Machine.{Machine, Binding, slot, object_at, binding_of}
@@ -30,7 +30,7 @@ variable_still variable machine still = located_still variable (binding_of varia
 pub address_still : (its : Location) (machine : Machine) → IsUnmovedLocation its → IsStillMachine machine
     → IsStillDone IsUnmoved (address_of its machine)
 address_still (in_slot variable) machine is still = λ is. is
-address_still (at_pointer its) machine is still = (is, still)
+address_still (at_address its) machine is still = (is, still)
 
 -- the value that a function returned
 pub returned_still : (flow : Flow) (machine : Machine) → IsUnmovedFlow flow → IsStillMachine machine
