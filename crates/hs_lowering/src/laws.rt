@@ -1,0 +1,40 @@
+//! Laws of the code of expressions. Each is a function without a body, so that a caller can name it.
+
+ghost use Rattle.std.specs.Prelude.{ℕ, Bool, List, ◌∷◌};
+ghost use Rattle.hs_code.specs.declared.function_code.FunctionCode.{FunctionCode};
+ghost use Rattle.hs_code_run.specs.Codes.{CodeProgram, Waiting};
+ghost use Rattle.hs_lowering.specs.Laws.Calls.{Calls};
+ghost use Rattle.hs_lowering.specs.Laws.Expressions.{FitsCall};
+ghost use Rattle.hs_lowering.specs.Lowering.{after, right_code, address_code};
+ghost use Rattle.hs_lowering.specs.Performing.{Any, Holds, Performs, at_point};
+ghost use Rattle.hs_meaning.specs.Evaluation.{Flow, Job, value_of, addressed};
+ghost use Rattle.hs_meaning.specs.Steps.{Step};
+ghost use Rattle.hs_meaning.specs.Values.{Value};
+ghost use Rattle.hs_tree.specs.Inside.{EachRight, EachLeft};
+ghost use Rattle.hs_tree.specs.Trees.{RightValue, LeftValue};
+ghost use Rattle.hs_tree.specs.declared.head.VariableDecl.{VariableDecl};
+
+/// The code of an expression evaluates it: a run that comes to its first operation ends as the evaluation ends, in the same state and with the
+/// same stop at the same place, or goes on behind the code with the value above the stack. The same holds of the address of an object.
+///
+/// It is asked that the code performs calls of functions (`Calls`), and that each call has as many arguments as there are parameters.
+pub fn code_of_expressions_is_exact()
+    ensures value { (program : CodeProgram) (variables : List VariableDecl) (bound : ℕ) (code : FunctionCode) (waiting : List Waiting)
+        (choices : List Bool) (piece : ℕ) (again : Job → Step Flow) (e : RightValue) (start depth : ℕ) (stack : List Value)
+        → Calls program variables bound code waiting choices again
+        → EachRight (FitsCall program) e
+        → Holds code start (right_code program.setting variables piece e start depth)
+        → Performs program variables bound code waiting choices Any (value_of program.setting again e)
+        (at_point program variables bound code waiting choices start stack)
+        (λ value. at_point program variables bound code waiting choices
+        (after start (right_code program.setting variables piece e start depth)) (value ∷ stack)) }
+    ensures address { (program : CodeProgram) (variables : List VariableDecl) (bound : ℕ) (code : FunctionCode) (waiting : List Waiting)
+        (choices : List Bool) (piece : ℕ) (again : Job → Step Flow) (e : LeftValue) (start depth : ℕ) (stack : List Value)
+        → Calls program variables bound code waiting choices again
+        → EachLeft (FitsCall program) e
+        → Holds code start (address_code program.setting variables piece e start depth)
+        → Performs program variables bound code waiting choices Any (addressed program.setting again e)
+        (at_point program variables bound code waiting choices start stack)
+        (λ value. at_point program variables bound code waiting choices
+        (after start (address_code program.setting variables piece e start depth)) (value ∷ stack)) }
+{}
