@@ -30,23 +30,23 @@ use Rattle.hs_types.specs.declared.row.TypeId.{TypeId}
 
 -- ---- expressions
 
-abbrev char : TypeId
+abbrev pub char : TypeId
 char = integer_id kind.Char
 
-abbrev int : TypeId
+abbrev pub int : TypeId
 int = integer_id kind.Int
 
-abbrev long : TypeId
+abbrev pub long : TypeId
 long = integer_id kind.Long
 
-abbrev head : ℕ → TypeId → Head
+abbrev pub head : ℕ → TypeId → Head
 head col id = record { at = record { pos = record { file = 0; line = 9; col = col }; origin = origin.Plain }; type_id = id }
 
 -- `char **h, **g; char *p; int i; int o;`, where the address of o is taken somewhere
-abbrev variable : List ℕ → TypeId → VariableDecl
+abbrev pub variable : List ℕ → TypeId → VariableDecl
 variable text id = record { name = text; at = (head 1 id).at; type_id = id; taken = false }
 
-abbrev variables : List VariableDecl
+abbrev pub variables : List VariableDecl
 variables =
     variable (codes "h") char_handle_id
     ∷ variable (codes "g") char_handle_id
@@ -55,27 +55,27 @@ variables =
     ∷ record (variable (codes "o") int) { taken = true }
     ∷ []
 
-abbrev local : TypeId → ℕ → LeftValue
+abbrev pub local : TypeId → ℕ → LeftValue
 local id place = tree.variable (head 1 id) (name.Local place)
 
-abbrev get : TypeId → ℕ → RightValue
+abbrev pub get : TypeId → ℕ → RightValue
 get id place = tree.load (head 2 id) (local id place)
 
-abbrev num : ℕ → RightValue
+abbrev pub num : ℕ → RightValue
 num bits = tree.number (head 3 int) bits
 
 -- `*p`
-abbrev target : LeftValue
+abbrev pub target : LeftValue
 target = tree.target (head 4 char) (get char_pointer_id 2)
 
-abbrev one : RightValue → RightValues
+abbrev pub one : RightValue → RightValues
 one e = tree.more_values e tree.no_values
 
 -- routine 0 moves, routine 1 does not
-abbrev routine : List ℕ → Role → BoundRoutine
+abbrev pub routine : List ℕ → Role → BoundRoutine
 routine text its = record { routine = record { name = text; role = its; moves = false; purges = false; fills = 0; size = 0 }; prototype = None }
 
-abbrev routines : List BoundRoutine
+abbrev pub routines : List BoundRoutine
 routines =
     record (routine (codes "NewHandle") role.NewHandle) {
       routine = record { name = codes "NewHandle"; role = role.NewHandle; moves = true; purges = false; fills = 0; size = 0 };
@@ -84,7 +84,7 @@ routines =
     ∷ []
 
 -- the classes are char * and char **
-abbrev setting : Setting
+abbrev pub setting : Setting
 setting =
     record {
       types = basic_types;
@@ -98,7 +98,7 @@ setting =
 
 -- ---- their code
 
-abbrev short : Placed → ℕ × Op
+abbrev pub short : Placed → ℕ × Op
 short its = (its.places, its.op)
 
 -- from operation 0 on, with nothing on the stack

@@ -1,3 +1,4 @@
 pub mod Laws
 pub mod Lowering
 pub mod Performing
+pub mod Statements

@@ -5,14 +5,15 @@
 --     executed_all entry statements    a list of statements, from its start or from a label on
 --     next_turn statement              one turn of a loop, without the turn itself
 --     body_of function                 the value that a function returns, and where
-use Rattle.std.specs.Prelude.{ℕ, ◌==◌, Bool, true, false, ◌||◌, List, [], ◌∷◌, slice_get, Option, Some, None}
+use Rattle.std.specs.Prelude.{ℕ, pos, ◌==◌, Bool, true, false, ◌||◌, List, [], ◌∷◌, slice_get, Option, Some, None}
 use Rattle.std.specs.List.{list_any}
 use Rattle.hs_base.specs.declared.pos.Pos.{Pos}
-use Rattle.hs_heap.specs.declared.cell.Pointer.TheVariants.{Nil}
+use Rattle.hs_heap.specs.declared.cell.Pointer.TheVariants.{Nil, Fixed}
 use Rattle.hs_meaning.specs.Classes.{class_of_type, class_of_scalar}
-use Rattle.hs_meaning.specs.Evaluation.{Flow, onward, breaks, continues, returned, Job, turn_of, Location, in_slot, at_address, value_of, variable_at, written}
+use Rattle.hs_meaning.specs.Evaluation.{Flow, onward, breaks, continues, returned, Job, turn_of, Location, in_slot, at_address, value_of, variable_at, address_of, written}
 use Rattle.hs_meaning.specs.Frames.{missing_value}
-use Rattle.hs_meaning.specs.Objects.{constant_value}
+use Rattle.hs_meaning.specs.Numbers.{bits_of}
+use Rattle.hs_meaning.specs.Objects.{object_of_base}
 use Rattle.hs_meaning.specs.Operations as operation
 use Rattle.hs_meaning.specs.Scalars.{Scalar, scalars_of}
 use Rattle.hs_meaning.specs.Settings.{Setting, access_of_type}
@@ -21,7 +22,12 @@ use Rattle.hs_meaning.specs.Values.{Value, number, pointer, Access}
 use Rattle.hs_tree.specs.Kinds.{is_pointer}
 use Rattle.hs_tree.specs.Trees as tree
 use Rattle.hs_tree.specs.Trees.{RightValue, Starting, TypedItem, TypedDeclaration, TypedStatement, TypedBlock, TypedStatements, TypedFunction}
+use Rattle.hs_tree.specs.declared.constant.Base.{Base}
+use Rattle.hs_tree.specs.declared.constant.Base.TheVariants as base
+use Rattle.hs_tree.specs.declared.constant.Constant.{Constant}
+use Rattle.hs_tree.specs.declared.constant.Constant.TheVariants as constant
 use Rattle.hs_tree.specs.declared.constant.Part.{Part}
+use Rattle.hs_tree.specs.declared.head.Variable.{Variable}
 use Rattle.hs_tree.specs.declared.head.Variable.TheVariants as name
 use Rattle.hs_tree.specs.declared.head.VariableDecl.{VariableDecl}
 use Rattle.hs_tree.specs.declared.statement.Label.{Label}
@@ -104,11 +110,6 @@ abbrev pub zero_of : Bool → Value
 zero_of true = pointer Nil
 zero_of false = number 0
 
--- the constant, or 0 or NIL
-abbrev pub scalar_value : Setting → TypeId → Option Part → Value
-scalar_value setting id None = zero_of (is_pointer setting.types id)
-scalar_value setting id (Some part) = constant_value setting part.value
-
 -- ---- steps
 
 -- the place of the `{` of a block, and that of its `}`
@@ -128,29 +129,50 @@ module _ (setting : Setting) (again : Job → Step Flow) (function : TypedFuncti
   abbrev pub access_of_scalar : Scalar → Access
   access_of_scalar its = access_of_type setting its.type_id (class_of_scalar setting.same setting.taken its.type_id its.field)
 
+  -- the address of the object that an address constant points into
+  abbrev pub base_address : Pos → Base → Step Value
+  base_address at (base.Global place) = acts at (variable_at (name.Global place)) >>= (λ its. acts at (address_of its))
+  base_address at (base.Literal place) = give (pointer (Fixed (object_of_base setting (base.Literal place)) (pos 0)))
+
+  -- the value of a constant: an address constant is so many bytes on from the front of its object
+  abbrev pub constant_made : Pos → Constant → Step Value
+  constant_made at (constant.Number bits) = give (number bits)
+  constant_made at constant.Nil = give (pointer Nil)
+  constant_made at (constant.Address its offset) =
+      base_address at its >>= (λ front.
+      perform setting at (operation.step (record { size = 1; backward = false }) true) (front ∷ number (bits_of offset) ∷ []))
+
+  -- the constant of a scalar, or 0 or NIL
+  abbrev pub scalar_made : Pos → TypeId → Option Part → Step Value
+  scalar_made at id None = give (zero_of (is_pointer setting.types id))
+  scalar_made at id (Some part) = constant_made at part.value
+
   -- a scalar gets its constant: it is a slot, or lies inside an object
-  abbrev pub scalar_started : Pos → Location → List Part → Scalar → Step Value
-  scalar_started at (in_slot name) parts its = perform setting at (operation.set name) (scalar_value setting its.type_id (part_at its.offset parts) ∷ [])
-  scalar_started at (at_address front) parts its =
+  abbrev pub scalar_started : Pos → List Part → Scalar → Location → Step Value
+  scalar_started at parts its (in_slot variable) =
+      scalar_made at its.type_id (part_at its.offset parts) >>= (λ value. perform setting at (operation.set variable) (value ∷ []))
+  scalar_started at parts its (at_address front) =
       perform setting at (operation.offset its.offset) (front ∷ []) >>= (λ address.
-      perform setting at (operation.store (access_of_scalar its)) (address ∷ scalar_value setting its.type_id (part_at its.offset parts) ∷ []))
+      scalar_made at its.type_id (part_at its.offset parts) >>= (λ value.
+      perform setting at (operation.store (access_of_scalar its)) (address ∷ value ∷ [])))
 
   -- all of them, in order
-  abbrev pub scalars_started : Pos → Location → List Part → List Scalar → Step (Unit {0})
-  scalars_started at place parts [] = give tt
-  scalars_started at place parts (its ∷ rest) = scalar_started at place parts its >> scalars_started at place parts rest
+  abbrev pub scalars_started : Pos → Variable → List Part → List Scalar → Step (Unit {0})
+  scalars_started at variable parts [] = give tt
+  scalars_started at variable parts (its ∷ rest) =
+      acts at (variable_at variable) >>= scalar_started at parts its >> scalars_started at variable parts rest
 
   -- a value of its type, or constants for its scalars
-  abbrev pub value_started : Pos → TypeId → Starting → Location → Step (Unit {0})
-  value_started at id (tree.value e) place =
-      value_of setting again e >>= (λ value. written setting at (access_of_type setting id (class_of_type setting.same id)) place value) >> give tt
-  value_started at id (tree.parts its) place = scalars_started at place its (scalars_of setting.types id)
+  abbrev pub value_started : Pos → Variable → TypeId → Starting → Step (Unit {0})
+  value_started at variable id (tree.value e) =
+      acts at (variable_at variable)
+      >>= (λ place. value_of setting again e >>= written setting at (access_of_type setting id (class_of_type setting.same id)) place) >> give tt
+  value_started at variable id (tree.parts its) = scalars_started at variable its (scalars_of setting.types id)
 
   -- a variable of the function
   abbrev pub started : TypedItem → Step (Unit {0})
   started item =
-      acts item.at.pos (variable_at (name.Local item.variable))
-      >>= value_started item.at.pos (type_in (slice_get function.variables item.variable)) item.start
+      value_started item.at.pos (name.Local item.variable) (type_in (slice_get function.variables item.variable)) item.start
 
   -- the variables of a declaration
   abbrev pub items_started : List TypedItem → Step (Unit {0})

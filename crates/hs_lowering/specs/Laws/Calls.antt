@@ -103,11 +103,12 @@ module _ (program : CodeProgram) (variables : List VariableDecl) (bound : ℕ) (
       }
 
   after_decides : (powers : Powers) (s : State) → IsAt program variables bound s → IsAt program variables bound (after_decision powers s)
-  after_decides powers s is =
-      record {
-        slots = λ its. slots_of_same s.machine (after_decision powers s).machine (refl, refl) its ∙ is.slots its;
-        few = is.few;
-      }
+  after_decides powers s is = record { slots = still.slots; objects = still.objects; few = is.few }
+    where
+      still : IsAt program variables bound (record s { machine = (after_decision powers s).machine })
+      still =
+          still_at program variables bound s (after_decision powers s).machine is
+          (slots_of_same s.machine (after_decision powers s).machine (refl, refl))
 
   decided_stays : (it : Option BoundRoutine) (s : State) → IsAt program variables bound s
       → Stays program variables bound code waiting choices Any (decided_by it s)

@@ -3,9 +3,9 @@
 --     KeepsVariables before its            so they have after an operation, if it does not stop
 --     operate_keeps                        each operation but Set
 --     is_slot_at name machine              the variable is a slot there
---     SameSlots before after               what is a slot stays one, and so does what is an object
+--     SameSlots before after               what is a slot stays one, and what is an object stays that object
 --     set_keeps_slots                      Set, of a slot
-use Rattle.std.proofs.Common.{◌≡◌, ℤ, ℕ, zero, suc, ◌==◌, Bool, true, false, ◌&&◌, List, [], ◌∷◌, ◌++◌, map, take, slice_get, slice_set, Option, Some, None, Result, Ok, Err, refl, sym, ap, ◌∙◌, if◌then◌else◌}
+use Rattle.std.proofs.Common.{◌≡◌, ℤ, ℕ, zero, suc, ◌==◌, Bool, true, false, ◌&&◌, List, [], ◌∷◌, ◌++◌, map, take, slice_get, slice_set, Option, Some, None, Result, Ok, Err, refl, ap, ◌∙◌, if◌then◌else◌}
 use Rattle.hs_heap.specs.Blocks.{Block, master_of, disposed, resized, with_lock, with_purge_bit, with_state, reallocated, has_life}
 use Rattle.hs_heap.specs.Memory.{block_at, has_room}
 use Rattle.hs_heap.specs.declared.cell.Cell.{Cell}
@@ -308,20 +308,37 @@ is_slot_binding (Some (object_at place)) = false
 abbrev pub is_slot_at : Variable → Machine → Bool
 is_slot_at its machine = is_slot_binding (binding_of its machine)
 
+-- without the value of a slot
+abbrev pub bare : Option Binding → Option Binding
+bare None = None
+bare (Some (slot value)) = Some (slot None)
+bare (Some (object_at place)) = Some (object_at place)
+
+pub bare_slot : (its : Option Binding) → is_slot_binding (bare its) ≡ is_slot_binding its
+bare_slot None = refl
+bare_slot (Some (slot value)) = refl
+bare_slot (Some (object_at place)) = refl
+
+pub bare_object : (its : Option Binding) (place : ℕ) → bare its ≡ Some (object_at place) → its ≡ Some (object_at place)
+bare_object None place is = is
+bare_object (Some (slot value)) place is = absurd cc
+bare_object (Some (object_at other)) place is = is
+
 -- of all variables
 abbrev pub SameSlots : Machine → Machine → Type 0
-SameSlots before after = (its : Variable) → is_slot_at its after ≡ is_slot_at its before
+SameSlots before after = (its : Variable) → bare (binding_of its after) ≡ bare (binding_of its before)
 
 -- the same variables are the same slots
 pub slots_of_same : (before after : Machine) → SameVariables before after → SameSlots before after
-slots_of_same before after is (name.Global place) = ap (λ all. is_slot_binding (slice_get all place)) is.0
-slots_of_same before after is (name.Local place) = ap (λ all. is_slot_binding (slice_get all place)) is.1
+slots_of_same before after is (name.Global place) = ap (λ all. bare (slice_get all place)) is.0
+slots_of_same before after is (name.Local place) = ap (λ all. bare (slice_get all place)) is.1
 
 -- a slot that is given a value is one still
 set_slot : (all : List Binding) (place : ℕ) (value : Value) → is_slot_binding (slice_get all place) ≡ true → (other : ℕ)
-    → is_slot_binding (slice_get (slice_set all place (slot (Some value))) other) ≡ is_slot_binding (slice_get all other)
+    → bare (slice_get (slice_set all place (slot (Some value))) other) ≡ bare (slice_get all other)
 set_slot [] place value is other = refl
-set_slot (first ∷ rest) zero value is zero = sym is
+set_slot (slot before ∷ rest) zero value is zero = refl
+set_slot (object_at object ∷ rest) zero value is zero = absurd cc
 set_slot (first ∷ rest) zero value is (suc other) = refl
 set_slot (first ∷ rest) (suc place) value is zero = refl
 set_slot (first ∷ rest) (suc place) value is (suc other) = set_slot rest place value is other

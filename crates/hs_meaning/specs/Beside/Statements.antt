@@ -1,18 +1,23 @@
 -- Two runs that correspond in each operation and job correspond in each statement.
-use Rattle.std.proofs.Common.{◌≡◌, ℕ, Bool, true, false, List, [], ◌∷◌, Option, Some, None, refl, subst}
+use Rattle.std.proofs.Common.{◌≡◌, ℕ, pos, Bool, true, false, List, [], ◌∷◌, Option, Some, None, refl, subst}
 use Rattle.hs_base.specs.declared.pos.Pos.{Pos}
 use Rattle.hs_meaning.specs.Beside.{Relation, Follows, gives, thens, eithers, Units, Same, Locations, Flows, Leaves, Agains}
 use Rattle.hs_meaning.specs.Beside.Expressions as expressions
 use Rattle.hs_meaning.specs.Evaluation.{Flow, onward, breaks, continues, returned, Job, Location, in_slot, at_address, value_of}
+use Rattle.hs_meaning.specs.Numbers.{bits_of}
 use Rattle.hs_meaning.specs.Operations as operation
 use Rattle.hs_meaning.specs.Scalars.{Scalar, scalars_of}
-use Rattle.hs_meaning.specs.Statements.{Entry, from_start, entry_for, begins, after, after_turn, after_switch, part_at, scalar_value, type_in, closing_of, access_of_scalar, scalar_started, scalars_started, value_started, started, items_started, declarations_started, evaluated, tested, turns_if, returns, executed, executed_block, executed_switch, executed_all, next_turn, ended_at, body_of}
+use Rattle.hs_meaning.specs.Statements.{Entry, from_start, entry_for, begins, after, after_turn, after_switch, part_at, type_in, closing_of, access_of_scalar, base_address, constant_made, scalar_made, scalar_started, scalars_started, value_started, started, items_started, declarations_started, evaluated, tested, turns_if, returns, executed, executed_block, executed_switch, executed_all, next_turn, ended_at, body_of}
 use Rattle.hs_meaning.specs.Steps.{Step, ◌>>=◌, condition}
 use Rattle.hs_tree.specs.Trees as tree
 use Rattle.hs_meaning.specs.Settings.{Setting}
 use Rattle.hs_tree.specs.Trees.{RightValue, Starting, TypedItem, TypedDeclaration, TypedStatement, TypedBlock, TypedStatements, TypedFunction}
+use Rattle.hs_tree.specs.declared.constant.Base.{Base}
+use Rattle.hs_tree.specs.declared.constant.Base.TheVariants as base
+use Rattle.hs_tree.specs.declared.constant.Constant.{Constant}
 use Rattle.hs_tree.specs.declared.constant.Constant.TheVariants as constant
 use Rattle.hs_tree.specs.declared.constant.Part.{Part}
+use Rattle.hs_tree.specs.declared.head.Variable.{Variable}
 use Rattle.hs_tree.specs.declared.head.Variable.TheVariants as name
 use Rattle.hs_tree.specs.Kinds.{is_pointer}
 use Rattle.hs_types.specs.declared.row.TypeId.{TypeId}
@@ -89,39 +94,54 @@ module _ (R : Relation) (setting : Setting) (leaves : Leaves R setting) (again o
   zero_follows true = leaves.constant constant.Nil
   zero_follows false = leaves.constant (constant.Number 0)
 
-  scalar_value_follows : (id : TypeId) (part : Option Part) → R.values (scalar_value setting id part) (scalar_value setting id part)
-  scalar_value_follows id None = zero_follows (is_pointer setting.types id)
-  scalar_value_follows id (Some part) = leaves.constant part.value
+  base_follows : (at : Pos) (its : Base) → Follows R R.values (base_address setting again function at its) (base_address setting other function at its)
+  base_follows at (base.Global place) = thens (leaves.variable at (name.Global place)) (λ a b is. leaves.address at a b is)
+  base_follows at (base.Literal place) = gives (leaves.constant (constant.Address (base.Literal place) (pos 0)))
 
-  scalar_follows : (at : Pos) (a b : Location) (parts : List Part) (its : Scalar) → Locations R a b
-      → Follows R R.values (scalar_started setting again function at a parts its) (scalar_started setting other function at b parts its)
-  scalar_follows at (in_slot a) (in_slot b) parts its is =
-      subst (λ n. Follows R R.values (scalar_started setting again function at (in_slot a) parts its)
-      (scalar_started setting other function at (in_slot n) parts its)) is
-      (expressions.performed_one R setting leaves at (operation.set a) _ _ (scalar_value_follows its.type_id (part_at its.offset parts)))
-  scalar_follows at (in_slot a) (at_address b) parts its is = absurd is
-  scalar_follows at (at_address a) (in_slot b) parts its is = absurd is
-  scalar_follows at (at_address a) (at_address b) parts its is =
+  constant_follows : (at : Pos) (its : Constant)
+      → Follows R R.values (constant_made setting again function at its) (constant_made setting other function at its)
+  constant_follows at (constant.Number bits) = gives (leaves.constant (constant.Number bits))
+  constant_follows at constant.Nil = gives (leaves.constant constant.Nil)
+  constant_follows at (constant.Address its offset) =
+      thens (base_follows at its) (λ a b is. expressions.performed_two R setting leaves at (operation.step (record { size = 1; backward = false }) true)
+      a b _ _ is (leaves.constant (constant.Number (bits_of offset))))
+
+  scalar_made_follows : (at : Pos) (id : TypeId) (part : Option Part)
+      → Follows R R.values (scalar_made setting again function at id part) (scalar_made setting other function at id part)
+  scalar_made_follows at id None = gives (zero_follows (is_pointer setting.types id))
+  scalar_made_follows at id (Some part) = constant_follows at part.value
+
+  scalar_follows : (at : Pos) (parts : List Part) (its : Scalar) (a b : Location) → Locations R a b
+      → Follows R R.values (scalar_started setting again function at parts its a) (scalar_started setting other function at parts its b)
+  scalar_follows at parts its (in_slot a) (in_slot b) is =
+      subst (λ n. Follows R R.values (scalar_started setting again function at parts its (in_slot a))
+      (scalar_started setting other function at parts its (in_slot n))) is
+      (thens (scalar_made_follows at its.type_id (part_at its.offset parts))
+      (λ v w so. expressions.performed_one R setting leaves at (operation.set a) v w so))
+  scalar_follows at parts its (in_slot a) (at_address b) is = absurd is
+  scalar_follows at parts its (at_address a) (in_slot b) is = absurd is
+  scalar_follows at parts its (at_address a) (at_address b) is =
       thens (expressions.performed_one R setting leaves at (operation.offset its.offset) a b is)
-      (λ v w so. expressions.performed_two R setting leaves at (operation.store (access_of_scalar setting again function its)) v w _ _ so
-      (scalar_value_follows its.type_id (part_at its.offset parts)))
+      (λ m n so. thens (scalar_made_follows at its.type_id (part_at its.offset parts))
+      (λ v w too. expressions.performed_two R setting leaves at (operation.store (access_of_scalar setting again function its)) m n v w so too))
 
-  scalars_follow : (at : Pos) (a b : Location) (parts : List Part) (all : List Scalar) → Locations R a b
-      → Follows R Units (scalars_started setting again function at a parts all) (scalars_started setting other function at b parts all)
-  scalars_follow at a b parts [] is = gives tt
-  scalars_follow at a b parts (its ∷ rest) is = thens (scalar_follows at a b parts its is) (λ v w so. scalars_follow at a b parts rest is)
+  scalars_follow : (at : Pos) (variable : Variable) (parts : List Part) (all : List Scalar)
+      → Follows R Units (scalars_started setting again function at variable parts all) (scalars_started setting other function at variable parts all)
+  scalars_follow at variable parts [] = gives tt
+  scalars_follow at variable parts (its ∷ rest) =
+      thens (thens (leaves.variable at variable) (λ a b is. scalar_follows at parts its a b is)) (λ v w so. scalars_follow at variable parts rest)
 
-  value_started_follows : (at : Pos) (id : TypeId) (start : Starting) (a b : Location) → Locations R a b
-      → Follows R Units (value_started setting again function at id start a) (value_started setting other function at id start b)
-  value_started_follows at id (tree.value e) a b is =
-      thens (thens (value_of_follows e) (λ v w so. expressions.written_follows R setting leaves at _ a b v w is so)) (λ v w so. gives tt)
-  value_started_follows at id (tree.parts its) a b is = scalars_follow at a b its (scalars_of setting.types id) is
+  value_started_follows : (at : Pos) (variable : Variable) (id : TypeId) (start : Starting)
+      → Follows R Units (value_started setting again function at variable id start) (value_started setting other function at variable id start)
+  value_started_follows at variable id (tree.value e) =
+      thens (thens (leaves.variable at variable)
+      (λ a b is. thens (value_of_follows e) (λ v w so. expressions.written_follows R setting leaves at _ a b v w is so))) (λ v w so. gives tt)
+  value_started_follows at variable id (tree.parts its) = scalars_follow at variable its (scalars_of setting.types id)
 
   items_follow : (items : List TypedItem) → Follows R Units (items_started setting again function items) (items_started setting other function items)
   items_follow [] = gives tt
   items_follow (item ∷ items) =
-      thens (thens (leaves.variable item.at.pos (name.Local item.variable)) (λ a b is. value_started_follows item.at.pos _ item.start a b is))
-      (λ m n so. items_follow items)
+      thens (value_started_follows item.at.pos (name.Local item.variable) _ item.start) (λ m n so. items_follow items)
 
   declarations_follow : (all : List TypedDeclaration)
       → Follows R Units (declarations_started setting again function all) (declarations_started setting other function all)
