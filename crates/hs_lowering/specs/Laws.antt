@@ -1,6 +1,13 @@
 pub mod Branches
 pub mod Calls
 pub mod Expressions
+pub mod Flows
+pub mod Lengths
+pub mod Loops
 pub mod Objects
 pub mod Operations
+pub mod Placing
+pub mod Starts
+pub mod Statements
+pub mod Switches
 pub mod Variables

@@ -68,7 +68,7 @@ infixr 10 ◌then◌
 abbrev pub ◌then◌ : Part → Part → Part
 (first then second) start = joined (first start) (second (after start (first start).ops))
 
--- a statement has no labels of the list around it
+-- labels inside a statement are not of the list around it
 abbrev pub closed : Written → Written
 closed its = record its { labels = [] }
 
@@ -202,6 +202,10 @@ abbrev pub default_in : List (Label × ℕ) → ℕ → ℕ
 default_in [] otherwise = otherwise
 default_in ((label.Case at bits, target) ∷ rest) otherwise = default_in rest otherwise
 default_in ((label.Default at, target) ∷ rest) otherwise = target
+
+-- the cases of a switch, behind those of the switches inside it
+abbrev pub with_cases_of : List (Label × ℕ) → Written → Written
+with_cases_of labels its = record its { cases = its.cases ++ cases_in labels }
 
 module _ (setting : Setting) (function : TypedFunction) where
   -- ---- first values
@@ -409,10 +413,9 @@ module _ (setting : Setting) (function : TypedFunction) where
   -- `value, Choose, block, E: Mark`
   abbrev pub switch_at : ℕ → ℕ → Pos → RightValue → ℕ → ℕ → (Targets → Part) → Targets → ℕ → List (Label × ℕ) → Part
   switch_at test end_ at e first last body targets break_at labels start =
-      joined
+      with_cases_of labels
       ((given test at (value_code test e) (op.Choose (goal_of first last labels break_at))
-      then (λ from. closed (body (record { breaks = break_at; continues = targets.continues }) from)) then alone end_ at op.Mark) start)
-      (record { ops = []; cases = cases_in labels; labels = [] })
+      then body (record { breaks = break_at; continues = targets.continues }) then alone end_ at op.Mark) start)
 
   abbrev pub switch_code : ℕ → ℕ → Pos → RightValue → ℕ → ℕ → (Targets → Part) → Targets → Part
   switch_code test end_ at e first last body targets start =
@@ -421,7 +424,7 @@ module _ (setting : Setting) (function : TypedFunction) where
 
   abbrev mutual
     pub statement_code : TypedStatement → Counts → Targets → Part
-    statement_code (tree.block it) counts targets = λ start. closed (block_code it counts targets start)
+    statement_code (tree.block it) counts targets = block_code it counts targets
     statement_code (tree.expression at e) counts targets = given_dropped counts.pieces at.pos (value_code counts.pieces e)
     statement_code (tree.empty at) counts targets = alone counts.pieces at.pos op.Mark
     statement_code (tree.if_ at test first) counts targets =
@@ -465,7 +468,8 @@ module _ (setting : Setting) (function : TypedFunction) where
     list_code tree.no_statements counts targets = nothing
     list_code (tree.more_statements labels it rest) counts targets =
         (λ start. record { ops = labels_code counts.pieces labels; cases = []; labels = labels_at labels start })
-        then statement_code it (pieces_for labels counts) targets then list_code rest (after_statement it (pieces_for labels counts)) targets
+        then (λ start. closed (statement_code it (pieces_for labels counts) targets start))
+        then list_code rest (after_statement it (pieces_for labels counts)) targets
 
   -- ---- functions
 

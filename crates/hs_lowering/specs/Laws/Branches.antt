@@ -19,7 +19,7 @@ use Rattle.hs_tree.specs.declared.head.Head.{Head}
 use Rattle.hs_tree.specs.declared.head.VariableDecl.{VariableDecl}
 
 -- the next operation, or that one
-place_if : Bool → ℕ → ℕ → ℕ
+abbrev pub place_if : Bool → ℕ → ℕ → ℕ
 place_if true at target = suc at
 place_if false at target = target
 
@@ -35,10 +35,9 @@ module _ (program : CodeProgram) (variables : List VariableDecl) (bound : ℕ) (
   Performing fact first start next = Performs program variables bound code waiting choices fact first start next
 
   -- Zero, which goes on if the number is not 0
-  zero_performs : (at target depth : ℕ) (value : Value) (stack : List Value)
+  pub zero_performs : (at target depth : ℕ) (value : Value) (stack : List Value)
       → slice_get code.ops at ≡ Some (placed piece head (op.Zero target) depth)
       → Performing Any (condition head.at.pos value) (at_ at (value ∷ stack)) (λ is. at_ (place_if is at target) stack)
-  unfolding place_if
   zero_performs at target depth value stack there =
       one_step program variables bound code waiting choices Any (condition head.at.pos value) (at_ at (value ∷ stack))
       (λ is. at_ (place_if is at target) stack)
@@ -86,7 +85,7 @@ module _ (program : CodeProgram) (variables : List VariableDecl) (bound : ℕ) (
     branches_perform : (zero_at depth : ℕ) → Holds code zero_at (branches piece head zero_at depth (first (suc zero_at) depth) second) → (is : Bool)
         → Performing fact (either is one other) (at_ (place_if is zero_at (suc (after (suc zero_at) (first (suc zero_at) depth)))) stack)
         (λ a. at_ (after zero_at (branches piece head zero_at depth (first (suc zero_at) depth) second)) (left a))
-    unfolding firsts behind place_if
+    unfolding firsts behind
     branches_perform zero_at depth holds true =
         moved program variables bound code waiting choices left
         (after (suc (after (suc zero_at) (firsts zero_at depth))) (second (suc (after (suc zero_at) (firsts zero_at depth))) depth))
@@ -176,7 +175,6 @@ module _ (program : CodeProgram) (variables : List VariableDecl) (bound : ℕ) (
 
     last_performs : (at depth : ℕ) → Holds code at (answers at depth) → (is : Bool)
         → Performing Any (give (truth_value is)) (at_ (place_if is at (suc (suc (suc at)))) stack) (λ v. at_ (suc (suc (suc (suc at)))) (v ∷ stack))
-    unfolding place_if
     last_performs at depth holds true = one_performs at depth holds
     last_performs at depth holds false = none_performs at depth holds
 
@@ -185,7 +183,7 @@ module _ (program : CodeProgram) (variables : List VariableDecl) (bound : ℕ) (
         → Performing Any (either is (other >>= condition head.at.pos >>= (λ is. give (truth_value is))) (give (truth_value false)))
         (at_ (place_if is zero_at (suc (suc (suc (after (suc zero_at) (second (suc zero_at) depth)))))) stack)
         (λ v. at_ (after zero_at (both_hold piece head zero_at depth (second (suc zero_at) depth))) (v ∷ stack))
-    unfolding answers place_if
+    unfolding answers
     rest_performs zero_at depth holds true =
         moved program variables bound code waiting choices (λ v. v ∷ stack)
         (suc (suc (suc (suc (after (suc zero_at) (second (suc zero_at) depth))))))

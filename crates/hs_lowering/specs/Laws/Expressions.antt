@@ -105,7 +105,7 @@ module _ (program : CodeProgram) (variables : List VariableDecl) (bound : ℕ) (
   -- ---- operations that change nothing but the machine
 
   -- on one operand
-  on_one_turns : (head : Head) (its : Op) (act : Operation) → Rattle.hs_lowering.specs.Laws.Variables.is_set act ≡ false
+  pub on_one_turns : (head : Head) (its : Op) (act : Operation) → Rattle.hs_lowering.specs.Laws.Variables.is_set act ≡ false
       → RunsOne program variables bound code waiting choices piece head.at.pos its (λ a. perform program.setting head.at.pos act (a ∷ []))
       → (X : Lowered) (first : Step Value) (before below : List Value) → Turning' X Any first before (λ v. v ∷ below)
       → Turning' (on_one piece head its X) Any (first >>= (λ a. perform program.setting head.at.pos act (a ∷ []))) before (λ v. v ∷ below)
@@ -114,7 +114,7 @@ module _ (program : CodeProgram) (variables : List VariableDecl) (bound : ℕ) (
       (λ a s is. perform_stays program variables bound code waiting choices piece head.at.pos act (a ∷ []) other s is) X first before below turns
 
   -- on two
-  on_two_turns : (head : Head) (its : Op) (act : Operation) → Rattle.hs_lowering.specs.Laws.Variables.is_set act ≡ false
+  pub on_two_turns : (head : Head) (its : Op) (act : Operation) → Rattle.hs_lowering.specs.Laws.Variables.is_set act ≡ false
       → RunsTwo program variables bound code waiting choices piece head.at.pos its (λ a b. perform program.setting head.at.pos act (a ∷ b ∷ []))
       → (X Y : Lowered) (first second : Step Value) (stack : List Value) → Turning' X Any first stack (λ v. v ∷ stack)
       → ((a : Value) → Turning' Y Any second (a ∷ stack) (λ b. b ∷ a ∷ stack))

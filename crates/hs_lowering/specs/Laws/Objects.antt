@@ -140,19 +140,18 @@ module _ (program : CodeProgram) (variables : List VariableDecl) (bound : ℕ) (
   num_turns bits stack =
       op_gives program variables bound code waiting choices piece head (op.Num bits) (number bits) stack (λ v. v ∷ stack) (λ at s. refl)
 
-  load_step : Access → Value → Step Value
+  abbrev pub load_step : Access → Value → Step Value
   load_step access its = perform program.setting at_head (operation.load access) (its ∷ [])
 
-  store_step : Access → Value → Value → Step Value
+  abbrev pub store_step : Access → Value → Value → Step Value
   store_step access its value = perform program.setting at_head (operation.store access) (its ∷ value ∷ [])
 
-  set_step : Variable → Value → Step Value
+  abbrev pub set_step : Variable → Value → Step Value
   set_step name value = perform program.setting at_head (operation.set name) (value ∷ [])
 
   -- Load behind an address
   load_turns : (access : Access) (X : Lowered) (first : Step Value) (before below : List Value) → Turning' X Any first before (λ v. v ∷ below)
       → Turning' (on_one piece head (op.Load (access_in access)) X) Any (first >>= load_step access) before (λ v. v ∷ below)
-  unfolding load_step
   load_turns access X first before below turns =
       one_turns program variables bound code waiting choices piece head (op.Load (access_in access)) (load_step access)
       (λ at a stack s.
@@ -162,10 +161,9 @@ module _ (program : CodeProgram) (variables : List VariableDecl) (bound : ℕ) (
       X first before below turns
 
   -- Store behind an address and a value
-  store_turns : (access : Access) (X Y : Lowered) (first : Step Value) (second : Value → Step Value) (before below : List Value)
+  pub store_turns : (access : Access) (X Y : Lowered) (first : Step Value) (second : Value → Step Value) (before below : List Value)
       → Turning' X Any first before (λ v. v ∷ below) → ((a : Value) → Turning' Y Any (second a) (a ∷ below) (λ b. b ∷ a ∷ below))
       → Turning' (on_two piece head (op.Store (access_in access)) X Y) Any (first >>= (λ a. second a >>= store_step access a)) before (λ v. v ∷ below)
-  unfolding store_step
   store_turns access X Y first second before below turns others =
       two_turns program variables bound code waiting choices piece head (op.Store (access_in access)) (store_step access)
       (λ at a b stack s.
@@ -175,10 +173,9 @@ module _ (program : CodeProgram) (variables : List VariableDecl) (bound : ℕ) (
       X Y first second before below turns others
 
   -- Set behind a value
-  set_turns : (name : Variable) → is_slot_declared program.setting.types (declared_in program.setting variables name) ≡ true → (X : Lowered)
+  pub set_turns : (name : Variable) → is_slot_declared program.setting.types (declared_in program.setting variables name) ≡ true → (X : Lowered)
       → (first : Step Value) (before below : List Value) → Turning' X Any first before (λ v. v ∷ below)
       → Turning' (on_one piece head (op.Set name) X) Any (first >>= set_step name) before (λ v. v ∷ below)
-  unfolding set_step
   set_turns name declared X first before below turns =
       one_turns program variables bound code waiting choices piece head (op.Set name) (set_step name) (λ at a stack s. refl)
       (λ a s is. set_stays program variables bound code waiting choices piece at_head name a declared s is) X first before below turns
@@ -216,7 +213,6 @@ module _ (program : CodeProgram) (variables : List VariableDecl) (bound : ℕ) (
     pub read_turns : (stack : List Value)
         → Turning' (read_code piece head (slot_of program.setting variables e) (access_in access) address) Any
         (location_of e addressed >>= read program.setting at_head access) stack (λ v. v ∷ stack)
-    unfolding load_step
     read_turns stack = by (slot_of program.setting variables e) refl
       where
         by : (its : Option Variable) → slot_of program.setting variables e ≡ its → Turning' (read_code piece head its (access_in access) address) Any
@@ -233,7 +229,6 @@ module _ (program : CodeProgram) (variables : List VariableDecl) (bound : ℕ) (
     pub written_turns : (from : Lowered) (second : Step Value) → ((stack : List Value) → Turning' from Any second stack (λ v. v ∷ stack))
         → (stack : List Value) → Turning' (written_code piece head (slot_of program.setting variables e) (access_in access) address from) Any
         (operands (location_of e addressed) second >>= (λ both. written program.setting at_head access both.0 both.1)) stack (λ v. v ∷ stack)
-    unfolding store_step set_step
     written_turns from second others stack = by (slot_of program.setting variables e) refl
       where
         by : (its : Option Variable) → slot_of program.setting variables e ≡ its
@@ -262,7 +257,6 @@ module _ (program : CodeProgram) (variables : List VariableDecl) (bound : ℕ) (
   store_behind : (access : Access) (its : Value) (X : Lowered) (first : Step Value) (before below : List Value)
       → Turning' X Any first before (λ v. v ∷ its ∷ below)
       → Turning' (on_one piece head (op.Store (access_in access)) X) Any (first >>= store_step access its) before (λ v. v ∷ below)
-  unfolding store_step
   store_behind access its X first before below turns =
       operand_turns program variables bound code waiting choices X (only piece head (op.Store (access_in access))) turns
       (λ b is. op_two program variables bound code waiting choices piece head (op.Store (access_in access)) (store_step access)
@@ -285,7 +279,7 @@ module _ (program : CodeProgram) (variables : List VariableDecl) (bound : ℕ) (
         → (stack : List Value) → Turning' (updated_code piece head (slot_of program.setting variables e) (access_in access) changes address from) Any
         (operands (location_of e addressed >>= read_with program.setting at_head access) second >>= (λ both. all both.0.0 both.0.1 both.1))
         stack (λ v. v ∷ stack)
-    unfolding load_step store_step set_step got
+    unfolding got
     updated_turns from second others stack = by (slot_of program.setting variables e) refl
       where
         begin : (s : State) → (operands (location_of e addressed >>= read_with program.setting at_head access) second
@@ -328,7 +322,7 @@ module _ (program : CodeProgram) (variables : List VariableDecl) (bound : ℕ) (
         → Turning' (stepped_code piece head (slot_of program.setting variables e) (access_in access) changes address) Any
         (location_of e addressed >>= read_with program.setting at_head access >>= (λ both. all both.0 both.1 (number 1) >> give both.1))
         stack (λ v. v ∷ stack)
-    unfolding load_step store_step set_step got
+    unfolding got
     stepped_turns stack = by (slot_of program.setting variables e) refl
       where
         by : (its : Option Variable) → slot_of program.setting variables e ≡ its
