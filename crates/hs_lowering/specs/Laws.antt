@@ -2,11 +2,14 @@ pub mod Branches
 pub mod Calls
 pub mod Expressions
 pub mod Flows
+pub mod Frames
+pub mod Jobs
 pub mod Lengths
 pub mod Loops
 pub mod Objects
 pub mod Operations
 pub mod Placing
+pub mod Programs
 pub mod Starts
 pub mod Statements
 pub mod Switches

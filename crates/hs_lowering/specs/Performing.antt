@@ -1,6 +1,5 @@
 -- How a run of code goes beside the meaning of an expression (own).
---     IsAt s                              the variables of the machine are slots and objects as declared, those of the program are the objects that
---                                         they were at the start, and no more turns are left than that
+--     IsAt s                              the variables of the machine are slots and objects as declared, and no more turns are left than that
 --     Performs fact first point next      the code run from `point` does what the step `first` does: it ends as that does, or goes on at the point
 --                                         that `next` says for what the step gives, which meets the fact
 --     Holds start its                     the code has these operations from that number on
@@ -15,16 +14,14 @@ use Rattle.hs_code_run.specs.Codes.{CodeProgram, Waiting, Point}
 use Rattle.hs_code_run.specs.Runs.{Comes, halted, onward}
 use Rattle.hs_code_run.specs.Steps.{by_stack, stepped, stepped_at}
 use Rattle.hs_lowering.specs.Lowering.{Lowered, after, declared_in, only, operand, sequence}
-use Rattle.hs_lowering.specs.Laws.Variables.{SameSlots, is_slot_at, is_slot_binding, bare, bare_slot, bare_object}
+use Rattle.hs_lowering.specs.Laws.Variables.{SameSlots, is_slot_at, is_slot_binding, bare_slot}
 use Rattle.hs_meaning.specs.Classes.{is_slot_declared}
-use Rattle.hs_meaning.specs.Machine.{Machine, object_at, binding_of}
-use Rattle.hs_meaning.specs.Objects.{bindings, variables_of}
+use Rattle.hs_meaning.specs.Machine.{Machine, binding_of}
 use Rattle.hs_meaning.specs.Steps.{State, Ran, went, over, Step, ◌>>=◌, then_with, give, operands}
 use Rattle.hs_meaning.specs.Values.{Value}
 use Rattle.hs_meaning.specs.declared.outcome.Outcome.{Outcome}
 use Rattle.hs_tree.specs.declared.head.Head.{Head}
 use Rattle.hs_tree.specs.declared.head.Variable.{Variable}
-use Rattle.hs_tree.specs.declared.head.Variable.TheVariants as name
 use Rattle.hs_tree.specs.declared.head.VariableDecl.{VariableDecl}
 
 -- nothing is said
@@ -85,8 +82,6 @@ module _ (program : CodeProgram) (variables : List VariableDecl) (bound : ℕ) w
   -- where a call of the function may be
   pub record IsAt (s : State) : Type 0 where
     pub slots : (its : Variable) → is_slot_at its s.machine ≡ is_slot_declared program.setting.types (declared_in program.setting variables its)
-    pub objects : (place object : ℕ) → slice_get (bindings program.setting.types 0 (variables_of program.setting.globals)) place ≡ Some (object_at object)
-        → binding_of (name.Global place) s.machine ≡ Some (object_at object)
     pub few : s.turns ≤ bound
 
   -- the same variables and turns
@@ -95,8 +90,6 @@ module _ (program : CodeProgram) (variables : List VariableDecl) (bound : ℕ) w
       record {
         slots = λ its.
             sym (bare_slot (binding_of its machine)) ∙ ap is_slot_binding (same its) ∙ bare_slot (binding_of its s.machine) ∙ at.slots its;
-        objects = λ place object is.
-            bare_object (binding_of (name.Global place) machine) object (same (name.Global place) ∙ ap bare (at.objects place object is));
         few = at.few;
       }
 

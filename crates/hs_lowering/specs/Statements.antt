@@ -156,6 +156,14 @@ pub record Targets : Type 0 where
 abbrev pub nowhere : Targets
 nowhere = record { breaks = 0; continues = 0 }
 
+-- before a body: its entry and its exit are pieces
+abbrev pub body_counts : Counts
+body_counts = record { pieces = 2; cases = 0 }
+
+-- A `break` or `continue` in no loop, which no typed program has, would go to the end of its function.
+abbrev pub end_at : ℕ → Targets
+end_at at = record { breaks = at; continues = at }
+
 -- ---- single operations
 
 module _ (piece : ℕ) (at : Pos) where
@@ -473,15 +481,7 @@ module _ (setting : Setting) (function : TypedFunction) where
 
   -- ---- functions
 
-  -- before a body: its entry and its exit are pieces
-  abbrev pub body_counts : Counts
-  body_counts = record { pieces = 2; cases = 0 }
-
-  -- The end of a function returns as `return;` does, at its `}`; it belongs to the exit. A `break` or `continue` in no loop, which no typed program
-  -- has, would go there.
-  abbrev pub end_at : ℕ → Targets
-  end_at at = record { breaks = at; continues = at }
-
+  -- the end of a function returns as `return;` does, at its `}`; it belongs to the exit
   abbrev pub function_code : Written
   function_code =
       (block_code function.body body_counts (end_at (after 0 (block_code function.body body_counts nowhere 0).ops))

@@ -103,7 +103,7 @@ module _ (program : CodeProgram) (variables : List VariableDecl) (bound : ℕ) (
       }
 
   after_decides : (powers : Powers) (s : State) → IsAt program variables bound s → IsAt program variables bound (after_decision powers s)
-  after_decides powers s is = record { slots = still.slots; objects = still.objects; few = is.few }
+  after_decides powers s is = record { slots = still.slots; few = is.few }
     where
       still : IsAt program variables bound (record s { machine = (after_decision powers s).machine })
       still =

@@ -2,20 +2,19 @@
 --     goes_by targets end_ flow t outcome after     what the run comes to from where the flow leads: behind the code, to a target, or to the caller
 --     PerformsTo first start                        the code from that operation does what the step does, with nothing on the stack
 --     thens_to, silent, next_statement, ..          one after the other
-use Rattle.std.proofs.Common.{◌≡◌, ◌≤◌, ℕ, zero, suc, Bool, true, false, List, [], ◌∷◌, ◌++◌, slice_get, Option, Some, None, refl, sym, ap, ◌∙◌, subst}
+use Rattle.std.proofs.Common.{◌≡◌, ℕ, suc, Bool, List, [], ◌∷◌, slice_get, Some, refl, sym, ap, ◌∙◌, subst}
 use Rattle.hs_base.specs.declared.pos.Pos.{Pos}
 use Rattle.hs_code.specs.declared.function_code.FunctionCode.{FunctionCode}
-use Rattle.hs_code.specs.declared.function_code.Placed.{Placed}
 use Rattle.hs_code.specs.declared.op.Op.TheVariants as op
 use Rattle.hs_code_run.specs.Codes.{CodeProgram, Waiting, Point}
 use Rattle.hs_code_run.specs.Runs.{Comes, halted, onward as goes_onward, ComesFrom}
 use Rattle.hs_code_run.specs.Steps.{stepped, stepped_at, returned_to}
 use Rattle.hs_lowering.specs.Lowering.{after}
-use Rattle.hs_lowering.specs.Performing.{Any, IsAt, Leads, Performs, Holds, at_point}
+use Rattle.hs_lowering.specs.Performing.{IsAt, Leads, Performs, at_point}
 use Rattle.hs_lowering.specs.Statements.{Targets, placed_at}
 use Rattle.hs_meaning.specs.Evaluation.{Flow, onward, breaks, continues, returned}
 use Rattle.hs_meaning.specs.Statements as meaning
-use Rattle.hs_meaning.specs.Steps.{State, Ran, went, over, Step, ◌>>=◌, ◌>>◌, then_with, give}
+use Rattle.hs_meaning.specs.Steps.{State, Ran, went, over, Step, ◌>>=◌, then_with, give}
 use Rattle.hs_meaning.specs.Values.{Value}
 use Rattle.hs_meaning.specs.declared.outcome.Outcome.{Outcome}
 use Rattle.hs_tree.specs.declared.head.VariableDecl.{VariableDecl}

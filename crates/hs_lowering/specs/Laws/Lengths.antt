@@ -4,14 +4,14 @@
 --     past base cases                  the number of the case that follows these
 --     cases_of_statement               it is the one that is counted
 --     block_labels                     the labels of a block are those of its list
-use Rattle.std.proofs.Common.{◌≡◌, ℕ, suc, Bool, true, false, List, [], ◌∷◌, ◌++◌, Option, Some, None, refl, sym, ap, ◌∙◌, append-nil}
+use Rattle.std.proofs.Common.{◌≡◌, ℕ, suc, Bool, List, [], ◌∷◌, ◌++◌, Option, Some, None, refl, sym, ap, ◌∙◌, append-nil}
 use Rattle.hs_base.specs.declared.pos.Pos.{Pos}
 use Rattle.hs_code.specs.declared.function_code.Case.{Case}
 use Rattle.hs_code.specs.declared.op.Op.{Op}
 use Rattle.hs_code.specs.declared.op.Op.TheVariants as op
 use Rattle.hs_lowering.specs.Lowering.{Lowered, after}
 use Rattle.hs_lowering.specs.Performing.{after_append}
-use Rattle.hs_lowering.specs.Statements.{Written, Part, ◌then◌, nothing, closed, Counts, Targets, nowhere, one_piece, piece_for, pieces_for, case_for, cases_for, cases_of_list, cases_of_block, with_cases, after_statement, after_block, after_list, placed_at, only_at, alone, given, given_dropped, labels_at, labels_code, cases_in, value_code, behind, guarded, guarded_if, dropped_if, start_code, scalar_started, scalars_started, items_code, declarations_code, returned_code, if_code, if_else_at, while_code, do_code, for_code, switch_code, statement_code, block_code, list_code, with_cases_of}
+use Rattle.hs_lowering.specs.Statements.{Written, Part, ◌then◌, nothing, closed, Counts, Targets, nowhere, one_piece, piece_for, pieces_for, cases_for, cases_of_list, cases_of_block, after_statement, after_block, after_list, placed_at, alone, given, labels_at, labels_code, cases_in, value_code, guarded_if, dropped_if, start_code, scalar_started, scalars_started, items_code, declarations_code, returned_code, statement_code, block_code, list_code}
 use Rattle.hs_meaning.specs.Scalars.{Scalar, scalars_of}
 use Rattle.hs_meaning.specs.Settings.{Setting}
 use Rattle.hs_tree.specs.Trees as tree

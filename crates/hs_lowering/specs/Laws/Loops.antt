@@ -1,7 +1,7 @@
 -- Where the operations of a loop stand (own).
 --     WhileStands, DoStands, ForStands     each operation of the loop is there, and where the loop ends
 --     while_stands, do_stands, for_stands  they do, where the code of the loop is
-use Rattle.std.proofs.Common.{◌≡◌, ℕ, suc, Bool, List, [], ◌∷◌, ◌++◌, slice_get, Option, Some, None, refl, sym, ap, ◌∙◌}
+use Rattle.std.proofs.Common.{◌≡◌, ℕ, suc, slice_get, Option, Some, None, refl, ◌∙◌}
 use Rattle.hs_base.specs.declared.pos.Pos.{Pos}
 use Rattle.hs_code.specs.declared.function_code.FunctionCode.{FunctionCode}
 use Rattle.hs_code.specs.declared.op.Op.{Op}
@@ -9,7 +9,7 @@ use Rattle.hs_code.specs.declared.op.Op.TheVariants as op
 use Rattle.hs_lowering.specs.Laws.Lengths.{past, SameParts, plain_dropped, plain_guarded}
 use Rattle.hs_lowering.specs.Laws.Placing.{Held, held_front, held_back, held_next, length_next, length_given}
 use Rattle.hs_lowering.specs.Lowering.{after}
-use Rattle.hs_lowering.specs.Performing.{Holds, after_append}
+use Rattle.hs_lowering.specs.Performing.{Holds}
 use Rattle.hs_lowering.specs.Statements.{Part, ◌then◌, Targets, nowhere, placed_at, alone, guarded, guarded_if, behind, behind_if, dropped_if, value_code, while_code, do_code, ForPieces, turn_piece, for_code}
 use Rattle.hs_meaning.specs.Settings.{Setting}
 use Rattle.hs_tree.specs.Trees.{RightValue, TypedFunction}

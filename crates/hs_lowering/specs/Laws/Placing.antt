@@ -3,7 +3,7 @@
 --     Held code its base start            it has the operations and the cases of a part
 --     held_next, length_next              of the part behind another one
 --     sliced                              the cases of one switch, of which it names the first and the one after the last
-use Rattle.std.proofs.Common.{◌≡◌, ℕ, zero, suc, ◌+◌, ◌-◌, Bool, true, false, List, [], ◌∷◌, ◌++◌, length, take, drop, slice_get, Option, Some, None, refl, sym, ap, ◌∙◌, subst, arith}
+use Rattle.std.proofs.Common.{◌≡◌, ℕ, zero, suc, ◌+◌, ◌-◌, List, [], ◌∷◌, ◌++◌, length, take, drop, slice_get, Some, None, refl, sym, ap, ◌∙◌, subst, arith}
 use Rattle.hs_base.specs.declared.pos.Pos.{Pos}
 use Rattle.hs_code.specs.declared.function_code.Case.{Case}
 use Rattle.hs_code.specs.declared.function_code.FunctionCode.{FunctionCode}

@@ -1,30 +1,29 @@
 -- First values of variables: the code beside the meaning (own).
 --     PlainTurns its step                operations that begin and end with nothing on the stack perform the step
 --     declarations_turn                  the declarations of a block
-use Rattle.std.proofs.Common.{◌≡◌, ◌≤◌, ℕ, suc, pos, Bool, true, false, List, [], ◌∷◌, ◌++◌, slice_get, Option, Some, None, refl, sym, ap, ◌∙◌, subst}
+use Rattle.std.proofs.Common.{◌≡◌, ℕ, Bool, true, false, List, [], ◌∷◌, ◌++◌, slice_get, Option, Some, None, refl, sym, ap, ◌∙◌}
 use Rattle.std.specs.List.{AllByRecursion}
-use Rattle.hs_base.specs.declared.pos.Pos.{Pos}
 use Rattle.hs_code.specs.declared.function_code.FunctionCode.{FunctionCode}
 use Rattle.hs_code.specs.declared.op.Op.TheVariants as op
 use Rattle.hs_code_run.specs.Codes.{CodeProgram, Waiting}
-use Rattle.hs_heap.specs.declared.cell.Pointer.TheVariants.{Nil, Fixed}
+use Rattle.hs_heap.specs.declared.cell.Pointer.TheVariants.{Nil}
 use Rattle.hs_lowering.specs.Laws.Calls.{Calls}
 use Rattle.hs_lowering.specs.Laws.Expressions.{FitsCall, value_turns, address_turns, on_one_turns, on_two_turns}
 use Rattle.hs_lowering.specs.Laws.Objects.{variable_address, slot_located, memory_located, num_turns, drop_turns, store_turns, set_turns}
 use Rattle.hs_lowering.specs.Laws.Operations.{Turning, op_gives}
 use Rattle.hs_lowering.specs.Lowering.{Lowered, after, access_in, operand, only, slot_of, slot_by}
-use Rattle.hs_lowering.specs.Performing.{Any, IsAt, Performs, Holds, holds_front, holds_back, after_append, at_point, gives, same_step, same_turns, operand_turns, thens, moved, thens_same, operands_same, same_behind}
+use Rattle.hs_lowering.specs.Performing.{Any, IsAt, Performs, Holds, holds_front, holds_back, after_append, at_point, gives, same_step, same_turns, operand_turns, thens, moved, thens_same, operands_same}
 use Rattle.hs_lowering.specs.Statements.{Part, ◌then◌, nothing, Counts, one_piece, given_dropped, constant_code, scalar_code, zero_code, access_of_scalar, slot_started, object_started, struct_started, scalar_started, scalars_started, value_started, start_code, items_code, declarations_code}
-use Rattle.hs_meaning.specs.Classes.{is_slot_declared, class_of_type, class_of_scalar}
-use Rattle.hs_meaning.specs.Evaluation.{Flow, Job, Location, in_slot, at_address, located, variable_at, address_of, written, location_of, value_of}
-use Rattle.hs_meaning.specs.Machine.{Machine, Binding, slot, object_at, binding_of}
+use Rattle.hs_meaning.specs.Classes.{is_slot_declared, class_of_type}
+use Rattle.hs_meaning.specs.Evaluation.{Flow, Job, Location, in_slot, at_address, located, variable_at, address_of, written}
+use Rattle.hs_meaning.specs.Machine.{Binding, slot, object_at, binding_of}
 use Rattle.hs_meaning.specs.Numbers.{bits_of}
 use Rattle.hs_meaning.specs.Operations as operation
 use Rattle.hs_meaning.specs.Scalars.{Scalar, scalars_of}
-use Rattle.hs_meaning.specs.Settings.{Setting, access_of_type}
+use Rattle.hs_meaning.specs.Settings.{access_of_type}
 use Rattle.hs_meaning.specs.Statements as meaning
 use Rattle.hs_meaning.specs.Statements.{part_at, type_in, zero_of}
-use Rattle.hs_meaning.specs.Steps.{State, Ran, went, over, Step, ◌>>=◌, ◌>>◌, then_with, give, ran_at, acts, perform}
+use Rattle.hs_meaning.specs.Steps.{State, Step, ◌>>=◌, ◌>>◌, then_with, give, ran_at, acts, perform}
 use Rattle.hs_meaning.specs.Values.{Value, number, pointer, Access}
 use Rattle.hs_tokens.specs.declared.place.Place.{Place}
 use Rattle.hs_tree.specs.Inside.{EachRight, InStart}

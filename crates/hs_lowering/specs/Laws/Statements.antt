@@ -2,7 +2,7 @@
 --     FitsStatement program it       each call inside it has as many arguments as there are parameters
 --     Loops again                    what is asked of turns of loops: the code from Turn on performs the job
 --     statement_does, block_does     the law
-use Rattle.std.proofs.Common.{◌≡◌, ◌≤◌, ℕ, suc, ◌-◌, Bool, true, false, ◌||◌, List, [], ◌∷◌, ◌++◌, take, drop, slice_get, Option, Some, None, refl, sym, ap, ◌∙◌, subst}
+use Rattle.std.proofs.Common.{◌≡◌, ℕ, suc, Bool, true, false, ◌||◌, List, [], ◌∷◌, ◌++◌, slice_get, Option, Some, None, refl, sym, ap, ◌∙◌, subst}
 use Rattle.std.specs.List.{list_any}
 use Rattle.hs_base.specs.declared.pos.Pos.{Pos}
 use Rattle.hs_code.specs.declared.function_code.FunctionCode.{FunctionCode}
@@ -16,20 +16,20 @@ use Rattle.hs_lowering.specs.Laws.Calls.{Calls}
 use Rattle.hs_lowering.specs.Laws.Expressions.{FitsCall, value_turns}
 use Rattle.hs_lowering.specs.Laws.Flows.{bare_point, goes_by, PerformsTo, thens_to, follows_to, silent, same_to, weakened, gives_to, mark_steps, jump_steps, comes_by, returns_to, next_statement}
 use Rattle.hs_lowering.specs.Laws.Lengths.{SameParts, past, same_statement, same_block, cases_of_statement, cases_of_a_block, block_labels, list_labels_counted, plain_declarations, plain_dropped, piece_same, pieces_same}
-use Rattle.hs_lowering.specs.Laws.Loops.{while_turn, while_back, WhileStands, while_stands, DoStands, do_stands, do_back, for_turn, for_back, ForStands, for_stands}
-use Rattle.hs_lowering.specs.Laws.Operations.{Turning, op_gives, used_stays}
+use Rattle.hs_lowering.specs.Laws.Loops.{while_back, WhileStands, while_stands, for_back, ForStands, for_stands}
+use Rattle.hs_lowering.specs.Laws.Operations.{op_gives, used_stays}
 use Rattle.hs_lowering.specs.Laws.Placing.{CasesFrom, Held, held_front, held_back, held_next, length_next, length_given, sliced, cases_back}
 use Rattle.hs_lowering.specs.Laws.Starts.{as_head, PlainTurns, dropped_turns, declarations_turn}
 use Rattle.hs_lowering.specs.Laws.Switches.{place_of, any_in, place_append, place_of_none, place_of_some, any_at, case_is, default_is, any_of_list}
-use Rattle.hs_lowering.specs.Lowering.{Lowered, after, operand, only}
-use Rattle.hs_lowering.specs.Performing.{Any, IsAt, Performs, Holds, holds_front, holds_back, after_append, at_point, one_step, gives, thens, same_step, moved, operand_turns, thens_same}
+use Rattle.hs_lowering.specs.Lowering.{after, only}
+use Rattle.hs_lowering.specs.Performing.{Any, IsAt, Performs, Holds, holds_front, holds_back, after_append, at_point, one_step, gives, thens, same_step, thens_same}
 use Rattle.hs_lowering.specs.Statements.{Written, Part, ◌then◌, closed, Counts, Targets, nowhere, one_piece, piece_for, pieces_for, after_statement, after_block, after_list, cases_of_block, alone, placed_at, labels_code, labels_at, cases_in, default_in, value_code, behind, behind_if, guarded, dropped_if, missing_code, return_code, returned_code, goal_of, statement_code, block_code, list_code, declarations_code, ForPieces, for_code}
 use Rattle.hs_meaning.specs.Evaluation.{Flow, onward, breaks, continues, returned, Job, turn_of, value_of}
-use Rattle.hs_meaning.specs.Frames.{missing_value, missing_by}
+use Rattle.hs_meaning.specs.Frames.{missing_by}
 use Rattle.hs_meaning.specs.Operations as operation
 use Rattle.hs_meaning.specs.Statements as meaning
 use Rattle.hs_meaning.specs.Statements.{from_start, from_label, entry_for, entry_if, is_case, is_default, has_label, executed, executed_block, executed_switch, executed_all, evaluated, tested, turns_if, after_switch}
-use Rattle.hs_meaning.specs.Steps.{State, Ran, went, over, Step, ◌>>=◌, ◌>>◌, then_with, give, either, acts, perform, used, condition}
+use Rattle.hs_meaning.specs.Steps.{State, Ran, went, over, Step, ◌>>=◌, ◌>>◌, then_with, give, either, acts, used, condition}
 use Rattle.hs_meaning.specs.Values.{Value, pointer, number}
 use Rattle.hs_meaning.specs.declared.outcome.Outcome.{Outcome}
 use Rattle.hs_tokens.specs.declared.place.Place.{Place}
@@ -88,11 +88,11 @@ module _ (function : TypedFunction) (program : CodeProgram) (bound : ℕ) (code 
 
   -- ---- how it ends
 
-  ends_at : {step : Step Flow} → {at : ℕ} → (targets : Targets) (a b : ℕ) → a ≡ b → Doing step at targets a → Doing step at targets b
+  pub ends_at : {step : Step Flow} → {at : ℕ} → (targets : Targets) (a b : ℕ) → a ≡ b → Doing step at targets a → Doing step at targets b
   ends_at {step = step} {at = at} targets a b is doing = subst (λ n. Doing step at targets n) is doing
 
   -- Mark stands there, or a jump
-  passed : {step : Step Flow} → {at : ℕ} → (targets : Targets) (a b : ℕ)
+  pub passed : {step : Step Flow} → {at : ℕ} → (targets : Targets) (a b : ℕ)
       → ((s after : State) (outcome : Outcome) → Comes program (bare b) s outcome after → Comes program (bare a) s outcome after)
       → Doing step at targets a → Doing step at targets b
   passed targets a b leads doing = weakened program function.variables bound code waiting choices by doing
@@ -105,27 +105,27 @@ module _ (function : TypedFunction) (program : CodeProgram) (bound : ℕ) (code 
       by continues t outcome after comes = comes
       by (returned value at) t outcome after comes = comes
 
-  by_mark : (at piece : ℕ) (pos_ : Pos) → slice_get code.ops at ≡ Some (placed_at piece pos_ op.Mark 0) → (s after : State) (outcome : Outcome)
+  pub by_mark : (at piece : ℕ) (pos_ : Pos) → slice_get code.ops at ≡ Some (placed_at piece pos_ op.Mark 0) → (s after : State) (outcome : Outcome)
       → Comes program (bare (suc at)) s outcome after → Comes program (bare at) s outcome after
   by_mark at piece pos_ there s after outcome comes =
       comes_by program function.variables bound code waiting choices (bare at) (bare (suc at))
       (mark_steps program function.variables bound code waiting choices at piece pos_ there) s after outcome comes
 
-  by_jump : (at piece target : ℕ) (pos_ : Pos) → slice_get code.ops at ≡ Some (placed_at piece pos_ (op.Jump target) 0) → (s after : State)
+  pub by_jump : (at piece target : ℕ) (pos_ : Pos) → slice_get code.ops at ≡ Some (placed_at piece pos_ (op.Jump target) 0) → (s after : State)
       → (outcome : Outcome) → Comes program (bare target) s outcome after → Comes program (bare at) s outcome after
   by_jump at piece target pos_ there s after outcome comes =
       comes_by program function.variables bound code waiting choices (bare at) (bare target)
       (jump_steps program function.variables bound code waiting choices at piece target pos_ there) s after outcome comes
 
   -- Mark in front
-  marked_first : {step : Step Flow} → (targets : Targets) (at end_ piece : ℕ) (pos_ : Pos)
+  pub marked_first : {step : Step Flow} → (targets : Targets) (at end_ piece : ℕ) (pos_ : Pos)
       → slice_get code.ops at ≡ Some (placed_at piece pos_ op.Mark 0) → Doing step (suc at) targets end_ → Doing step at targets end_
   marked_first targets at end_ piece pos_ there doing =
       silent program function.variables bound code waiting choices (bare at) (bare (suc at))
       (mark_steps program function.variables bound code waiting choices at piece pos_ there) doing
 
   -- nothing is done, where the code has ended
-  stays_there : (targets : Targets) (at : ℕ) → Doing (give onward) at targets at
+  pub stays_there : (targets : Targets) (at : ℕ) → Doing (give onward) at targets at
   stays_there targets at =
       gives_to program function.variables bound code waiting choices onward (bare at) (λ s outcome after comes. comes)
 
@@ -284,12 +284,12 @@ module _ (function : TypedFunction) (program : CodeProgram) (bound : ℕ) (code 
 
     module _ (loops : Loops again) where
       -- the join behind a branch, or behind a loop
-      behind_mark : {step : Step Flow} → {at : ℕ} → (targets : Targets) (end_ piece : ℕ) (pos_ : Pos)
+      pub behind_mark : {step : Step Flow} → {at : ℕ} → (targets : Targets) (end_ piece : ℕ) (pos_ : Pos)
           → slice_get code.ops end_ ≡ Some (placed_at piece pos_ op.Mark 0) → Doing step at targets end_ → Doing step at targets (suc end_)
       behind_mark targets end_ piece pos_ there doing = passed targets end_ (suc end_) (by_mark end_ piece pos_ there) doing
 
       -- nothing is done, and Mark follows
-      only_mark : (targets : Targets) (at piece : ℕ) (pos_ : Pos) → slice_get code.ops at ≡ Some (placed_at piece pos_ op.Mark 0)
+      pub only_mark : (targets : Targets) (at piece : ℕ) (pos_ : Pos) → slice_get code.ops at ≡ Some (placed_at piece pos_ op.Mark 0)
           → Doing (give onward) at targets (suc at)
       only_mark targets at piece pos_ there = behind_mark targets at piece pos_ there (stays_there targets at)
 
@@ -396,7 +396,7 @@ module _ (function : TypedFunction) (program : CodeProgram) (bound : ℕ) (code 
       -- ---- loops
 
       -- one more turn, or the end of the loop
-      turns_does : (it : TypedStatement) (is : Bool) (targets : Targets) (turn_ end_ piece : ℕ) (pos_ : Pos)
+      pub turns_does : (it : TypedStatement) (is : Bool) (targets : Targets) (turn_ end_ piece : ℕ) (pos_ : Pos)
           → Doing (again (turn_of function it)) turn_ targets (suc end_) → slice_get code.ops end_ ≡ Some (placed_at piece pos_ op.Mark 0)
           → Doing (turns_if program.setting again function it is)
           (Rattle.hs_lowering.specs.Laws.Switches.pick is turn_ end_) targets (suc end_)
@@ -407,11 +407,11 @@ module _ (function : TypedFunction) (program : CodeProgram) (bound : ℕ) (code 
       picked_if true at target = refl
       picked_if false at target = refl
 
-      at_picked : {step : Step Flow} → (is : Bool) (at target : ℕ) (targets : Targets) (end_ : ℕ)
+      pub at_picked : {step : Step Flow} → (is : Bool) (at target : ℕ) (targets : Targets) (end_ : ℕ)
           → Doing step (Rattle.hs_lowering.specs.Laws.Switches.pick is (suc at) target) targets end_ → Doing step (place_if is at target) targets end_
       at_picked {step = step} is at target targets end_ doing = subst (λ n. Doing step n targets end_) (sym (picked_if is at target)) doing
 
-      while_does : (at : Place) (test : RightValue) (body : TypedStatement) (counts : Counts) (targets : Targets) (start : ℕ)
+      pub while_does : (at : Place) (test : RightValue) (body : TypedStatement) (counts : Counts) (targets : Targets) (start : ℕ)
           → FitsStatement program (tree.while_ at test body)
           → Held code (code_for (tree.while_ at test body) counts targets start) counts.cases start
           → Doing (executed program.setting again function (tree.while_ at test body)) start targets
@@ -438,7 +438,7 @@ module _ (function : TypedFunction) (program : CodeProgram) (bound : ℕ) (code 
               while_stands program.setting function code counts.pieces (suc counts.pieces) (after_statement body (one_piece (one_piece counts))).pieces at.pos
               test inner start counts.cases (λ a b. same_statement program.setting function body (one_piece (one_piece counts)) a b) held
 
-      do_does : (at : Place) (body : TypedStatement) (test : RightValue) (counts : Counts) (targets : Targets) (start : ℕ)
+      pub do_does : (at : Place) (body : TypedStatement) (test : RightValue) (counts : Counts) (targets : Targets) (start : ℕ)
           → FitsStatement program (tree.do_ at body test) → Held code (code_for (tree.do_ at body test) counts targets start) counts.cases start
           → Doing (executed program.setting again function (tree.do_ at body test)) start targets
           (after start (code_for (tree.do_ at body test) counts targets start).ops)
@@ -446,7 +446,7 @@ module _ (function : TypedFunction) (program : CodeProgram) (bound : ℕ) (code 
           marked_first targets start _ counts.pieces at.pos held.ops.0 (loops.go (tree.do_ at body test) counts targets start tt fits held)
 
       -- a condition that may be absent
-      tested_does : (piece : ℕ) (at : Place) (e : Option RightValue) (it : TypedStatement) (target start : ℕ) (targets : Targets) (join : ℕ) (pos_ : Pos)
+      pub tested_does : (piece : ℕ) (at : Place) (e : Option RightValue) (it : TypedStatement) (target start : ℕ) (targets : Targets) (join : ℕ) (pos_ : Pos)
           → IfAny (EachRight (FitsCall program)) e
           → Holds code start (Rattle.hs_lowering.specs.Statements.guarded_if program.setting function piece at.pos e target start).ops
           → Doing (again (turn_of function it)) (behind_if program.setting function piece e start) targets (suc target)
@@ -459,7 +459,7 @@ module _ (function : TypedFunction) (program : CodeProgram) (bound : ℕ) (code 
           (λ is so. at_picked is _ target targets (suc target) (turns_does it is targets _ target join pos_ job there))
 
       -- without its first part
-      for_does : (at : Place) (test step : Option RightValue) (body : TypedStatement) (counts : Counts) (targets : Targets) (start : ℕ)
+      pub for_does : (at : Place) (test step : Option RightValue) (body : TypedStatement) (counts : Counts) (targets : Targets) (start : ℕ)
           → FitsStatement program (tree.for_ at None test step body)
           → Held code (code_for (tree.for_ at None test step body) counts targets start) counts.cases start
           → Doing (tested program.setting again function at.pos test >>= turns_if program.setting again function (tree.for_ at None test step body))

@@ -2,9 +2,8 @@
 --     place_of is labels otherwise          the operation of the first label that is so, or else that one
 --     any_in is labels                      there is such a label
 --     chosen_case                           the case of a switch is the place of the label at which the list of statements begins
-use Rattle.std.proofs.Common.{◌≡◌, ℕ, suc, ◌==◌, Bool, true, false, ◌||◌, List, [], ◌∷◌, ◌++◌, Option, Some, None, refl, sym, ap, ◌∙◌}
+use Rattle.std.proofs.Common.{◌≡◌, ℕ, suc, ◌==◌, Bool, true, false, ◌||◌, List, [], ◌∷◌, ◌++◌, Option, refl, ap, ◌∙◌}
 use Rattle.std.specs.List.{list_any}
-use Rattle.hs_code.specs.declared.function_code.Case.{Case}
 use Rattle.hs_code_run.specs.Steps.{or_later, found, or_default}
 use Rattle.hs_lowering.specs.Lowering.{after}
 use Rattle.hs_lowering.specs.Statements.{Counts, Targets, pieces_for, after_statement, labels_at, labels_code, cases_in, default_in, statement_code, list_code}
