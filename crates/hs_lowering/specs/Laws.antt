@@ -1,6 +1,8 @@
 pub mod Branches
 pub mod Calls
+pub mod Exact
 pub mod Expressions
+pub mod Fitting
 pub mod Flows
 pub mod Frames
 pub mod Jobs

@@ -1,8 +1,10 @@
 //! Laws of the code of expressions. Each is a function without a body, so that a caller can name it.
 
 ghost use Rattle.std.specs.Prelude.{ℕ, Bool, List, ◌∷◌};
+ghost use Rattle.hs_code.specs.Codes.{view_program};
 ghost use Rattle.hs_code.specs.declared.function_code.FunctionCode.{FunctionCode};
 ghost use Rattle.hs_code_run.specs.Codes.{CodeProgram, Waiting};
+ghost use Rattle.hs_lowering.specs.Exact.{IsExact};
 ghost use Rattle.hs_lowering.specs.Laws.Calls.{Calls};
 ghost use Rattle.hs_lowering.specs.Laws.Expressions.{FitsCall};
 ghost use Rattle.hs_lowering.specs.Lowering.{after, right_code, address_code};
@@ -13,6 +15,8 @@ ghost use Rattle.hs_meaning.specs.Values.{Value};
 ghost use Rattle.hs_tree.specs.Inside.{EachRight, EachLeft};
 ghost use Rattle.hs_tree.specs.Trees.{RightValue, LeftValue};
 ghost use Rattle.hs_tree.specs.declared.head.VariableDecl.{VariableDecl};
+
+use hs_tree::Program;
 
 /// The code of an expression evaluates it: a run that comes to its first operation ends as the evaluation ends, in the same state and with the
 /// same stop at the same place, or goes on behind the code with the value above the stack. The same holds of the address of an object.
@@ -37,4 +41,10 @@ pub fn code_of_expressions_is_exact()
         (at_point program variables bound code waiting choices start stack)
         (λ value. at_point program variables bound code waiting choices
         (after start (address_code program.setting variables piece e start depth)) (value ∷ stack)) }
+{}
+
+/// The code of a program runs as the program does: for every input, schedule and number of turns, its run without choices ends as the run of the
+/// program, with the same output, and in no other way.
+pub fn code_of_programs_is_exact(program: &Program)
+    ensures { ∥ IsExact (view_program program.now) ∥₁ }
 {}

@@ -1,7 +1,7 @@
-//! The code of typed programs: `specs/Lowering.antt` says what each form of an expression becomes, and the laws say that its run is the meaning of
-//! the expression. The crate is definitions and laws; its functions have no body.
+//! The code of typed programs: `specs/Lowering.antt` says what each form of an expression becomes, and `specs/Statements.antt` what statements and
+//! functions do. The laws say that a run of this code is the meaning of the program. The crate is definitions and laws; its functions have no body.
 #![tactic(auto)]
 
 mod laws;
 
-pub use laws::code_of_expressions_is_exact;
+pub use laws::{code_of_expressions_is_exact, code_of_programs_is_exact};

@@ -7,9 +7,10 @@ use Rattle.hs_code.specs.declared.function_code.Case.{Case}
 use Rattle.hs_code.specs.declared.function_code.FunctionCode.{FunctionCode}
 use Rattle.hs_code.specs.declared.function_code.Placed.{Placed}
 use Rattle.hs_code.specs.declared.op.Op.TheVariants as op
-use Rattle.hs_code_run.specs.Codes.{CodeFunction, CodeProgram, Waiting, Point, function_with, functions_with, code_program}
+use Rattle.hs_code_run.specs.Codes.{CodeFunction, CodeProgram, Waiting, Point, function_with, functions_with}
 use Rattle.hs_code_run.specs.Runs.{Comes, halted, onward as goes_onward}
 use Rattle.hs_code_run.specs.Steps.{stepped, stepped_at, function_called, taken, below, entered, returned_to}
+use Rattle.hs_lowering.specs.Exact.{program_code as of_program}
 use Rattle.hs_lowering.specs.Laws.Calls.{onto, AreAsMany, Calls, as_many_below, as_many_taken}
 use Rattle.hs_lowering.specs.Laws.Flows.{goes_by, LeadsTo, PerformsTo, follows_to, silent, same_to, jump_steps, thens_to}
 use Rattle.hs_lowering.specs.Laws.Frames.{bindings_as_declared, Opens, opened_keeps, closed_globals}
@@ -20,7 +21,7 @@ use Rattle.hs_lowering.specs.Laws.Statements.{FitsStatement, FitsBlock, IsLoop, 
 use Rattle.hs_lowering.specs.Laws.Variables.{is_slot_at, is_slot_binding, bare_slot}
 use Rattle.hs_lowering.specs.Lowering.{after}
 use Rattle.hs_lowering.specs.Performing.{Any, IsAt, Leads, Performs, Holds, at_point}
-use Rattle.hs_lowering.specs.Statements.{Written, Part, ◌then◌, Counts, Targets, nowhere, one_piece, piece_for, after_statement, return_code, statement_code, block_code, body_counts, end_at, function_code, as_code, functions_code, codes_of, ForPieces}
+use Rattle.hs_lowering.specs.Statements.{Written, Part, ◌then◌, Counts, Targets, nowhere, one_piece, piece_for, after_statement, return_code, statement_code, block_code, body_counts, end_at, function_code, as_code, functions_code, ForPieces}
 use Rattle.hs_meaning.specs.Classes.{is_slot_declared}
 use Rattle.hs_meaning.specs.Evaluation.{Flow, onward, breaks, continues, returned, Job, turn_of, call_of, returned_value, value_of}
 use Rattle.hs_meaning.specs.Frames.{opened, closed}
@@ -389,7 +390,7 @@ found_function setting (first ∷ rest) (suc place) function is = later_found se
 
 module _ (typed : TypedProgram) where
   abbrev pub program_code : CodeProgram
-  program_code = code_program typed (codes_of typed)
+  program_code = of_program typed
 
   abbrev pub code_of : TypedFunction → FunctionCode
   code_of function = as_code (function_code (setting_of typed) function)

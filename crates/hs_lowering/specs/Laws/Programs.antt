@@ -55,7 +55,7 @@ starts_as_declared setting next (it ∷ rest) place =
     by false is (suc at) others = others (suc next) at
 
 -- by its place, a function and its code
-coded : (setting : Setting) (functions : List TypedFunction) (place : ℕ) (function : TypedFunction) → slice_get functions place ≡ Some function
+pub coded : (setting : Setting) (functions : List TypedFunction) (place : ℕ) (function : TypedFunction) → slice_get functions place ≡ Some function
     → slice_get (functions_with functions (functions_code setting functions)) place ≡ Some (function_with function (as_code (function_code setting function)))
 coded setting [] place function is = absurd (never is)
   where
