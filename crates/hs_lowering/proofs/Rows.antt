@@ -106,15 +106,15 @@ abbrev code_of : RightValue → List (ℕ × Op)
 code_of e = map short (right_code setting variables 7 e 0 0)
 
 -- g = NewHandle(4)
-line_9 : code_of (tree.assign (head 5 char_handle_id) (local char_handle_id 1)
+assigned_handle : code_of (tree.assign (head 5 char_handle_id) (local char_handle_id 1)
     (tree.call_routine (head 6 char_handle_id) 0 (one (tree.convert_number (head 7 long) kind.Long (num 4)))))
     ≡ (0, Num 4) ∷ (1, Conv kind.Long) ∷ (1, Shift 0) ∷ (1, Routine 0) ∷ (1, Set (name.Local 1)) ∷ []
-line_9 = refl
+assigned_handle = refl
 
 -- putchar(*p)
-line_10 : code_of (tree.call_routine (head 6 int) 1 (one (tree.convert_number (head 7 int) kind.Int (tree.load (head 8 char) target))))
+printed_character : code_of (tree.call_routine (head 6 int) 1 (one (tree.convert_number (head 7 int) kind.Int (tree.load (head 8 char) target))))
     ≡ (0, Get (name.Local 2)) ∷ (1, Load (access.Number kind.Char)) ∷ (1, Conv kind.Int) ∷ (1, Routine 1) ∷ []
-line_10 = refl
+printed_character = refl
 
 -- the position of an operation is that of its expression, and the piece is the same for all
 positions : right_code setting variables 7 (tree.not (head 6 int) (get int 3)) 40 2

@@ -14,6 +14,7 @@ use Rattle.hs_tree.specs.Trees.{TypedProgram}
 abbrev pub program_code : TypedProgram → CodeProgram
 program_code typed = code_program typed (codes_of typed)
 
+-- the code means what the program means
 pub record IsExact (typed : TypedProgram) : Type 0 where
   pub runs : (input : Input) (schedule : List Decision) (turns : ℕ) → CodeRun (program_code typed) input schedule [] turns (run typed input schedule turns)
   pub only : (input : Input) (schedule : List Decision) (turns : ℕ) (ending : Ending) → CodeRun (program_code typed) input schedule [] turns ending

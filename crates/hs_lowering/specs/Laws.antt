@@ -6,6 +6,7 @@ pub mod Fitting
 pub mod Flows
 pub mod Frames
 pub mod Jobs
+pub mod Jumps
 pub mod Lengths
 pub mod Loops
 pub mod Objects

@@ -65,6 +65,7 @@ abbrev pub joined : Written → Written → Written
 joined first second = record { ops = first.ops ++ second.ops; cases = first.cases ++ second.cases; labels = first.labels ++ second.labels }
 
 infixr 10 ◌then◌
+-- the second one begins where the first one ends
 abbrev pub ◌then◌ : Part → Part → Part
 (first then second) start = joined (first start) (second (after start (first start).ops))
 
@@ -102,6 +103,7 @@ abbrev pub case_for : Label → ℕ → ℕ
 case_for (label.Case at bits) count = suc count
 case_for (label.Default at) count = count
 
+-- and those of all labels
 abbrev pub cases_for : List Label → ℕ → ℕ
 cases_for [] count = count
 cases_for (its ∷ rest) count = cases_for rest (case_for its count)
@@ -171,6 +173,7 @@ module _ (piece : ℕ) (at : Pos) where
   abbrev pub placed_at : Op → ℕ → Placed
   placed_at its places = record { op = its; at = at; piece = piece; places = places }
 
+  -- one operation
   abbrev pub only_at : Op → Lowered
   only_at its start depth = placed_at its depth ∷ []
 
@@ -321,10 +324,12 @@ module _ (setting : Setting) (function : TypedFunction) where
   guarded_if piece at None target = nothing
   guarded_if piece at (Some e) target = guarded piece at e target
 
+  -- and where it ends
   abbrev pub behind_if : ℕ → Option RightValue → ℕ → ℕ
   behind_if piece None start = start
   behind_if piece (Some e) start = behind piece e start
 
+  -- a first part or a step, whose value is dropped
   abbrev pub dropped_if : ℕ → Pos → Option RightValue → Part
   dropped_if piece at None = nothing
   dropped_if piece at (Some e) = given_dropped piece at (value_code piece e)
@@ -342,6 +347,7 @@ module _ (setting : Setting) (function : TypedFunction) where
   return_code piece at =
       given piece at (missing_code piece at (is_pointer setting.types function.result) (is_struct_row (row_of setting.types function.result))) op.Return
 
+  -- a return, with or without a value
   abbrev pub returned_code : ℕ → Pos → Option RightValue → Part
   returned_code piece at None = return_code piece at
   returned_code piece at (Some e) = given piece at (value_code piece e) op.Return
@@ -360,6 +366,7 @@ module _ (setting : Setting) (function : TypedFunction) where
       guarded counts.pieces at e (suc jump_at)
       then first then alone join at (op.Jump (after (suc jump_at) (second (suc jump_at)).ops)) then second then alone join at op.Mark
 
+  -- and that operation is found from the first one
   abbrev pub if_else_code : Counts → Pos → RightValue → ℕ → Part → Part → Part
   if_else_code counts at e join first second start =
       if_else_at counts at e join first second (after (behind counts.pieces e start) (first (behind counts.pieces e start)).ops) start
@@ -371,6 +378,7 @@ module _ (setting : Setting) (function : TypedFunction) where
       (alone join at op.Mark then guarded test at e (suc jump_at) then alone test at op.Turn
       then body (record { breaks = suc jump_at; continues = start }) then alone join at (op.Jump start) then alone end_ at op.Mark) start
 
+  -- and that operation is found from the body with jumps to nowhere
   abbrev pub while_code : ℕ → ℕ → ℕ → Pos → RightValue → (Targets → Part) → Part
   while_code join test end_ at e body start =
       while_at join test end_ at e body
@@ -383,6 +391,7 @@ module _ (setting : Setting) (function : TypedFunction) where
       then body (record { breaks = suc (behind test e test_at); continues = test_at })
       then guarded test at e (suc (behind test e test_at)) then alone join at (op.Jump start) then alone end_ at op.Mark) start
 
+  -- and C is found from the body with jumps to nowhere
   abbrev pub do_code : ℕ → ℕ → ℕ → Pos → RightValue → (Targets → Part) → Part
   do_code join test end_ at e body start = do_at join test end_ at e body (after (suc (suc start)) (body nowhere (suc (suc start))).ops) start
 
@@ -405,10 +414,12 @@ module _ (setting : Setting) (function : TypedFunction) where
       then body (record { breaks = suc jump_at; continues = step_at }) then dropped_if pieces.step at step
       then alone pieces.join at (op.Jump start) then alone pieces.end_ at op.Mark) start
 
+  -- the end of the step
   abbrev pub for_from : ForPieces → Pos → Option RightValue → Option RightValue → (Targets → Part) → ℕ → Part
   for_from pieces at test step body step_at start =
       for_at pieces at test step body step_at (after step_at (dropped_if pieces.step at step step_at).ops) start
 
+  -- and C is found from the body with jumps to nowhere
   abbrev pub for_code : ForPieces → Pos → Option RightValue → Option RightValue → (Targets → Part) → Part
   for_code pieces at test step body start =
       for_from pieces at test step body
@@ -425,6 +436,7 @@ module _ (setting : Setting) (function : TypedFunction) where
       ((given test at (value_code test e) (op.Choose (goal_of first last labels break_at))
       then body (record { breaks = break_at; continues = targets.continues }) then alone end_ at op.Mark) start)
 
+  -- and E is found from the block with jumps to nowhere
   abbrev pub switch_code : ℕ → ℕ → Pos → RightValue → ℕ → ℕ → (Targets → Part) → Targets → Part
   switch_code test end_ at e first last body targets start =
       switch_at test end_ at e first last body targets (after (behind test e start) (body nowhere (behind test e start)).ops)

@@ -7,9 +7,11 @@ ghost use Rattle.hs_code_run.specs.Codes.{CodeProgram, Waiting};
 ghost use Rattle.hs_lowering.specs.Exact.{IsExact};
 ghost use Rattle.hs_lowering.specs.Laws.Calls.{Calls};
 ghost use Rattle.hs_lowering.specs.Laws.Expressions.{FitsCall};
+ghost use Rattle.hs_lowering.specs.Laws.Jumps.{AllWithin};
 ghost use Rattle.hs_lowering.specs.Lowering.{after, right_code, address_code};
 ghost use Rattle.hs_lowering.specs.Performing.{Any, Holds, Performs, at_point};
 ghost use Rattle.hs_meaning.specs.Evaluation.{Flow, Job, value_of, addressed};
+ghost use Rattle.hs_meaning.specs.Settings.{Setting};
 ghost use Rattle.hs_meaning.specs.Steps.{Step};
 ghost use Rattle.hs_meaning.specs.Values.{Value};
 ghost use Rattle.hs_tree.specs.Inside.{EachRight, EachLeft};
@@ -41,6 +43,15 @@ pub fn code_of_expressions_is_exact()
         (at_point program variables bound code waiting choices start stack)
         (λ value. at_point program variables bound code waiting choices
         (after start (address_code program.setting variables piece e start depth)) (value ∷ stack)) }
+{}
+
+/// The code of an expression jumps only inside itself: from its first operation to the one behind it, wherever it stands. So does the code of
+/// the address of an object.
+pub fn expressions_jump_inside()
+    ensures value { (setting : Setting) (variables : List VariableDecl) (piece : ℕ) (e : RightValue) (start depth : ℕ)
+        → AllWithin start (after start (right_code setting variables piece e start depth)) (right_code setting variables piece e start depth) }
+    ensures address { (setting : Setting) (variables : List VariableDecl) (piece : ℕ) (e : LeftValue) (start depth : ℕ)
+        → AllWithin start (after start (address_code setting variables piece e start depth)) (address_code setting variables piece e start depth) }
 {}
 
 /// The code of a program runs as the program does: for every input, schedule and number of turns, its run without choices ends as the run of the

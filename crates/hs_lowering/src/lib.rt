@@ -4,4 +4,4 @@
 
 mod laws;
 
-pub use laws::{code_of_expressions_is_exact, code_of_programs_is_exact};
+pub use laws::{code_of_expressions_is_exact, code_of_programs_is_exact, expressions_jump_inside};

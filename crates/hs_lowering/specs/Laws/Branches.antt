@@ -25,12 +25,15 @@ place_if false at target = target
 
 module _ (program : CodeProgram) (variables : List VariableDecl) (bound : ℕ) (code : FunctionCode) (waiting : List Waiting) (choices : List Bool)
     (piece : ℕ) (head : Head) where
+  -- a step that the code performs
   abbrev Turning' : Lowered → {A : Type 0} → (A → Type 0) → Step A → List Value → (A → List Value) → Type 0
   Turning' its fact first stack left = Turning program variables bound code waiting choices piece its fact first stack left
 
+  -- before an operation, with such a stack
   abbrev at_ : ℕ → List Value → Point
   at_ = point program variables bound code waiting choices piece
 
+  -- a step, from one operation to another
   abbrev Performing : {A : Type 0} → (A → Type 0) → Step A → Point → (A → Point) → Type 0
   Performing fact first start next = Performs program variables bound code waiting choices fact first start next
 

@@ -90,6 +90,7 @@ takes_none (Some it) is s = ap (λ b. either b (decided (powers_of it)) (give tt
 
 module _ (program : CodeProgram) (variables : List VariableDecl) (bound : ℕ) (code : FunctionCode) (waiting : List Waiting) (choices : List Bool)
     (piece : ℕ) (head : Head) where
+  -- a step that the code performs
   abbrev Turning' : Lowered → {A : Type 0} → (A → Type 0) → Step A → List Value → (A → List Value) → Type 0
   Turning' its fact first stack left = Turning program variables bound code waiting choices piece its fact first stack left
 

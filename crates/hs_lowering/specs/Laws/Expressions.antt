@@ -91,9 +91,11 @@ address_keeps (at_address its) machine = same_variables machine
 
 module _ (program : CodeProgram) (variables : List VariableDecl) (bound : ℕ) (code : FunctionCode) (waiting : List Waiting) (choices : List Bool)
     (piece : ℕ) (again : Job → Step Flow) where
+  -- a step that the code performs
   abbrev Turning' : Lowered → {A : Type 0} → (A → Type 0) → Step A → List Value → (A → List Value) → Type 0
   Turning' its fact first stack left = Turning program variables bound code waiting choices piece its fact first stack left
 
+  -- the variables stay as declared
   abbrev Staying : {A : Type 0} → Ran A → Type 0
   Staying r = Stays program variables bound code waiting choices Any r
 

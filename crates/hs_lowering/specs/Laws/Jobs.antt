@@ -389,12 +389,15 @@ found_function setting (first ∷ rest) (suc place) function is = later_found se
 -- ---- programs
 
 module _ (typed : TypedProgram) where
+  -- the program as a code run sees it
   abbrev pub program_code : CodeProgram
   program_code = of_program typed
 
+  -- the code of a function of it
   abbrev pub code_of : TypedFunction → FunctionCode
   code_of function = as_code (function_code (setting_of typed) function)
 
+  -- its jobs, with so much fuel
   abbrev pub jobs_within : ℕ → Job → Step Flow
   jobs_within fuel = again_within (setting_of typed) typed.functions fuel
 

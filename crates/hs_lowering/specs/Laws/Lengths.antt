@@ -24,6 +24,7 @@ use Rattle.hs_types.specs.declared.row.TypeId.{TypeId}
 
 -- ---- equally long
 
+-- as many operations, and the same labels
 abbrev pub SameShape : Written → Written → ℕ → Type 0
 SameShape first second start = (after start first.ops ≡ after start second.ops) × (first.labels ≡ second.labels)
 

@@ -1,6 +1,8 @@
 -- Where the operations of a loop stand (own).
 --     WhileStands, DoStands, ForStands     each operation of the loop is there, and where the loop ends
 --     while_stands, do_stands, for_stands  they do, where the code of the loop is
+--     while_turn, while_back, while_targets, do_test, ..   where its Turn, its condition, its step and its jump back stand, and where `break` and
+--     `continue` in it go
 use Rattle.std.proofs.Common.{◌≡◌, ℕ, suc, slice_get, Option, Some, None, refl, ◌∙◌}
 use Rattle.hs_base.specs.declared.pos.Pos.{Pos}
 use Rattle.hs_code.specs.declared.function_code.FunctionCode.{FunctionCode}
@@ -22,16 +24,19 @@ module _ (setting : Setting) (function : TypedFunction) (code : FunctionCode) wh
   -- ---- while
 
   module _ (join test end_ : ℕ) (at : Pos) (e : RightValue) (body : Targets → Part) (start : ℕ) where
-    -- Turn, and Jump
+    -- Turn
     abbrev pub while_turn : ℕ
     while_turn = behind setting function test e (suc start)
 
+    -- the jump back
     abbrev pub while_back : ℕ
     while_back = after (suc while_turn) (body nowhere (suc while_turn)).ops
 
+    -- of the body
     abbrev pub while_targets : Targets
     while_targets = record { breaks = suc while_back; continues = start }
 
+    -- each operation of a `while` is there
     pub record WhileStands (base : ℕ) : Type 0 where
       pub head : Stands code join at op.Mark start
       pub guard : Holds code (suc start) (guarded setting function test at e (suc while_back) (suc start)).ops
@@ -93,16 +98,19 @@ module _ (setting : Setting) (function : TypedFunction) (code : FunctionCode) wh
   -- ---- do
 
   module _ (join test end_ : ℕ) (at : Pos) (e : RightValue) (body : Targets → Part) (start : ℕ) where
-    -- the condition, and Jump
+    -- the condition
     abbrev pub do_test : ℕ
     do_test = after (suc (suc start)) (body nowhere (suc (suc start))).ops
 
+    -- the jump back
     abbrev pub do_back : ℕ
     do_back = behind setting function test e do_test
 
+    -- of the body
     abbrev pub do_targets : Targets
     do_targets = record { breaks = suc do_back; continues = do_test }
 
+    -- each operation of a `do` is there
     pub record DoStands (base : ℕ) : Type 0 where
       pub head : Stands code join at op.Mark start
       pub turn : Stands code join at op.Turn (suc start)
@@ -170,19 +178,23 @@ module _ (setting : Setting) (function : TypedFunction) (code : FunctionCode) wh
   length_guard piece at (Some e) target start = length_given piece at (value_code setting function piece e) (op.Zero target) start
 
   module _ (pieces : ForPieces setting function) (at : Pos) (test step : Option RightValue) (body : Targets → Part) (start : ℕ) where
-    -- Turn, the step, and Jump
+    -- Turn
     abbrev pub for_turn : ℕ
     for_turn = behind_if setting function pieces.test test (suc start)
 
+    -- the step
     abbrev pub for_step : ℕ
     for_step = after (suc for_turn) (body nowhere (suc for_turn)).ops
 
+    -- the jump back
     abbrev pub for_back : ℕ
     for_back = after for_step (dropped_if setting function pieces.step at step for_step).ops
 
+    -- of the body
     abbrev pub for_targets : Targets
     for_targets = record { breaks = suc for_back; continues = for_step }
 
+    -- each operation of a `for` is there
     pub record ForStands (base : ℕ) : Type 0 where
       pub head : Stands code pieces.join at op.Mark start
       pub guard : Holds code (suc start) (guarded_if setting function pieces.test at test (suc for_back) (suc start)).ops

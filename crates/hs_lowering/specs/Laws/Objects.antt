@@ -119,9 +119,11 @@ module _ (program : CodeProgram) (variables : List VariableDecl) (bound : ℕ) w
 
 module _ (program : CodeProgram) (variables : List VariableDecl) (bound : ℕ) (code : FunctionCode) (waiting : List Waiting) (choices : List Bool)
     (piece : ℕ) (head : Head) where
+  -- a step that the code performs
   abbrev Turning' : Lowered → {A : Type 0} → (A → Type 0) → Step A → List Value → (A → List Value) → Type 0
   Turning' its fact first stack left = Turning program variables bound code waiting choices piece its fact first stack left
 
+  -- the position of the expression
   abbrev at_head : Pos
   at_head = head.at.pos
 
@@ -140,12 +142,15 @@ module _ (program : CodeProgram) (variables : List VariableDecl) (bound : ℕ) (
   num_turns bits stack =
       op_gives program variables bound code waiting choices piece head (op.Num bits) (number bits) stack (λ v. v ∷ stack) (λ at s. refl)
 
+  -- a load
   abbrev pub load_step : Access → Value → Step Value
   load_step access its = perform program.setting at_head (operation.load access) (its ∷ [])
 
+  -- a store
   abbrev pub store_step : Access → Value → Value → Step Value
   store_step access its value = perform program.setting at_head (operation.store access) (its ∷ value ∷ [])
 
+  -- a slot gets a value
   abbrev pub set_step : Variable → Value → Step Value
   set_step name value = perform program.setting at_head (operation.set name) (value ∷ [])
 

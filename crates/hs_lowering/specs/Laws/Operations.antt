@@ -31,12 +31,15 @@ access_same (of_struct size) = refl
 
 module _ (program : CodeProgram) (variables : List VariableDecl) (bound : ℕ) (code : FunctionCode) (waiting : List Waiting) (choices : List Bool)
     (piece : ℕ) where
+  -- the variables are as declared, and no more turns are left than the bound
   abbrev pub At : State → Type 0
   At = IsAt program variables bound
 
+  -- before an operation, with such a stack
   abbrev pub point : ℕ → List Value → Point
   point = at_point program variables bound code waiting choices
 
+  -- a step that the code performs
   abbrev pub Turning : Lowered → {A : Type 0} → (A → Type 0) → Step A → List Value → (A → List Value) → Type 0
   Turning its fact first stack left = Turns program variables bound code waiting choices its fact first stack left
 

@@ -18,6 +18,7 @@ abbrev pub CasesFrom : List Case → ℕ → List Case → Type 0
 CasesFrom all base [] = Unit {0}
 CasesFrom all base (its ∷ rest) = (slice_get all base ≡ Some its) × CasesFrom all (suc base) rest
 
+-- the cases of the code
 abbrev pub HoldsCases : FunctionCode → ℕ → List Case → Type 0
 HoldsCases code base its = CasesFrom code.cases base its
 

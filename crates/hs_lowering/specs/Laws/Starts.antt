@@ -51,9 +51,11 @@ as_left at variable = tree.variable (as_head at) variable
 
 module _ (function : TypedFunction) (program : CodeProgram) (bound : ℕ) (code : FunctionCode) (waiting : List Waiting) (choices : List Bool)
     (again : Job → Step Flow) (calls : Calls program function.variables bound code waiting choices again) where
+  -- the variables are as declared, and no more turns are left than the bound
   abbrev At : State → Type 0
   At = IsAt program function.variables bound
 
+  -- a step that the code performs
   abbrev Turning' : ℕ → Lowered → {A : Type 0} → (A → Type 0) → Step A → List Value → (A → List Value) → Type 0
   Turning' piece its fact first stack left = Turning program function.variables bound code waiting choices piece its fact first stack left
 
@@ -140,6 +142,7 @@ module _ (function : TypedFunction) (program : CodeProgram) (bound : ℕ) (code 
     -- ---- variables
 
     module _ (variable : Variable) where
+      -- whether it is a slot
       abbrev declared : Bool
       declared = is_slot_declared program.setting.types
           (Rattle.hs_lowering.specs.Lowering.declared_in program.setting function.variables variable)
@@ -238,6 +241,7 @@ module _ (function : TypedFunction) (program : CodeProgram) (bound : ℕ) (code 
           (acts at.pos (variable_at variable) >>= meaning.scalar_started program.setting again function at.pos parts its) (scalar_starts b is parts its))
           (scalars_start b is parts rest))
 
+      -- what a store of that type reaches
       abbrev access_for : TypeId → Access
       access_for id = access_of_type program.setting id (class_of_type program.setting.same id)
 

@@ -47,9 +47,11 @@ use Rattle.hs_types.specs.TypeTables.{row_of}
 abbrev pub FitsStatement : CodeProgram → TypedStatement → Type 0
 FitsStatement program it = EachStatement (EachExpression (EachRight (FitsCall program))) it
 
+-- of a block
 abbrev pub FitsBlock : CodeProgram → TypedBlock → Type 0
 FitsBlock program it = EachBlock (EachExpression (EachRight (FitsCall program))) it
 
+-- of a list
 abbrev pub FitsList : CodeProgram → TypedStatements → Type 0
 FitsList program it = EachOfStatements (EachExpression (EachRight (FitsCall program))) it
 
@@ -61,6 +63,7 @@ IsLoop (tree.for_ at None test step body) = Unit {0}
 IsLoop _ = ⊥
 
 module _ (function : TypedFunction) (program : CodeProgram) (bound : ℕ) (code : FunctionCode) (waiting : List Waiting) (choices : List Bool) where
+  -- before an operation, with nothing on the stack
   abbrev pub bare : ℕ → Point
   bare at = bare_point program function.variables bound code waiting choices at
 
@@ -70,6 +73,7 @@ module _ (function : TypedFunction) (program : CodeProgram) (bound : ℕ) (code 
       PerformsTo program function.variables bound code waiting choices step (bare at)
       (goes_by program function.variables bound code waiting choices targets end_)
 
+  -- the code of a statement, from an operation on
   abbrev pub code_for : TypedStatement → Counts → Targets → ℕ → Written
   code_for it counts targets start = statement_code program.setting function it counts targets start
 
