@@ -1,0 +1,3 @@
+pub mod Equations
+pub mod Loops
+pub mod Places

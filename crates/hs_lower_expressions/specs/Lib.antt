@@ -1,0 +1,5 @@
+pub mod Contexts
+pub mod Emits
+pub mod Emitting
+pub mod EmittingLaws
+pub mod Lengths
