@@ -14,8 +14,8 @@ use std::marker::Model;
 /// The most classes: each has a number of 32 bits.
 const MOST: usize = 4_294_967_295;
 
-/// The classes of a program, each once and named by its place. Contracts see the list. To find the number of one takes no longer if there
-/// are many.
+/// The classes of a program, each once and named by its place. All are added before the first expression is lowered, in the order in which
+/// the program first names them. Contracts see the list. To find the number of one takes no longer if there are many.
 #[derive(Drop)]
 pub struct Classes {
     set: IndexSet<Class>,

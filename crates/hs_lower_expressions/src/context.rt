@@ -16,20 +16,26 @@ use hs_tree::{
 use hs_types::{Integer, Row, TypeId, Types};
 
 /// What expressions are lowered in: what their program declares, the variables of their function, and the piece of text that they are
-/// part of.
+/// part of. All that an expression names must be there: of what is not, the code is wrong, without an error.
 #[derive(Clone, Copy)]
 pub struct Context<'a> {
     /// The types of the program.
     pub types: &'a Types,
+    /// The objects of static storage duration.
     pub globals: &'a Globals,
+    /// The string literals.
     pub literals: &'a Literals,
+    /// The routines of the table.
     pub routines: &'a Routines,
+    /// Which types are one in several units.
     pub same: &'a Representatives,
+    /// The fields whose address is taken.
     pub taken: &'a TakenFields,
+    /// The classes of pointers.
     pub classes: &'a Classes,
-    /// The variables of the function.
+    /// The variables of the function, its parameters first.
     pub variables: &'a Variables,
-    /// The number of the piece of text.
+    /// The number of the piece of text, as docs/CODE.md counts them ("Statements").
     pub piece: u32,
 }
 

@@ -18,7 +18,11 @@ use hs_tree::{Head, Lvalue, Rvalue, Stride};
 /// Puts the code of an expression at the end of `ops`. The expression leaves one value on the stack. `depth` is how many values are on
 /// the stack before it; an operation has left each of them there, so they are not more than the operations.
 ///
-/// Fails if there would be more than 1000000 operations, or if memory runs out. A part of the code may then be there.
+/// The targets of jumps are numbers in the whole list, so `ops` begins with the first operation of the function.
+///
+/// Fails if there would be more than 1000000 operations, or if memory runs out. After an error nothing is said of the operations.
+///
+/// `code` and `steps` say the same: `steps` is for a caller that writes more than one expression.
 ///
 /// Example: for `i + 1`, where `i` is a slot: `Get(i)`, `Num(1)` and `Binary(Arithmetic(Add), Int)`.
 pub fn expression(context: &Context, ops: &mut Ops, e: &Rvalue, depth: u32) -> Result<(), LowerEnd>

@@ -9,7 +9,7 @@ use std::alloc::AllocFailed;
 /// Why code is not made.
 #[derive(Clone, Copy, Debug, PartialEq, Eq)]
 pub enum LowerEnd {
-    /// The operations are more than 1000000.
+    /// The operations would be more than 1000000 (`hs_base::LimitKind::Ops`).
     Limit,
     /// Memory ran out.
     NoMemory,

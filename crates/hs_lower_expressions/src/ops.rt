@@ -1,7 +1,8 @@
 //! The operations of a function while they are made.
 
-ghost use Rattle.std.specs.Prelude.{◌≡◌, ◌≤◌, ◌<◌, [], ◌∷◌, length, slice_set, OnOk, OnErr};
+ghost use Rattle.std.specs.Prelude.{◌≡◌, ◌≤◌, ◌<◌, [], ◌∷◌, length, slice_set, Err, OnOk, OnErr};
 ghost use Rattle.hs_lower_expressions.specs.Emits.{Emits, Grows, most_ops};
+ghost use Rattle.hs_lower_expressions.specs.declared.lower_end.LowerEnd.TheVariants.{Limit as limit};
 
 use crate::LowerEnd;
 use hs_base::LimitKind;
@@ -48,6 +49,7 @@ impl Ops {
     pub fn push(&mut self, its: Placed) -> Result<(), LowerEnd>
         ensures pushed { Emits result self.old self.new (its ∷ []) }
         ensures grows { OnOk result (Grows self.old self.new) }
+        ensures full { most_ops ≤ length self.old → result ≡ Err limit }
         ensures unchanged { OnErr result (self.new ≡ self.old) }
     {
         if self.vec.len() as u64 >= LimitKind::Ops.number() {
@@ -57,7 +59,7 @@ impl Ops {
         Ok(())
     }
 
-    /// Replaces the operation of that number, as a jump once its target is known.
+    /// Replaces the operation of that number, which must be there, as a jump once its target is known.
     pub fn set(&mut self, number: u32, its: Placed)
         requires there { number < length self.old }
         ensures { self.new ≡ slice_set self.old number its }

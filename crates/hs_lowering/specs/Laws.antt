@@ -8,11 +8,14 @@ pub mod Frames
 pub mod Jobs
 pub mod Jumps
 pub mod Lengths
+pub mod Kinds
+pub mod Leaving
 pub mod Loops
 pub mod Objects
 pub mod Operations
 pub mod Placing
 pub mod Programs
+pub mod Stacks
 pub mod Starts
 pub mod Statements
 pub mod Switches

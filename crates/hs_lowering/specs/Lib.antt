@@ -2,4 +2,5 @@ pub mod Exact
 pub mod Laws
 pub mod Lowering
 pub mod Performing
+pub mod Stacked
 pub mod Statements

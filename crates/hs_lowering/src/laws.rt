@@ -1,22 +1,27 @@
 //! Laws of the code of expressions. Each is a function without a body, so that a caller can name it.
 
-ghost use Rattle.std.specs.Prelude.{ℕ, Bool, List, ◌∷◌};
-ghost use Rattle.hs_code.specs.Codes.{view_program};
+ghost use Rattle.std.specs.Prelude.{ℕ, Bool, List, ◌∷◌, length};
+ghost use Rattle.hs_code.specs.Codes.{scope_of, view_program};
+ghost use Rattle.hs_code.specs.Stacks.{Kind, pointer};
 ghost use Rattle.hs_code.specs.declared.function_code.FunctionCode.{FunctionCode};
 ghost use Rattle.hs_code_run.specs.Codes.{CodeProgram, Waiting};
 ghost use Rattle.hs_lowering.specs.Exact.{IsExact};
 ghost use Rattle.hs_lowering.specs.Laws.Calls.{Calls};
 ghost use Rattle.hs_lowering.specs.Laws.Expressions.{FitsCall};
 ghost use Rattle.hs_lowering.specs.Laws.Jumps.{AllWithin};
+ghost use Rattle.hs_lowering.specs.Laws.Kinds.{IsOf};
+ghost use Rattle.hs_lowering.specs.Laws.Stacks.{KindsFit};
 ghost use Rattle.hs_lowering.specs.Lowering.{after, right_code, address_code};
 ghost use Rattle.hs_lowering.specs.Performing.{Any, Holds, Performs, at_point};
+ghost use Rattle.hs_lowering.specs.Stacked.{Stacked};
 ghost use Rattle.hs_meaning.specs.Evaluation.{Flow, Job, value_of, addressed};
-ghost use Rattle.hs_meaning.specs.Settings.{Setting};
+ghost use Rattle.hs_meaning.specs.Settings.{Setting, setting_of};
 ghost use Rattle.hs_meaning.specs.Steps.{Step};
 ghost use Rattle.hs_meaning.specs.Values.{Value};
 ghost use Rattle.hs_tree.specs.Inside.{EachRight, EachLeft};
-ghost use Rattle.hs_tree.specs.Trees.{RightValue, LeftValue};
+ghost use Rattle.hs_tree.specs.Trees.{RightValue, LeftValue, TypedFunction, TypedProgram, type_of};
 ghost use Rattle.hs_tree.specs.declared.head.VariableDecl.{VariableDecl};
+ghost use Rattle.hs_types.specs.TypeTables.{IsRight};
 
 use hs_tree::Program;
 
@@ -52,6 +57,30 @@ pub fn expressions_jump_inside()
         → AllWithin start (after start (right_code setting variables piece e start depth)) (right_code setting variables piece e start depth) }
     ensures address { (setting : Setting) (variables : List VariableDecl) (piece : ℕ) (e : LeftValue) (start depth : ℕ)
         → AllWithin start (after start (address_code setting variables piece e start depth)) (address_code setting variables piece e start depth) }
+{}
+
+/// The code of an expression leaves one value more on the stack than there was, of the kind of its type; of type `void` it may be of any kind.
+/// So where control that goes on behind the code finds the operands of that many operations, control that comes to its first operation does, and
+/// each operation on the way has its operands and notes how many values are on the stack. An address is a pointer.
+///
+/// It is asked that the expression is typed, and that no argument of a call is of type `void` (`KindsFit`).
+pub fn expressions_leave_one_value()
+    ensures value { (program : TypedProgram) (function : TypedFunction) (code : FunctionCode) (piece : ℕ) (e : RightValue) (start count : ℕ)
+        (kinds : List Kind)
+        → IsRight program.types
+        → EachRight (KindsFit program function) e
+        → Holds code start (right_code (setting_of program) function.variables piece e start (length kinds))
+        → ((kind : Kind) → IsOf program.types (type_of e) kind → Stacked (scope_of program function) code count
+        (after start (right_code (setting_of program) function.variables piece e start (length kinds))) (kind ∷ kinds))
+        → Stacked (scope_of program function) code count start kinds }
+    ensures address { (program : TypedProgram) (function : TypedFunction) (code : FunctionCode) (piece : ℕ) (e : LeftValue) (start count : ℕ)
+        (kinds : List Kind)
+        → IsRight program.types
+        → EachLeft (KindsFit program function) e
+        → Holds code start (address_code (setting_of program) function.variables piece e start (length kinds))
+        → Stacked (scope_of program function) code count
+        (after start (address_code (setting_of program) function.variables piece e start (length kinds))) (pointer ∷ kinds)
+        → Stacked (scope_of program function) code count start kinds }
 {}
 
 /// The code of a program runs as the program does: for every input, schedule and number of turns, its run without choices ends as the run of the

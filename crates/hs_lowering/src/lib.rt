@@ -4,4 +4,7 @@
 
 mod laws;
 
-pub use laws::{code_of_expressions_is_exact, code_of_programs_is_exact, expressions_jump_inside};
+pub use laws::{
+    code_of_expressions_is_exact, code_of_programs_is_exact, expressions_jump_inside,
+    expressions_leave_one_value,
+};

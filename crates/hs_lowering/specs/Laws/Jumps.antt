@@ -140,7 +140,7 @@ module _ (piece : ℕ) (head : Head) where
       high_jump : after (suc (after (suc at) first)) second ≤ after (suc (after (suc at) first)) second
       high_jump = omega arith
 
-  branches_end : (at depth : ℕ) (first : List Placed) (second : Lowered)
+  pub branches_end : (at depth : ℕ) (first : List Placed) (second : Lowered)
       → Rattle.std.specs.Prelude.◌≡◌ (after at (branches piece head at depth first second))
       (after (suc (after (suc at) first)) (second (suc (after (suc at) first)) depth))
   branches_end at depth first second =
