@@ -10,11 +10,14 @@ pub mod Jumps
 pub mod Lengths
 pub mod Kinds
 pub mod Leaving
+pub mod Listing
 pub mod Loops
+pub mod Named
 pub mod Objects
 pub mod Operations
 pub mod Placing
 pub mod Programs
+pub mod Ranges
 pub mod Stacks
 pub mod Starts
 pub mod Statements

@@ -1,7 +1,8 @@
 //! Laws of the code of expressions. Each is a function without a body, so that a caller can name it.
 
-ghost use Rattle.std.specs.Prelude.{ℕ, Bool, List, ◌∷◌, length};
-ghost use Rattle.hs_code.specs.Codes.{scope_of, view_program};
+ghost use Rattle.std.specs.List.{AllByRecursion};
+ghost use Rattle.std.specs.Prelude.{◌≡◌, ◌<◌, ℕ, Bool, List, ◌∷◌, length, None};
+ghost use Rattle.hs_code.specs.Codes.{IsInRange, scope_of, view_program};
 ghost use Rattle.hs_code.specs.Stacks.{Kind, pointer};
 ghost use Rattle.hs_code.specs.declared.function_code.FunctionCode.{FunctionCode};
 ghost use Rattle.hs_code_run.specs.Codes.{CodeProgram, Waiting};
@@ -10,16 +11,20 @@ ghost use Rattle.hs_lowering.specs.Laws.Calls.{Calls};
 ghost use Rattle.hs_lowering.specs.Laws.Expressions.{FitsCall};
 ghost use Rattle.hs_lowering.specs.Laws.Jumps.{AllWithin};
 ghost use Rattle.hs_lowering.specs.Laws.Kinds.{IsOf};
+ghost use Rattle.hs_lowering.specs.Laws.Ranges.{NamesFit};
 ghost use Rattle.hs_lowering.specs.Laws.Stacks.{KindsFit};
-ghost use Rattle.hs_lowering.specs.Lowering.{after, right_code, address_code};
+ghost use Rattle.hs_lowering.specs.Lowering.{after, slot_of, right_code, address_code};
 ghost use Rattle.hs_lowering.specs.Performing.{Any, Holds, Performs, at_point};
 ghost use Rattle.hs_lowering.specs.Stacked.{Stacked};
+ghost use Rattle.hs_meaning.specs.Classes.{classes_of};
 ghost use Rattle.hs_meaning.specs.Evaluation.{Flow, Job, value_of, addressed};
 ghost use Rattle.hs_meaning.specs.Settings.{Setting, setting_of};
 ghost use Rattle.hs_meaning.specs.Steps.{Step};
 ghost use Rattle.hs_meaning.specs.Values.{Value};
+ghost use Rattle.hs_tree.specs.Fitting.{EachNode};
 ghost use Rattle.hs_tree.specs.Inside.{EachRight, EachLeft};
 ghost use Rattle.hs_tree.specs.Trees.{RightValue, LeftValue, TypedFunction, TypedProgram, type_of};
+ghost use Rattle.hs_tree.specs.declared.class.Class.{Class};
 ghost use Rattle.hs_tree.specs.declared.head.VariableDecl.{VariableDecl};
 ghost use Rattle.hs_types.specs.TypeTables.{IsRight};
 
@@ -81,6 +86,34 @@ pub fn expressions_leave_one_value()
         → Stacked (scope_of program function) code count
         (after start (address_code (setting_of program) function.variables piece e start (length kinds))) (pointer ∷ kinds)
         → Stacked (scope_of program function) code count start kinds }
+{}
+
+/// What the operations of an expression name is there, and the operations to which they go are in the code of the function, if one follows the
+/// expression: variables, of which a slot is read or set and an object has its address taken, string literals, functions, routines and classes.
+/// The same holds of the address of an lvalue that is no slot.
+///
+/// It is asked that the expression is typed, and that its classes are among `classes` (`NamesFit`). Those of a program are so, by
+/// `programs_name_what_is_there`.
+pub fn expressions_name_what_is_there()
+    ensures value { (program : TypedProgram) (classes : List Class) (function : TypedFunction) (code : FunctionCode) (piece : ℕ) (e : RightValue)
+        (start depth : ℕ)
+        → EachRight (NamesFit program classes function) e
+        → after start (right_code (setting_of program) function.variables piece e start depth) < length code.ops
+        → AllByRecursion (λ one. IsInRange program classes function code one.op)
+        (right_code (setting_of program) function.variables piece e start depth) }
+    ensures address { (program : TypedProgram) (classes : List Class) (function : TypedFunction) (code : FunctionCode) (piece : ℕ) (e : LeftValue)
+        (start depth : ℕ)
+        → EachLeft (NamesFit program classes function) e
+        → slot_of (setting_of program) function.variables e ≡ None
+        → after start (address_code (setting_of program) function.variables piece e start depth) < length code.ops
+        → AllByRecursion (λ one. IsInRange program classes function code one.op)
+        (address_code (setting_of program) function.variables piece e start depth) }
+{}
+
+/// Each expression of a program names what is there: variables, string literals, functions and routines, and classes of the program. What has
+/// its address taken is marked, and so no slot.
+pub fn programs_name_what_is_there(program: &Program)
+    ensures { ∥ EachNode (view_program program.now) (NamesFit (view_program program.now) (classes_of (view_program program.now))) ∥₁ }
 {}
 
 /// The code of a program runs as the program does: for every input, schedule and number of turns, its run without choices ends as the run of the

@@ -111,7 +111,7 @@ SlotFits scope None kind = Unit {0}
 SlotFits scope (Some its) kind = slot_kind scope.types (variable_in scope its) ≡ Some kind
 
 -- a variable that is there is of a type like that one
-abbrev LikeIf : TypeTable → Option VariableDecl → TypeId → Type 0
+abbrev pub LikeIf : TypeTable → Option VariableDecl → TypeId → Type 0
 LikeIf types None id = ⊥
 LikeIf types (Some its) id = AreAlike types its.type_id id
 
@@ -128,12 +128,12 @@ module _ (program : TypedProgram) (function : TypedFunction) where
   like_local None id is = absurd is
   like_local (Some its) id is = is.0.0
 
-  like_declared : (its : Variable) (id : TypeId) → IsOfType program function its id
+  pub like_declared : (its : Variable) (id : TypeId) → IsOfType program function its id
       → LikeIf program.types (declared_in (setting_of program) function.variables its) id
   like_declared (name.Global place) id is = like_global program.types (slice_get program.globals place) id is
   like_declared (name.Local place) id is = like_local (slice_get function.variables place) id is
 
-  declared_same : (its : Variable) → variable_in (scope_of program function) its ≡ declared_in (setting_of program) function.variables its
+  pub declared_same : (its : Variable) → variable_in (scope_of program function) its ≡ declared_in (setting_of program) function.variables its
   declared_same (name.Global place) = global_same (slice_get program.globals place)
   declared_same (name.Local place) = refl
 
@@ -347,7 +347,7 @@ integer_number_is types table its id is =
     number its = refl
 
 -- the fact of an lvalue itself
-left_fact : (holds : Node → Type 0) (e : LeftValue) → EachLeft holds e → holds (left e)
+pub left_fact : (holds : Node → Type 0) (e : LeftValue) → EachLeft holds e → holds (left e)
 left_fact holds (tree.variable head its) is = is
 left_fact holds (tree.literal head place) is = is
 left_fact holds (tree.target head pointer) is = is.0
