@@ -16,6 +16,7 @@ pub mod Named
 pub mod Objects
 pub mod Operations
 pub mod Placing
+pub mod Positions
 pub mod Programs
 pub mod Ranges
 pub mod Stacks

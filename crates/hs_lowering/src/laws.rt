@@ -1,7 +1,8 @@
 //! Laws of the code of expressions. Each is a function without a body, so that a caller can name it.
 
 ghost use Rattle.std.specs.List.{AllByRecursion};
-ghost use Rattle.std.specs.Prelude.{◌≡◌, ◌<◌, ℕ, Bool, List, ◌∷◌, length, None};
+ghost use Rattle.std.specs.Prelude.{◌≡◌, ◌<◌, ℕ, Bool, List, ◌∷◌, length, true, None};
+ghost use Rattle.hs_base.specs.declared.pos.Pos.{Pos};
 ghost use Rattle.hs_code.specs.Codes.{IsInRange, scope_of, view_program};
 ghost use Rattle.hs_code.specs.Stacks.{Kind, pointer};
 ghost use Rattle.hs_code.specs.declared.function_code.FunctionCode.{FunctionCode};
@@ -11,6 +12,7 @@ ghost use Rattle.hs_lowering.specs.Laws.Calls.{Calls};
 ghost use Rattle.hs_lowering.specs.Laws.Expressions.{FitsCall};
 ghost use Rattle.hs_lowering.specs.Laws.Jumps.{AllWithin};
 ghost use Rattle.hs_lowering.specs.Laws.Kinds.{IsOf};
+ghost use Rattle.hs_lowering.specs.Laws.Positions.{IsPlaced, position_of};
 ghost use Rattle.hs_lowering.specs.Laws.Ranges.{NamesFit};
 ghost use Rattle.hs_lowering.specs.Laws.Stacks.{KindsFit};
 ghost use Rattle.hs_lowering.specs.Lowering.{after, slot_of, right_code, address_code};
@@ -62,6 +64,17 @@ pub fn expressions_jump_inside()
         → AllWithin start (after start (right_code setting variables piece e start depth)) (right_code setting variables piece e start depth) }
     ensures address { (setting : Setting) (variables : List VariableDecl) (piece : ℕ) (e : LeftValue) (start depth : ℕ)
         → AllWithin start (after start (address_code setting variables piece e start depth)) (address_code setting variables piece e start depth) }
+{}
+
+/// The operations of an expression have its position, those of its operands theirs, and all of them its piece: what holds of the position of each
+/// expression inside, holds of that of each operation.
+pub fn expressions_keep_their_positions()
+    ensures value { (setting : Setting) (variables : List VariableDecl) (piece : ℕ) (test : Pos → Bool) (e : RightValue) (start depth : ℕ)
+        → EachRight (λ node. test (position_of node) ≡ true) e
+        → AllByRecursion (IsPlaced piece (λ at. test at ≡ true)) (right_code setting variables piece e start depth) }
+    ensures address { (setting : Setting) (variables : List VariableDecl) (piece : ℕ) (test : Pos → Bool) (e : LeftValue) (start depth : ℕ)
+        → EachLeft (λ node. test (position_of node) ≡ true) e
+        → AllByRecursion (IsPlaced piece (λ at. test at ≡ true)) (address_code setting variables piece e start depth) }
 {}
 
 /// The code of an expression leaves one value more on the stack than there was, of the kind of its type; of type `void` it may be of any kind.

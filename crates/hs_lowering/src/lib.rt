@@ -6,5 +6,6 @@ mod laws;
 
 pub use laws::{
     code_of_expressions_is_exact, code_of_programs_is_exact, expressions_jump_inside,
-    expressions_leave_one_value, expressions_name_what_is_there, programs_name_what_is_there,
+    expressions_keep_their_positions, expressions_leave_one_value, expressions_name_what_is_there,
+    programs_name_what_is_there,
 };
