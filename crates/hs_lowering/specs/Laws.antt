@@ -1,3 +1,4 @@
+pub mod Bodies
 pub mod Branches
 pub mod Calls
 pub mod Exact
@@ -5,6 +6,7 @@ pub mod Expressions
 pub mod Fitting
 pub mod Flows
 pub mod Frames
+pub mod Functions
 pub mod Jobs
 pub mod Jumps
 pub mod Lengths

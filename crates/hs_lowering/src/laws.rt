@@ -10,6 +10,7 @@ ghost use Rattle.hs_code_run.specs.Codes.{CodeProgram, Waiting};
 ghost use Rattle.hs_lowering.specs.Exact.{IsExact};
 ghost use Rattle.hs_lowering.specs.Laws.Calls.{Calls};
 ghost use Rattle.hs_lowering.specs.Laws.Expressions.{FitsCall};
+ghost use Rattle.hs_lowering.specs.Laws.Functions.{FunctionNames};
 ghost use Rattle.hs_lowering.specs.Laws.Jumps.{AllWithin};
 ghost use Rattle.hs_lowering.specs.Laws.Kinds.{IsOf};
 ghost use Rattle.hs_lowering.specs.Laws.Positions.{IsPlaced, position_of};
@@ -124,9 +125,11 @@ pub fn expressions_name_what_is_there()
 {}
 
 /// Each expression of a program names what is there: variables, string literals, functions and routines, and classes of the program. What has
-/// its address taken is marked, and so no slot.
+/// its address taken is marked, and so no slot. So what the operations of each function name is there too, apart from the operations to which
+/// they go.
 pub fn programs_name_what_is_there(program: &Program)
-    ensures { ∥ EachNode (view_program program.now) (NamesFit (view_program program.now) (classes_of (view_program program.now))) ∥₁ }
+    ensures expressions { ∥ EachNode (view_program program.now) (NamesFit (view_program program.now) (classes_of (view_program program.now))) ∥₁ }
+    ensures code { ∥ AllByRecursion (FunctionNames (view_program program.now)) (view_program program.now).functions ∥₁ }
 {}
 
 /// The code of a program runs as the program does: for every input, schedule and number of turns, its run without choices ends as the run of the

@@ -76,16 +76,16 @@ kept : (known its : List Class) (other : Class) → Among known other → Among 
 kept known [] other is = is
 kept known (one ∷ rest) other is = kept (insert_key same_class known one) rest other (kept_one known one other is)
 
-listed_all : (known its : List Class) → AllAmong (with_classes known its) its
+pub listed_all : (known its : List Class) → AllAmong (with_classes known its) its
 listed_all known [] = tt
 listed_all known (one ∷ rest) =
     (kept (insert_key same_class known one) rest one (new_one known one), listed_all (insert_key same_class known one) rest)
 
-all_front : (classes first second : List Class) → AllAmong classes (first ++ second) → AllAmong classes first
+pub all_front : (classes first second : List Class) → AllAmong classes (first ++ second) → AllAmong classes first
 all_front classes [] second is = tt
 all_front classes (one ∷ first) second is = (is.0, all_front classes first second is.1)
 
-all_back : (classes first second : List Class) → AllAmong classes (first ++ second) → AllAmong classes second
+pub all_back : (classes first second : List Class) → AllAmong classes (first ++ second) → AllAmong classes second
 all_back classes [] second is = is
 all_back classes (one ∷ first) second is = all_back classes first second is.1
 

@@ -168,11 +168,11 @@ module _ (types : TypeTable) where
   shaped_none (Some its) id like is = ap (λ b. b && not its.taken) (alike_scalar types its.type_id id like ∙ is)
 
   -- a variable that is there is a slot or an object
-  slot_is : (its : Option VariableDecl) → is_slot_declared types its ≡ true → is_slot_in types its ≡ true
+  pub slot_is : (its : Option VariableDecl) → is_slot_declared types its ≡ true → is_slot_in types its ≡ true
   slot_is None is = absurd cc
   slot_is (Some its) is = is
 
-  object_is : (its : Option VariableDecl) → IsTrue (is_some its) → is_slot_declared types its ≡ false → is_object types its ≡ true
+  pub object_is : (its : Option VariableDecl) → IsTrue (is_some its) → is_slot_declared types its ≡ false → is_object types its ≡ true
   object_is None there is = absurd cc
   object_is (Some its) there is = ap not is
 
@@ -200,17 +200,17 @@ module _ (program : TypedProgram) (classes : List Class) (function : TypedFuncti
   There its = IsThere program classes function its
 
   -- of each of them
-  abbrev AllThere : List Placed → Type 0
+  abbrev pub AllThere : List Placed → Type 0
   AllThere its = AllByRecursion (λ one. There one.op) its
 
   -- wherever they stand
   pub record Named (its : Lowered) : Type 0 where
     pub at : (start depth : ℕ) → AllThere (its start depth)
 
-  both_there : (first second : List Placed) → AllThere first → AllThere second → AllThere (first ++ second)
+  pub both_there : (first second : List Placed) → AllThere first → AllThere second → AllThere (first ++ second)
   both_there first second is also = all_both (λ one. There one.op) first second is also
 
-  operand_named : {first second : Lowered} → Named first → Named second → Named (operand first second)
+  pub operand_named : {first second : Lowered} → Named first → Named second → Named (operand first second)
   operand_named {first = first} {second = second} is also =
       record {
         at = λ start depth.
