@@ -7,6 +7,7 @@ pub mod Fitting
 pub mod Flows
 pub mod Frames
 pub mod Functions
+pub mod InRange
 pub mod Jobs
 pub mod Jumps
 pub mod Lengths
@@ -25,4 +26,5 @@ pub mod Stacks
 pub mod Starts
 pub mod Statements
 pub mod Switches
+pub mod Targets
 pub mod Variables

@@ -11,6 +11,7 @@ ghost use Rattle.hs_lowering.specs.Exact.{IsExact};
 ghost use Rattle.hs_lowering.specs.Laws.Calls.{Calls};
 ghost use Rattle.hs_lowering.specs.Laws.Expressions.{FitsCall};
 ghost use Rattle.hs_lowering.specs.Laws.Functions.{FunctionNames};
+ghost use Rattle.hs_lowering.specs.Laws.InRange.{IsRanged};
 ghost use Rattle.hs_lowering.specs.Laws.Jumps.{AllWithin};
 ghost use Rattle.hs_lowering.specs.Laws.Kinds.{IsOf};
 ghost use Rattle.hs_lowering.specs.Laws.Positions.{IsPlaced, position_of};
@@ -130,6 +131,12 @@ pub fn expressions_name_what_is_there()
 pub fn programs_name_what_is_there(program: &Program)
     ensures expressions { ∥ EachNode (view_program program.now) (NamesFit (view_program program.now) (classes_of (view_program program.now))) ∥₁ }
     ensures code { ∥ AllByRecursion (FunctionNames (view_program program.now)) (view_program program.now).functions ∥₁ }
+{}
+
+/// The code of each function of a program is in range: what an operation names is there, it goes to operations of the function, and chooses among
+/// its cases, which go to operations of it too.
+pub fn code_of_programs_is_in_range(program: &Program)
+    ensures { ∥ AllByRecursion (IsRanged (view_program program.now)) (view_program program.now).functions ∥₁ }
 {}
 
 /// The code of a program runs as the program does: for every input, schedule and number of turns, its run without choices ends as the run of the

@@ -5,7 +5,7 @@ use Rattle.std.proofs.Common.{◌≡◌, Bool, true, false, not, ◌&&◌, List,
 use Rattle.std.specs.List.{AllByRecursion}
 use Rattle.hs_lowering.specs.Laws.Bodies.{ConstantThere, PartThere, ScalarThere, MemoryThere, ConstantsThere, StartThere, StartsThere, PhraseNames, function_named}
 use Rattle.hs_lowering.specs.Laws.Fitting.{block_both}
-use Rattle.hs_lowering.specs.Laws.Listing.{AllAmong, placed_in, all_front, all_back, listed_all}
+use Rattle.hs_lowering.specs.Laws.Listing.{AllAmong, placed_in, all_front, all_back, listed_all, front, back}
 use Rattle.hs_lowering.specs.Laws.Named.{names_fit}
 use Rattle.hs_lowering.specs.Laws.Ranges.{ClassIn, NamesFit, AllThere}
 use Rattle.hs_lowering.specs.Lowering.{access_in}
@@ -114,18 +114,12 @@ module _ (program : TypedProgram) where
     abbrev named_there : TypedStatement → List Class
     named_there it = named_in program function it
 
-    front : (first second : List Class) → AllAmong classes (first ++ second) → AllAmong classes first
-    front first second is = all_front classes first second is
-
-    back : (first second : List Class) → AllAmong classes (first ++ second) → AllAmong classes second
-    back first second is = all_back classes first second is
-
     declarations_there : (its : List TypedDeclaration) → AllByRecursion (λ it. FitsHere (of_declaration it)) its
         → AllAmong classes (named_declarations program function its) → AllByRecursion (λ it. There (of_declaration it)) its
     declarations_there [] fits is = tt
     declarations_there (it ∷ rest) fits is = (
-      items_there it.items fits.0 (front (named_items program function it.items) (named_declarations program function rest) is),
-      declarations_there rest fits.1 (back (named_items program function it.items) (named_declarations program function rest) is),
+      items_there it.items fits.0 (front program function (named_items program function it.items) (named_declarations program function rest) is),
+      declarations_there rest fits.1 (back program function (named_items program function it.items) (named_declarations program function rest) is),
     )
 
     mutual
@@ -133,37 +127,37 @@ module _ (program : TypedProgram) where
       statement_there (tree.block it) fits is = starts_there it fits is
       statement_there (tree.expression at e) fits is = tt
       statement_there (tree.empty at) fits is = tt
-      statement_there (tree.if_ at test first) fits is = (tt, statement_there first fits.1 (back (named program function test) (named_there first) is))
+      statement_there (tree.if_ at test first) fits is = (tt, statement_there first fits.1 (back program function (named program function test) (named_there first) is))
       statement_there (tree.if_else at test first second) fits is = (
         tt,
         statement_there first fits.1
-            (back (named program function test) (named_there first) (front (named program function test ++ named_there first) (named_there second) is)),
-        statement_there second fits.2 (back (named program function test ++ named_there first) (named_there second) is),
+            (back program function (named program function test) (named_there first) (front program function (named program function test ++ named_there first) (named_there second) is)),
+        statement_there second fits.2 (back program function (named program function test ++ named_there first) (named_there second) is),
       )
-      statement_there (tree.while_ at test body) fits is = (tt, statement_there body fits.1 (back (named program function test) (named_there body) is))
-      statement_there (tree.do_ at body test) fits is = (tt, statement_there body fits.1 (front (named_there body) (named program function test) is))
+      statement_there (tree.while_ at test body) fits is = (tt, statement_there body fits.1 (back program function (named program function test) (named_there body) is))
+      statement_there (tree.do_ at body test) fits is = (tt, statement_there body fits.1 (front program function (named_there body) (named program function test) is))
       statement_there (tree.for_ at first test next body) fits is = (
         tt,
-        statement_there body fits.1 (back (named_if program function first ++ named_if program function test) (named_there body)
-            (front (named_if program function first ++ named_if program function test ++ named_there body) (named_if program function next) is)),
+        statement_there body fits.1 (back program function (named_if program function first ++ named_if program function test) (named_there body)
+            (front program function (named_if program function first ++ named_if program function test ++ named_there body) (named_if program function next) is)),
       )
-      statement_there (tree.switch_ at e it) fits is = (tt, starts_there it fits.1 (back (named program function e) (named_block program function it) is))
+      statement_there (tree.switch_ at e it) fits is = (tt, starts_there it fits.1 (back program function (named program function e) (named_block program function it) is))
       statement_there (tree.break_ at) fits is = tt
       statement_there (tree.continue_ at) fits is = tt
       statement_there (tree.return_ at e) fits is = tt
 
       pub starts_there : (it : TypedBlock) → EachBlock FitsHere it → AllAmong classes (named_block program function it) → EachBlock There it
       starts_there (tree.compound opening declarations list closing) fits is = (
-        declarations_there declarations fits.0 (front (named_declarations program function declarations) (named_statements program function list) is),
-        list_there list fits.1 (back (named_declarations program function declarations) (named_statements program function list) is),
+        declarations_there declarations fits.0 (front program function (named_declarations program function declarations) (named_statements program function list) is),
+        list_there list fits.1 (back program function (named_declarations program function declarations) (named_statements program function list) is),
       )
 
       list_there : (its : TypedStatements) → EachOfStatements FitsHere its → AllAmong classes (named_statements program function its)
           → EachOfStatements There its
       list_there tree.no_statements fits is = tt
       list_there (tree.more_statements labels it rest) fits is = (
-        statement_there it fits.0 (front (named_there it) (named_statements program function rest) is),
-        list_there rest fits.1 (back (named_there it) (named_statements program function rest) is),
+        statement_there it fits.0 (front program function (named_there it) (named_statements program function rest) is),
+        list_there rest fits.1 (back program function (named_there it) (named_statements program function rest) is),
       )
 
   -- ---- functions

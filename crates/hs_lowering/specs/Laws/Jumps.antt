@@ -75,7 +75,7 @@ joined start first second is also =
     same : (n : ℕ) → n ≤ n
     same n = omega arith
 
-operand_within : {first second : Lowered} → Within first → Within second → Within (operand first second)
+pub operand_within : {first second : Lowered} → Within first → Within second → Within (operand first second)
 operand_within {first = first} {second = second} is also =
     record {
       at = λ start depth.

@@ -151,10 +151,10 @@ module _ (program : TypedProgram) (function : TypedFunction) where
   abbrev of_left : LeftValue → List Class
   of_left e = named_left program function e
 
-  front : (first second : List Class) → AllAmong classes (first ++ second) → AllAmong classes first
+  pub front : (first second : List Class) → AllAmong classes (first ++ second) → AllAmong classes first
   front first second is = all_front classes first second is
 
-  back : (first second : List Class) → AllAmong classes (first ++ second) → AllAmong classes second
+  pub back : (first second : List Class) → AllAmong classes (first ++ second) → AllAmong classes second
   back first second is = all_back classes first second is
 
   mutual

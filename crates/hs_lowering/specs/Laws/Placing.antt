@@ -101,7 +101,7 @@ taken_there [] (suc base) (first ∷ rest) holds = absurd (never holds.0)
     never is = cc
 taken_there (its ∷ all) (suc base) own holds = taken_there all base own (shifted its all base own holds)
 
-past_length : (base : ℕ) (own : List Case) → past base own ≡ base + length own
+pub past_length : (base : ℕ) (own : List Case) → past base own ≡ base + length own
 past_length base [] = past_none base ∙ omega arith
 past_length base (its ∷ rest) = past_more base its rest ∙ past_length (suc base) rest ∙ omega arith
 

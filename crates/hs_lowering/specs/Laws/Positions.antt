@@ -2,7 +2,7 @@
 --     position_of node             where an expression stands
 --     Positioned its               these operations are of the piece, and have positions that meet the fact, wherever they stand
 --     right_placed, left_placed    the law: if the position of each expression inside meets a fact, so does that of each operation
-use Rattle.std.proofs.Common.{◌≡◌, ℕ, suc, Bool, true, false, List, [], ◌∷◌, ◌++◌, slice_get, Option, Some, None, refl}
+use Rattle.std.proofs.Common.{◌≡◌, ℕ, suc, Bool, true, false, List, [], ◌++◌, slice_get, Option, Some, None, refl}
 use Rattle.std.specs.List.{AllByRecursion}
 use Rattle.hs_base.specs.declared.pos.Pos.{Pos}
 use Rattle.hs_code.specs.declared.function_code.Placed.{Placed}
@@ -12,6 +12,7 @@ use Rattle.hs_code.specs.declared.op.Object.TheVariants as object
 use Rattle.hs_code.specs.declared.op.Op.{Op}
 use Rattle.hs_code.specs.declared.op.Op.TheVariants as op
 use Rattle.hs_code.specs.declared.op.Unary.TheVariants as unary
+use Rattle.hs_lowering.specs.Laws.Ranges.{all_both}
 use Rattle.hs_lowering.specs.Lowering.{Lowered, after, operand, sequence, only, on_one, on_two, branches, chosen, answered, conjoined, slot_of, access_in, read_code, written_code, fetched, updated_code, stepped_code, numbers_changed, takes_decision, decided_if, bound_code, right_code, address_code, all_code, dropped_code}
 use Rattle.hs_meaning.specs.Settings.{Setting, access_of}
 use Rattle.hs_tree.specs.Inside.{Node, right, left, EachRight, EachLeft, EachOf}
@@ -31,10 +32,6 @@ abbrev pub IsPlaced : ℕ → (Pos → Type 0) → Placed → Type 0
 IsPlaced piece fact one = (one.piece ≡ piece) × fact one.at
 
 -- ---- lists
-
-all_both : (P : Placed → Type 0) (first second : List Placed) → AllByRecursion P first → AllByRecursion P second → AllByRecursion P (first ++ second)
-all_both P [] second is also = also
-all_both P (one ∷ first) second is also = (is.0, all_both P first second is.1 also)
 
 module _ (piece : ℕ) (fact : Pos → Type 0) where
   -- of each of them

@@ -186,7 +186,7 @@ slot_false false its is = refl
 
 -- ---- lists
 
-all_both : (P : Placed → Type 0) (first second : List Placed) → AllByRecursion P first → AllByRecursion P second → AllByRecursion P (first ++ second)
+pub all_both : (P : Placed → Type 0) (first second : List Placed) → AllByRecursion P first → AllByRecursion P second → AllByRecursion P (first ++ second)
 all_both P [] second is also = also
 all_both P (one ∷ first) second is also = (is.0, all_both P first second is.1 also)
 
