@@ -7,21 +7,20 @@ use Rattle.hs_code.specs.Codes.{IsInRange}
 use Rattle.hs_code.specs.declared.function_code.Case.{Case}
 use Rattle.hs_code.specs.declared.function_code.FunctionCode.{FunctionCode}
 use Rattle.hs_code.specs.declared.function_code.Placed.{Placed}
-use Rattle.hs_code.specs.declared.op.Access.{Access}
-use Rattle.hs_code.specs.declared.op.Access.TheVariants as reach
 use Rattle.hs_code.specs.declared.op.Object.TheVariants as object
 use Rattle.hs_code.specs.declared.op.Op.{Op}
 use Rattle.hs_code.specs.declared.op.Op.TheVariants as op
 use Rattle.hs_lowering.specs.Laws.Functions.{FunctionNames, code_names}
+use Rattle.hs_lowering.specs.Laws.Jobs.{code_of}
 use Rattle.hs_lowering.specs.Laws.Jumps.{Within, after_from}
 use Rattle.hs_lowering.specs.Laws.Lengths.{same_block, cases_of_a_block}
 use Rattle.hs_lowering.specs.Laws.Placing.{past_length, length_given}
-use Rattle.hs_lowering.specs.Laws.Ranges.{ClassIn, IsThere}
+use Rattle.hs_lowering.specs.Laws.Ranges.{IsThere, class_range, class_range_too}
 use Rattle.hs_lowering.specs.Laws.Targets.{GoesIn, AllGo, all_join, all_within, missing_within, block_goes}
 use Rattle.hs_lowering.specs.Lowering.{Lowered, after}
 use Rattle.hs_lowering.specs.Performing.{after_append}
 use Rattle.hs_lowering.specs.Statements as code
-use Rattle.hs_lowering.specs.Statements.{Written, Part, Targets, nowhere, body_counts, end_at, after_block, block_code, placed_at, as_code, function_code}
+use Rattle.hs_lowering.specs.Statements.{Written, Part, Targets, nowhere, body_counts, end_at, after_block, block_code, placed_at, function_code}
 use Rattle.hs_meaning.specs.Classes.{classes_of}
 use Rattle.hs_meaning.specs.Settings.{Setting, setting_of}
 use Rattle.hs_meaning.specs.Statements.{closing_of}
@@ -119,23 +118,13 @@ module _ (setting : Setting) (function : TypedFunction) where
 -- ---- in range
 
 module _ (program : TypedProgram) (classes : List Class) (function : TypedFunction) (its : FunctionCode) where
-  class_range : (access : Access) → ClassIn classes access → IsInRange program classes function its (op.Load access)
-  class_range (reach.Number kind) is = tt
-  class_range (reach.Pointer class) is = is
-  class_range (reach.Struct size) is = tt
-
-  class_range_too : (access : Access) → ClassIn classes access → IsInRange program classes function its (op.Store access)
-  class_range_too (reach.Number kind) is = tt
-  class_range_too (reach.Pointer class) is = is
-  class_range_too (reach.Struct size) is = tt
-
   ranged : (one : Op) → IsThere program classes function one → GoesIn (length its.ops) (length its.cases) one → IsInRange program classes function its one
   ranged (op.Address (object.Variable name)) is goes = is
   ranged (op.Address (object.Literal place)) is goes = is
   ranged (op.Get name) is goes = is
   ranged (op.Set name) is goes = is
-  ranged (op.Load access) is goes = class_range access is
-  ranged (op.Store access) is goes = class_range_too access is
+  ranged (op.Load access) is goes = class_range program classes function its access is
+  ranged (op.Store access) is goes = class_range_too program classes function its access is
   ranged (op.Shift place) is goes = is
   ranged (op.Routine place) is goes = is
   ranged (op.Call place) is goes = is
@@ -148,26 +137,22 @@ module _ (program : TypedProgram) (classes : List Class) (function : TypedFuncti
 -- ---- the program
 
 module _ (program : TypedProgram) where
-  -- the code of one function
-  abbrev pub code_of : TypedFunction → FunctionCode
-  code_of function = as_code (function_code (setting_of program) function)
-
   -- in range
   pub record IsRanged (function : TypedFunction) : Type 0 where
-    pub ranges : (at : ℕ) (its : Placed) → slice_get (code_of function).ops at ≡ Some its
-        → IsInRange program (classes_of program) function (code_of function) its.op
-    pub cases : (place : ℕ) (its : Case) → slice_get (code_of function).cases place ≡ Some its → its.target < length (code_of function).ops
+    pub ranges : (at : ℕ) (its : Placed) → slice_get (code_of program function).ops at ≡ Some its
+        → IsInRange program (classes_of program) function (code_of program function) its.op
+    pub cases : (place : ℕ) (its : Case) → slice_get (code_of program function).cases place ≡ Some its → its.target < length (code_of program function).ops
 
   function_ranged : (function : TypedFunction) → FunctionNames program function → IsRanged function
   function_ranged function names =
       record {
         ranges = λ at its there.
-            ranged program (classes_of program) function (code_of function) its.op
-            (all_at (λ one. IsThere program (classes_of program) function one.op) (code_of function).ops at its names there)
-            (all_at (λ one. GoesIn (length (code_of function).ops) (length (code_of function).cases) one.op) (code_of function).ops at its
+            ranged program (classes_of program) function (code_of program function) its.op
+            (all_at (λ one. IsThere program (classes_of program) function one.op) (code_of program function).ops at its names there)
+            (all_at (λ one. GoesIn (length (code_of program function).ops) (length (code_of program function).cases) one.op) (code_of program function).ops at its
             (function_goes (setting_of program) function).ops there);
         cases = λ place its there.
-            all_at (λ it. it.target < length (code_of function).ops) (code_of function).cases place its
+            all_at (λ it. it.target < length (code_of program function).ops) (code_of program function).cases place its
             (function_goes (setting_of program) function).targets there;
       }
 

@@ -85,12 +85,13 @@ pub record NamesFit (program : TypedProgram) (classes : List Class) (function : 
 -- ---- operations in range
 
 module _ (program : TypedProgram) (classes : List Class) (function : TypedFunction) (code : FunctionCode) where
-  class_range : (its : Access) → ClassIn classes its → IsInRange program classes function code (op.Load its)
+  -- a load, or a store, of a class that is there
+  pub class_range : (its : Access) → ClassIn classes its → IsInRange program classes function code (op.Load its)
   class_range (reach.Number kind) is = tt
   class_range (reach.Pointer class) is = is
   class_range (reach.Struct size) is = tt
 
-  class_range_too : (its : Access) → ClassIn classes its → IsInRange program classes function code (op.Store its)
+  pub class_range_too : (its : Access) → ClassIn classes its → IsInRange program classes function code (op.Store its)
   class_range_too (reach.Number kind) is = tt
   class_range_too (reach.Pointer class) is = is
   class_range_too (reach.Struct size) is = tt
