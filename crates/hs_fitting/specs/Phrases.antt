@@ -3,7 +3,7 @@
 --     condition_walks, switched_walks, returned_walks      the expressions of statements
 --     stated_walks, block_walks       statements and blocks
 --     body_walks                      the body of a function
-use Rattle.std.proofs.Common.{◌≡◌, ℕ, Bool, true, false, not, ◌&&◌, ◌||◌, List, [], ◌∷◌, ◌++◌, nat_eq, Option, Some, None, is_some, Result, Ok, Err, refl, sym, ap, subst, ◌∙◌, if◌then◌else◌}
+use Rattle.std.proofs.Common.{◌≡◌, ℕ, Bool, true, not, List, [], ◌∷◌, ◌++◌, nat_eq, Option, Some, None, Result, Ok, Err, refl, sym, subst, ◌∙◌, if◌then◌else◌}
 use Rattle.std.specs.List.{AllByRecursion, list_any}
 use Rattle.indexmap.specs.IndexSet.{insert_key}
 use Rattle.hs_declarations.specs.Declarations.{block_declared}
@@ -13,19 +13,19 @@ use Rattle.hs_expressions.specs.Expressions.{first_place}
 use Rattle.hs_expressions.specs.Laws.Reached.{all_so}
 use Rattle.hs_fitting.specs.Known.{IsValue, types_walks, valued_walks}
 use Rattle.hs_fitting.specs.Leaving.{scoped_walks}
-use Rattle.hs_fitting.specs.Tests.{second_of_three, second_test}
 use Rattle.hs_fitting.specs.Walk.{Anywhere, Nothing, Walks, passes_walks, stops_walks, knowing_walks, unless_walks, then_walks, so_walks}
 use Rattle.hs_linkage.specs.Works.{Work, ◌>>=◌, knowing, unless}
 use Rattle.hs_linkage.specs.declared.translator.Translator.{Translator}
-use Rattle.hs_operands.specs.Assignments.{assigned, assigned_pointer, assigned_number}
+use Rattle.hs_operands.specs.Assignments.{assigned}
 use Rattle.hs_operands.specs.Constants.{constant_value}
-use Rattle.hs_operands.specs.Conversions.{same_type, is_not_nil, truth}
+use Rattle.hs_operands.specs.Conversions.{is_not_nil, truth}
 use Rattle.hs_operands.specs.Laws.{IsTyped}
 use Rattle.hs_operands.specs.Laws.AssignedTyped.{assigned-typed}
 use Rattle.hs_operands.specs.Laws.Conditions.{truth-typed}
 use Rattle.hs_operands.specs.Laws.Kept.{assigned_kept}
 use Rattle.hs_operands.specs.Laws.Made.{Makes, gives, refuses, either_way}
 use Rattle.hs_operands.specs.Laws.Numbers.{integer_number}
+use Rattle.hs_operands.specs.Laws.Readable.{assigned_readable}
 use Rattle.hs_operands.specs.Laws.Stays.{is_readable-stays}
 use Rattle.hs_operands.specs.Laws.Typed.{all_with_one}
 use Rattle.hs_operands.specs.declared.operand_end.OperandEnd.{OperandEnd}
@@ -37,7 +37,7 @@ use Rattle.hs_syntax.specs.Trees.{Expression, Declaration, Labelling, Statement,
 use Rattle.hs_tokens.specs.declared.place.Place.{Place}
 use Rattle.hs_tree.specs.Fitting.{IsPromotedKind, IsPromoted, FitsReturn, FitsItem, FitsPhrase}
 use Rattle.hs_tree.specs.Inside.{Phrase, of_declaration, EachStatement, EachBlock, EachOfStatements, IfAny, InStart, EachExpression}
-use Rattle.hs_tree.specs.Kinds.{number_kind, is_number, is_pointer, is_readable, is_struct_row, IsAnyNumber, IsReadable}
+use Rattle.hs_tree.specs.Kinds.{number_kind, is_number, is_pointer, IsAnyNumber, IsReadable}
 use Rattle.hs_tree.specs.RowLaws.{OneStatement, one_statement, statements_from}
 use Rattle.hs_tree.specs.Trees as tree
 use Rattle.hs_tree.specs.Trees.{RightValue, TypedItem, TypedDeclaration, TypedStatement, TypedFunction, TypedProgram, type_of}
@@ -48,7 +48,7 @@ use Rattle.hs_typer.specs.declared.type_error.TypeError.{TypeError}
 use Rattle.hs_typer.specs.declared.type_error.TypeError.TheVariants.{Untyped}
 use Rattle.hs_types.specs.Integers.{promoted}
 use Rattle.hs_types.specs.Rows.{integer_id}
-use Rattle.hs_types.specs.TypeTables.{TypeTable, IsRight, Grows, row_of, is_complete}
+use Rattle.hs_types.specs.TypeTables.{TypeTable, IsRight, Grows}
 use Rattle.hs_types.specs.declared.integer.Integer.{Integer}
 use Rattle.hs_types.specs.declared.integer.Integer.TheVariants as kind
 use Rattle.hs_types.specs.declared.row.TypeId.{TypeId}
@@ -71,33 +71,6 @@ IsRightItem program function item =
 lifted_given : {A : Type 0} → (given : Result A OperandEnd) (it : A) → lifted given ≡ Ok it → given ≡ Ok it
 lifted_given (Ok made) it is = cc
 lifted_given (Err why) it is = absurd cc
-
--- a type of which the first test says that its values can be read
-readable_number : (a b c : Bool) → a ≡ true → ((a || b) || c) ≡ true
-readable_number true b c is = refl
-readable_number false b c is = absurd cc
-
--- to a number
-number_readable : (types : TypeTable) (at : Place) (id : TypeId) (e : RightValue) (given : Option Integer) (test : Bool) → number_kind types id ≡ given
-    → Makes (λ made. is_readable types id ≡ true) (assigned_number at id given test e)
-number_readable types at id e None test known made given = absurd cc
-number_readable types at id e (Some its) test known made given =
-    readable_number (is_number types id) (is_pointer types id) (is_struct_row (row_of types id) && is_complete types id) (ap is_some known)
-
--- The values of a type to which something is assigned can be read.
-pub assigned_readable : (types : TypeTable) (at : Place) (id : TypeId) (e : RightValue)
-    → Makes (λ made. is_readable types id ≡ true) (assigned types at id e)
-assigned_readable types at id e =
-    either_way (Makes (λ made. is_readable types id ≡ true)) (same_type (type_of e) id && is_readable types id) (Ok e)
-    (if is_pointer types id
-    then assigned_pointer types at id e
-    else assigned_number at id (number_kind types id) (is_number types (type_of e)) e)
-    (λ same made given. second_test (same_type (type_of e) id) (is_readable types id) same)
-    (λ other. either_way (Makes (λ made. is_readable types id ≡ true)) (is_pointer types id) (assigned_pointer types at id e)
-    (assigned_number at id (number_kind types id) (is_number types (type_of e)) e)
-    (λ pointer made given.
-    second_of_three (is_number types id) (is_pointer types id) (is_struct_row (row_of types id) && is_complete types id) pointer)
-    (λ neither. number_readable types at id e (number_kind types id) (is_number types (type_of e)) refl))
 
 -- what is promoted twice is promoted once
 promoted_twice : (its : Integer) → promoted (promoted its) ≡ promoted its

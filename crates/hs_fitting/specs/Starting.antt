@@ -2,7 +2,7 @@
 --     IsStart program function p      a type, and what an object of it starts with; a value meets all facts of expressions
 --     starting_started                an initialiser, in the forms of `Readying.antt`
 --     starting_fits                   from a place of the text
-use Rattle.std.proofs.Common.{◌≡◌, Bool, true, false, ◌&&◌, Option, Some, None, is_some, Result, Ok, Err, refl, ap, subst, if◌then◌else◌}
+use Rattle.std.proofs.Common.{◌≡◌, true, ◌&&◌, is_some, Result, Ok, Err, refl, ap, subst}
 use Rattle.hs_expressions.specs.Binding.{IsBoundNode}
 use Rattle.hs_expressions.specs.Binding.Keeping.{KnowsBound, Giving, plain_bound}
 use Rattle.hs_expressions.specs.Laws.{IsScoped, Knows}
@@ -15,14 +15,13 @@ use Rattle.hs_fitting.specs.Readying.{Started, IsRightValue, gives_started, of_t
 use Rattle.hs_fitting.specs.Scalars.{IsSolid}
 use Rattle.hs_fitting.specs.Sizing.{MayHaveStart, may_start_solid}
 use Rattle.hs_fitting.specs.Staying.{text_kind_stays}
-use Rattle.hs_fitting.specs.Tests.{second_of_three, second_test}
 use Rattle.hs_fitting.specs.WideOperators.{assigned_wide}
 use Rattle.hs_initialisers.specs.Aggregates.{text_kind}
 use Rattle.hs_initialisers.specs.Initialisers.{is_string, assigned_start, constant_start, starting, with_parts}
-use Rattle.hs_operands.specs.Assignments.{assigned_pointer, assigned_number, assigned}
-use Rattle.hs_operands.specs.Conversions.{same_type}
+use Rattle.hs_operands.specs.Assignments.{assigned}
 use Rattle.hs_operands.specs.Laws.AssignedTyped.{assigned-typed}
 use Rattle.hs_operands.specs.Laws.Kept as keep
+use Rattle.hs_operands.specs.Laws.Readable.{assigned_readable}
 use Rattle.hs_operands.specs.Laws.Stays.{is_readable-stays}
 use Rattle.hs_operands.specs.declared.operand_end.OperandEnd.{OperandEnd}
 use Rattle.hs_syntax.specs.Positions.{position_of}
@@ -30,50 +29,20 @@ use Rattle.hs_syntax.specs.Trees as syntax
 use Rattle.hs_syntax.specs.Trees.{Expression, Initialising}
 use Rattle.hs_tokens.specs.declared.place.Place.{Place}
 use Rattle.hs_tree.specs.Inside.{InStart}
-use Rattle.hs_tree.specs.Kinds.{number_kind, is_number, is_pointer, is_readable, is_struct_row}
+use Rattle.hs_tree.specs.Kinds.{is_readable}
 use Rattle.hs_tree.specs.Objects.{FitsStart}
 use Rattle.hs_tree.specs.Trees as tree
-use Rattle.hs_tree.specs.Trees.{RightValue, Starting, TypedFunction, TypedProgram, type_of}
+use Rattle.hs_tree.specs.Trees.{RightValue, Starting, TypedFunction, TypedProgram}
 use Rattle.hs_typer.specs.Steps.{lifted, lifted_end}
 use Rattle.hs_typer.specs.declared.type_error.TypeError.{TypeError}
 use Rattle.hs_typer.specs.declared.typer.Typer.{Typer}
 use Rattle.hs_types.specs.Growing.{grows_self}
-use Rattle.hs_types.specs.TypeTables.{TypeTable, row_of, layout_of, IsRight, Grows}
-use Rattle.hs_types.specs.declared.integer.Integer.{Integer}
+use Rattle.hs_types.specs.TypeTables.{TypeTable, IsRight, Grows}
 use Rattle.hs_types.specs.declared.row.TypeId.{TypeId}
 
 -- a type, and what an object of it starts with; a value is well typed, bound and computed in promoted kinds
 abbrev pub IsStart : TypedProgram → TypedFunction → TypeId × Starting → Type 0
 IsStart program function p = FitsStart program p.0 p.1 × InStart (IsRightValue program function) p.1
-
--- ---- what can be assigned to can be read
-
-number_readable : (types : TypeTable) (at : Place) (id : TypeId) (o : Option Integer) (b : Bool) (e made : RightValue) → number_kind types id ≡ o
-    → assigned_number at id o b e ≡ Ok made → is_readable types id ≡ true
-number_readable types at id None b e made same given = absurd cc
-number_readable types at id (Some its) b e made same given =
-    let number : is_number types id ≡ true = ap is_some same in
-    rw number refl
-
-pointer_readable : (types : TypeTable) (id : TypeId) → is_pointer types id ≡ true → is_readable types id ≡ true
-pointer_readable types id is =
-    second_of_three (is_number types id) (is_pointer types id) (is_struct_row (row_of types id) && is_some (layout_of types id)) is
-
-other_readable : (types : TypeTable) (at : Place) (id : TypeId) (e made : RightValue) (b : Bool) → is_pointer types id ≡ b
-    → (if b then assigned_pointer types at id e else assigned_number at id (number_kind types id) (is_number types (type_of e)) e) ≡ Ok made
-    → is_readable types id ≡ true
-other_readable types at id e made true same given = pointer_readable types id same
-other_readable types at id e made false same given =
-    number_readable types at id (number_kind types id) (is_number types (type_of e)) e made refl given
-
-readable_by : (types : TypeTable) (at : Place) (id : TypeId) (e made : RightValue) (b : Bool) → (same_type (type_of e) id && is_readable types id) ≡ b
-    → (if b then Ok e else if is_pointer types id then assigned_pointer types at id e
-    else assigned_number at id (number_kind types id) (is_number types (type_of e)) e) ≡ Ok made → is_readable types id ≡ true
-readable_by types at id e made true same given = second_test (same_type (type_of e) id) (is_readable types id) same
-readable_by types at id e made false same given = other_readable types at id e made (is_pointer types id) refl given
-
-assigned_readable : (types : TypeTable) (at : Place) (id : TypeId) (e made : RightValue) → assigned types at id e ≡ Ok made → is_readable types id ≡ true
-assigned_readable types at id e made given = readable_by types at id e made (same_type (type_of e) id && is_readable types id) refl given
 
 -- ---- steps
 

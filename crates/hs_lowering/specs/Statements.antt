@@ -24,7 +24,7 @@ use Rattle.hs_meaning.specs.Classes.{is_slot_declared, class_of_type, class_of_s
 use Rattle.hs_meaning.specs.Numbers.{bits_of}
 use Rattle.hs_meaning.specs.Scalars.{Scalar, scalars_of}
 use Rattle.hs_meaning.specs.Settings.{Setting, setting_of, access_of_type}
-use Rattle.hs_meaning.specs.Statements.{part_at, type_in, closing_of}
+use Rattle.hs_meaning.specs.Statements.{part_for, type_in, closing_of}
 use Rattle.hs_tree.specs.Kinds.{is_pointer, is_struct_row}
 use Rattle.hs_tree.specs.Trees as tree
 use Rattle.hs_tree.specs.Trees.{RightValue, Starting, TypedItem, TypedDeclaration, TypedStatement, TypedBlock, TypedStatements, TypedFunction, TypedProgram}
@@ -267,9 +267,9 @@ module _ (setting : Setting) (function : TypedFunction) where
 
     -- a scalar, in a slot or in an object
     abbrev pub scalar_started : Bool → Variable → List constant_part.Part → Scalar → Lowered
-    scalar_started true variable parts its = slot_started variable (scalar_code its.type_id (part_at its.offset parts))
+    scalar_started true variable parts its = slot_started variable (scalar_code its.type_id (part_for its parts))
     scalar_started false variable parts its =
-        object_started variable its.offset (access_of_scalar its) (scalar_code its.type_id (part_at its.offset parts))
+        object_started variable its.offset (access_of_scalar its) (scalar_code its.type_id (part_for its parts))
 
     -- all of them, each dropped
     abbrev pub scalars_started : Bool → Variable → List constant_part.Part → List Scalar → Part

@@ -5,7 +5,7 @@
 --     executed_all entry statements    a list of statements, from its start or from a label on
 --     next_turn statement              one turn of a loop, without the turn itself
 --     body_of function                 the value that a function returns, and where
-use Rattle.std.specs.Prelude.{ℕ, pos, ◌==◌, Bool, true, false, ◌||◌, List, [], ◌∷◌, slice_get, Option, Some, None}
+use Rattle.std.specs.Prelude.{ℕ, pos, ◌==◌, Bool, true, false, ◌&&◌, ◌||◌, List, [], ◌∷◌, slice_get, Option, Some, None}
 use Rattle.std.specs.List.{list_any}
 use Rattle.hs_base.specs.declared.pos.Pos.{Pos}
 use Rattle.hs_heap.specs.declared.cell.Pointer.TheVariants.{Nil, Fixed}
@@ -95,15 +95,19 @@ after_switch (returned value at) = give (returned value at)
 
 -- ---- first values
 
--- the first one, if it is of that byte, or else what the others have
+-- the first one, if it is the scalar's, or else what the others have
 abbrev pub or_later : Bool → Part → Option Part → Option Part
 or_later true part later = Some part
 or_later false part later = later
 
--- the constant of the scalar at that byte
-abbrev pub part_at : ℕ → List Part → Option Part
-part_at offset [] = None
-part_at offset (part ∷ parts) = or_later (part.offset == offset) part (part_at offset parts)
+-- a constant is for the scalar of its byte and its type
+abbrev pub is_for : Scalar → Part → Bool
+is_for its part = part.offset == its.offset && part.type_id.number == its.type_id.number
+
+-- the constant of that scalar
+abbrev pub part_for : Scalar → List Part → Option Part
+part_for its [] = None
+part_for its (part ∷ parts) = or_later (is_for its part) part (part_for its parts)
 
 -- 0 or NIL, if it has none
 abbrev pub zero_of : Bool → Value
@@ -150,10 +154,10 @@ module _ (setting : Setting) (again : Job → Step Flow) (function : TypedFuncti
   -- a scalar gets its constant: it is a slot, or lies inside an object
   abbrev pub scalar_started : Pos → List Part → Scalar → Location → Step Value
   scalar_started at parts its (in_slot variable) =
-      scalar_made at its.type_id (part_at its.offset parts) >>= (λ value. perform setting at (operation.set variable) (value ∷ []))
+      scalar_made at its.type_id (part_for its parts) >>= (λ value. perform setting at (operation.set variable) (value ∷ []))
   scalar_started at parts its (at_address front) =
       perform setting at (operation.offset its.offset) (front ∷ []) >>= (λ address.
-      scalar_made at its.type_id (part_at its.offset parts) >>= (λ value.
+      scalar_made at its.type_id (part_for its parts) >>= (λ value.
       perform setting at (operation.store (access_of_scalar its)) (address ∷ value ∷ [])))
 
   -- all of them, in order

@@ -29,6 +29,7 @@ pub mod Made
 pub mod Numbers
 pub mod ObjectsTyped
 pub mod PointersTyped
+pub mod Readable
 pub mod Stays
 pub mod Typed
 

@@ -79,6 +79,11 @@ abbrev pub struct_at : TypeTable → Option TypeId → Option Row
 struct_at types None = None
 struct_at types (Some of) = row_of types of
 
+-- each argument of a call is a value that can be read (3.3.2.2)
+abbrev pub AreReadable : TypeTable → RightValues → Type 0
+AreReadable types tree.no_values = Unit {0}
+AreReadable types (tree.more_values e rest) = IsReadable types (type_of e) × AreReadable types rest
+
 -- Each operand has the type that its operator asks for.
 abbrev pub HasOperands : TypeTable → Node → Type 0
 HasOperands types (right (tree.number head bits)) = Unit {0}
@@ -110,8 +115,8 @@ HasOperands types (right (tree.advance head stride into from)) =
     IsPointerToSize types stride.size (type_of_left into) × IsAnyNumber types (type_of from)
 HasOperands types (right (tree.post_update head operator kind to into)) = IsNumber types to (type_of_left into)
 HasOperands types (right (tree.post_advance head stride into)) = IsPointerToSize types stride.size (type_of_left into)
-HasOperands types (right (tree.call head number routine arguments)) = Unit {0}
-HasOperands types (right (tree.call_routine head routine arguments)) = Unit {0}
+HasOperands types (right (tree.call head number routine arguments)) = AreReadable types arguments
+HasOperands types (right (tree.call_routine head routine arguments)) = AreReadable types arguments
 HasOperands types (left (tree.variable head variable)) = Unit {0}
 HasOperands types (left (tree.literal head place)) = Unit {0}
 HasOperands types (left (tree.target head pointer)) = IsPointer types (type_of pointer)

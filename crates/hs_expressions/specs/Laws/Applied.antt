@@ -16,7 +16,7 @@ use Rattle.hs_operands.specs.Assignments.{called}
 use Rattle.hs_operands.specs.Calls.{call_of, call_routine_of}
 use Rattle.hs_operands.specs.Laws.{IsTyped, IsTypedOperand}
 use Rattle.hs_operands.specs.Laws.BranchesTyped.{each_of}
-use Rattle.hs_operands.specs.Laws.Typed.{called-typed}
+use Rattle.hs_operands.specs.Laws.Typed.{AreArguments, arguments_typed, arguments_readable, called-typed}
 use Rattle.hs_operands.specs.Objects.{address_of}
 use Rattle.hs_operands.specs.Operands as operand
 use Rattle.hs_operands.specs.Operands.{TypedOperand, head_of_operand}
@@ -80,8 +80,12 @@ module _ (program : TypedProgram) (function : TypedFunction) (sound : IsRight pr
   abbrev IsCall : List RightValue → TypedOperand → Type 0
   IsCall arguments made = AreTyped arguments → IsTypedOperand program function made
 
+  -- and with arguments that can be read
+  abbrev IsCalled : List RightValue → TypedOperand → Type 0
+  IsCalled arguments made = AreArguments program function arguments → IsTypedOperand program function made
+
   routine_gives : (b : Bool) (it : Designator) (number : ℕ) (p : TypeId × List RightValue) (s : Typer)
-      → Giving program (IsCall p.1) (
+      → Giving program (IsCalled p.1) (
       if b
       then Ok (
         operand.value (call_routine_of it.head.at number p),
@@ -89,11 +93,11 @@ module _ (program : TypedProgram) (function : TypedFunction) (sound : IsRight pr
       )
       else Err (Clash it.head.at it.name)
       )
-  routine_gives true it number p s = λ grows more are. ((tt, tt, tt), each_of program function p.1 are)
+  routine_gives true it number p s = λ grows more are. ((arguments_readable program function p.1 are, tt, tt), each_of program function p.1 (arguments_typed program function p.1 are))
   routine_gives false it number p s = tt
 
-  bound_gives : (its : Bound) (it : Designator) (p : TypeId × List RightValue) (s : Typer) → Giving program (IsCall p.1) (bound_call its it p s)
-  bound_gives (bound.Function number) it p s = λ grows more are. ((tt, tt, tt), each_of program function p.1 are)
+  bound_gives : (its : Bound) (it : Designator) (p : TypeId × List RightValue) (s : Typer) → Giving program (IsCalled p.1) (bound_call its it p s)
+  bound_gives (bound.Function number) it p s = λ grows more are. ((arguments_readable program function p.1 are, tt, tt), each_of program function p.1 (arguments_typed program function p.1 are))
   bound_gives (bound.Routine number) it p s = routine_gives (fits_role s.types s.table number it.head.type_id) it number p s
   bound_gives bound.Nothing it p s = tt
 
@@ -103,20 +107,20 @@ module _ (program : TypedProgram) (function : TypedFunction) (sound : IsRight pr
   counted_gives true holds here there counts is = is
   counted_gives false holds here there counts is = absurd cc
 
-  call_with_keeps : (it : Designator) (p : TypeId × List RightValue) → Keeps program function (IsCall p.1) (call_with it p)
+  call_with_keeps : (it : Designator) (p : TypeId × List RightValue) → Keeps program function (IsCalled p.1) (call_with it p)
   call_with_keeps it p =
       record {
         always = call_with_always it p;
-        gives = λ s scoped counts knows. counted_gives s.counts (IsCall p.1) (bound_call it.bound it p s)
+        gives = λ s scoped counts knows. counted_gives s.counts (IsCalled p.1) (bound_call it.bound it p s)
             (Ok (operand.value (call_of it.head.at 0 p), s)) counts (bound_gives it.bound it p s);
       }
 
   -- what is called, with its arguments
   called_given : (types : TypeTable) (grows : Grows types program.types) (at : Place) (id : TypeId) (arguments : List RightValue)
       (given : Result (TypeId × List RightValue) OperandEnd) → called types at id arguments ≡ given → (p : TypeId × List RightValue)
-      → lifted given ≡ Ok p → AreTyped arguments → AreTyped p.1
+      → lifted given ≡ Ok p → AreTyped arguments → AreArguments program function p.1
   called_given types grows at id arguments (Ok q) same p given are =
-      subst AreTyped (ap arguments_in given) (called-typed program function types sound grows at id arguments are q same)
+      subst (AreArguments program function) (ap arguments_in given) (called-typed program function types sound grows at id arguments are q same)
   called_given types grows at id arguments (Err why) same p given are = absurd cc
 
   pub call_operand_keeps : (it : TypedOperand) (arguments : List RightValue) → Keeps program function (IsCall arguments) (call_operand it arguments)
@@ -126,7 +130,7 @@ module _ (program : TypedProgram) (function : TypedFunction) (sound : IsRight pr
       record { always = refuses_always (Untyped (head_of_operand (operand.object it)).at); gives = λ s scoped counts knows. tt }
   call_operand_keeps (operand.function it) arguments =
       then_keeps
-      (of_types_keeps {holds = λ its. AreTyped arguments → AreTyped its.1} (λ types. lifted (called types it.head.at it.head.type_id arguments))
+      (of_types_keeps {holds = λ its. AreTyped arguments → AreArguments program function its.1} (λ types. lifted (called types it.head.at it.head.type_id arguments))
       (λ types grows p given are.
       called_given types grows it.head.at it.head.type_id arguments (called types it.head.at it.head.type_id arguments) refl p given are))
       (λ its. so_keeps (λ made is converted are. is (converted are)) (call_with_keeps it its))

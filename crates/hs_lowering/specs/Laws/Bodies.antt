@@ -2,11 +2,10 @@
 --     StartThere program classes function variable start     the facts of a first value; PhraseNames of a statement or declaration
 --     NamedPart part                                         what the operations of the part name is there, wherever they stand
 --     statement_named, block_named                           the law; function_named of the code of a function
-use Rattle.std.proofs.Common.{◌≡◌, ◌==◌, ℕ, suc, Bool, true, false, List, [], ◌∷◌, slice_get, Option, Some, None, IsTrue, refl, sym, ap, ◌∙◌, subst}
+use Rattle.std.proofs.Common.{◌≡◌, ℕ, suc, Bool, true, false, List, [], ◌∷◌, slice_get, Option, Some, None, IsTrue, refl, sym, ap, ◌∙◌, subst}
 use Rattle.std.specs.List.{AllByRecursion}
 use Rattle.hs_base.specs.declared.pos.Pos.{Pos}
 use Rattle.hs_code.specs.Codes.{is_object}
-use Rattle.hs_code.specs.Stacks.{variable_in}
 use Rattle.hs_code.specs.Stacks as stacks
 use Rattle.hs_code.specs.declared.op.Access.{Access}
 use Rattle.hs_code.specs.declared.op.Object.TheVariants as object
@@ -15,11 +14,11 @@ use Rattle.hs_code.specs.declared.op.Op.TheVariants as op
 use Rattle.hs_lowering.specs.Laws.Ranges.{ClassIn, IsThere, NamesFit, AllThere, Named, both_there, operand_named, right_named, slot_is, object_is}
 use Rattle.hs_lowering.specs.Lowering.{Lowered, after, access_in}
 use Rattle.hs_lowering.specs.Statements as code
-use Rattle.hs_lowering.specs.Statements.{Part, ◌then◌, plainly, nothing, Counts, Targets, one_piece, piece_for, pieces_for, after_statement, after_block, after_list, only_at, alone, given, given_dropped, labels_code, value_code, guarded, guarded_if, dropped_if, ForPieces, statement_code, block_code, list_code, function_code}
+use Rattle.hs_lowering.specs.Statements.{Part, ◌then◌, plainly, nothing, Counts, Targets, one_piece, piece_for, pieces_for, after_statement, only_at, alone, given, labels_code, value_code, guarded, guarded_if, dropped_if, ForPieces, statement_code, block_code, list_code, function_code}
 use Rattle.hs_meaning.specs.Classes.{is_slot_declared, class_of_type, class_of_scalar}
 use Rattle.hs_meaning.specs.Scalars.{Scalar, scalars_of}
 use Rattle.hs_meaning.specs.Settings.{Setting, setting_of, access_of_type}
-use Rattle.hs_meaning.specs.Statements.{part_at, or_later, type_in, closing_of}
+use Rattle.hs_meaning.specs.Statements.{is_for, part_for, or_later, type_in, closing_of}
 use Rattle.hs_tree.specs.Inside.{Phrase, of_statement, of_declaration, EachRight, EachStatement, EachBlock, EachOfStatements, EachExpression, IfAny, InStart}
 use Rattle.hs_tree.specs.Kinds.{is_pointer, is_struct_row}
 use Rattle.hs_tree.specs.Objects.{IsBase}
@@ -140,13 +139,13 @@ module _ (program : TypedProgram) (classes : List Class) (function : TypedFuncti
     zero_there true = only_there op.Nil tt
     zero_there false = only_there (op.Num 0) tt
 
-    scalar_there : (id : TypeId) (offset : ℕ) (parts : List constant_part.Part) → AllByRecursion (PartThere program classes) parts
-        → Named program classes function (code.scalar_code setting function piece at id (part_at offset parts))
-    scalar_there id offset [] is = zero_there (is_pointer program.types id)
-    scalar_there id offset (part ∷ parts) is = by (part.offset == offset) (scalar_there id offset parts is.1)
+    scalar_there : (its : Scalar) (parts : List constant_part.Part) → AllByRecursion (PartThere program classes) parts
+        → Named program classes function (code.scalar_code setting function piece at its.type_id (part_for its parts))
+    scalar_there its [] is = zero_there (is_pointer program.types its.type_id)
+    scalar_there its (part ∷ parts) is = by (is_for its part) (scalar_there its parts is.1)
       where
-        by : (b : Bool) → Named program classes function (code.scalar_code setting function piece at id (part_at offset parts))
-            → Named program classes function (code.scalar_code setting function piece at id (or_later b part (part_at offset parts)))
+        by : (b : Bool) → Named program classes function (code.scalar_code setting function piece at its.type_id (part_for its parts))
+            → Named program classes function (code.scalar_code setting function piece at its.type_id (or_later b part (part_for its parts)))
         by true rest = constant_there part.value is.0
         by false rest = rest
 
@@ -193,15 +192,15 @@ module _ (program : TypedProgram) (classes : List Class) (function : TypedFuncti
       scalars_started true parts (scalar ∷ rest) is its so constants there =
           then_part
           (given_part op.Drop tt
-          (slot_started (code.scalar_code setting function piece at scalar.type_id (part_at scalar.offset parts)) is
-          (scalar_there scalar.type_id scalar.offset parts constants)))
+          (slot_started (code.scalar_code setting function piece at scalar.type_id (part_for scalar parts)) is
+          (scalar_there scalar parts constants)))
           (scalars_started true parts rest is its so constants (λ so'. (there so').1))
       scalars_started false parts (scalar ∷ rest) is its so constants there =
           then_part
           (given_part op.Drop tt
           (object_started scalar.offset (code.access_of_scalar setting function piece at scalar)
-          (code.scalar_code setting function piece at scalar.type_id (part_at scalar.offset parts)) is its so (there refl).0
-          (scalar_there scalar.type_id scalar.offset parts constants)))
+          (code.scalar_code setting function piece at scalar.type_id (part_for scalar parts)) is its so (there refl).0
+          (scalar_there scalar parts constants)))
           (scalars_started false parts rest is its so constants (λ so'. (there so').1))
 
       start_part : (its : Option VariableDecl) → found ≡ its → (start : Starting) → InStart (EachRight (NamesFit program classes function)) start

@@ -22,7 +22,7 @@ use Rattle.hs_meaning.specs.Operations as operation
 use Rattle.hs_meaning.specs.Scalars.{Scalar, scalars_of}
 use Rattle.hs_meaning.specs.Settings.{access_of_type}
 use Rattle.hs_meaning.specs.Statements as meaning
-use Rattle.hs_meaning.specs.Statements.{part_at, type_in, zero_of}
+use Rattle.hs_meaning.specs.Statements.{part_for, type_in, zero_of}
 use Rattle.hs_meaning.specs.Steps.{State, Step, ◌>>=◌, ◌>>◌, then_with, give, ran_at, acts, perform}
 use Rattle.hs_meaning.specs.Values.{Value, number, pointer, Access}
 use Rattle.hs_tokens.specs.declared.place.Place.{Place}
@@ -216,19 +216,19 @@ module _ (function : TypedFunction) (program : CodeProgram) (bound : ℕ) (code 
       scalar_starts true is parts its =
           same_turns program function.variables bound code waiting choices
           (λ s at_. in_slot_same is (meaning.scalar_started program.setting again function at.pos parts its) s at_)
-          (slot_turns is (scalar_code program.setting function piece at.pos its.type_id (part_at its.offset parts))
-          (meaning.scalar_made program.setting again function at.pos its.type_id (part_at its.offset parts))
-          (scalar_turns its.type_id (part_at its.offset parts) []))
+          (slot_turns is (scalar_code program.setting function piece at.pos its.type_id (part_for its parts))
+          (meaning.scalar_made program.setting again function at.pos its.type_id (part_for its parts))
+          (scalar_turns its.type_id (part_for its parts) []))
       scalar_starts false is parts its =
           same_turns program function.variables bound code waiting choices
           (λ s at_. in_object_same is (meaning.scalar_started program.setting again function at.pos parts its) s at_
           ∙ sym (thens_same (variable_address at.pos variable) (λ a. perform program.setting at.pos (operation.offset its.offset) (a ∷ []))
-          (λ a. meaning.scalar_made program.setting again function at.pos its.type_id (part_at its.offset parts)
+          (λ a. meaning.scalar_made program.setting again function at.pos its.type_id (part_for its parts)
           >>= (λ v. perform program.setting at.pos (operation.store (meaning.access_of_scalar program.setting again function its)) (a ∷ v ∷ []))) s))
           (object_turns its.offset (meaning.access_of_scalar program.setting again function its)
-          (scalar_code program.setting function piece at.pos its.type_id (part_at its.offset parts))
-          (meaning.scalar_made program.setting again function at.pos its.type_id (part_at its.offset parts))
-          (λ stack. scalar_turns its.type_id (part_at its.offset parts) stack))
+          (scalar_code program.setting function piece at.pos its.type_id (part_for its parts))
+          (meaning.scalar_made program.setting again function at.pos its.type_id (part_for its parts))
+          (λ stack. scalar_turns its.type_id (part_for its parts) stack))
 
       scalars_start : (b : Bool) → declared ≡ b → (parts : List constant_part.Part) (all : List Scalar)
           → PlainTurns (scalars_started program.setting function piece at.pos b variable parts all)

@@ -23,7 +23,7 @@ use Rattle.hs_types.specs.TypeTables.{row_of}
 use Rattle.hs_types.specs.declared.row.TypeId.{TypeId}
 use Rattle.hs_meaning.specs.Classes.{is_slot_declared}
 use Rattle.hs_meaning.specs.Scalars.{Scalar, scalars_of}
-use Rattle.hs_meaning.specs.Statements.{part_at, type_in}
+use Rattle.hs_meaning.specs.Statements.{part_for, type_in}
 use Rattle.hs_tree.specs.Kinds.{is_pointer, is_struct_row}
 use Rattle.hs_tree.specs.declared.constant.Constant.{Constant}
 use Rattle.hs_tree.specs.declared.constant.Constant.TheVariants as constant
@@ -236,8 +236,8 @@ module _ (last cases : ℕ) (setting : Setting) (function : TypedFunction) where
 
     scalar_started_within : (b : Bool) (variable : Variable) (parts : List constant_part.Part) (its : Scalar)
         → Within (code.scalar_started setting function piece at b variable parts its)
-    scalar_started_within true variable parts its = slot_within variable _ (scalar_within its.type_id (part_at its.offset parts))
-    scalar_started_within false variable parts its = object_within variable its.offset _ _ (scalar_within its.type_id (part_at its.offset parts))
+    scalar_started_within true variable parts its = slot_within variable _ (scalar_within its.type_id (part_for its parts))
+    scalar_started_within false variable parts its = object_within variable its.offset _ _ (scalar_within its.type_id (part_for its parts))
 
     scalars_go : (b : Bool) (variable : Variable) (parts : List constant_part.Part) (its : List Scalar) (start : ℕ)
         → Goes (code.scalars_started setting function piece at b variable parts its) start

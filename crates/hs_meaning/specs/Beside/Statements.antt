@@ -7,7 +7,7 @@ use Rattle.hs_meaning.specs.Evaluation.{Flow, onward, breaks, continues, returne
 use Rattle.hs_meaning.specs.Numbers.{bits_of}
 use Rattle.hs_meaning.specs.Operations as operation
 use Rattle.hs_meaning.specs.Scalars.{Scalar, scalars_of}
-use Rattle.hs_meaning.specs.Statements.{Entry, from_start, entry_for, begins, after, after_turn, after_switch, part_at, type_in, closing_of, access_of_scalar, base_address, constant_made, scalar_made, scalar_started, scalars_started, value_started, started, items_started, declarations_started, evaluated, tested, turns_if, returns, executed, executed_block, executed_switch, executed_all, next_turn, ended_at, body_of}
+use Rattle.hs_meaning.specs.Statements.{Entry, from_start, entry_for, begins, after, after_turn, after_switch, part_for, type_in, closing_of, access_of_scalar, base_address, constant_made, scalar_made, scalar_started, scalars_started, value_started, started, items_started, declarations_started, evaluated, tested, turns_if, returns, executed, executed_block, executed_switch, executed_all, next_turn, ended_at, body_of}
 use Rattle.hs_meaning.specs.Steps.{Step, ◌>>=◌, condition}
 use Rattle.hs_tree.specs.Trees as tree
 use Rattle.hs_meaning.specs.Settings.{Setting}
@@ -116,13 +116,13 @@ module _ (R : Relation) (setting : Setting) (leaves : Leaves R setting) (again o
   scalar_follows at parts its (in_slot a) (in_slot b) is =
       subst (λ n. Follows R R.values (scalar_started setting again function at parts its (in_slot a))
       (scalar_started setting other function at parts its (in_slot n))) is
-      (thens (scalar_made_follows at its.type_id (part_at its.offset parts))
+      (thens (scalar_made_follows at its.type_id (part_for its parts))
       (λ v w so. expressions.performed_one R setting leaves at (operation.set a) v w so))
   scalar_follows at parts its (in_slot a) (at_address b) is = absurd is
   scalar_follows at parts its (at_address a) (in_slot b) is = absurd is
   scalar_follows at parts its (at_address a) (at_address b) is =
       thens (expressions.performed_one R setting leaves at (operation.offset its.offset) a b is)
-      (λ m n so. thens (scalar_made_follows at its.type_id (part_at its.offset parts))
+      (λ m n so. thens (scalar_made_follows at its.type_id (part_for its parts))
       (λ v w too. expressions.performed_two R setting leaves at (operation.store (access_of_scalar setting again function its)) m n v w so too))
 
   scalars_follow : (at : Pos) (variable : Variable) (parts : List Part) (all : List Scalar)

@@ -2,7 +2,7 @@
 use Rattle.hs_operands.specs.Laws.{AreTypedAnywhere}
 use Rattle.hs_operands.specs.Laws.AssignedTyped.{assigned-typed, assign-typed, update-typed, post_update-typed, cast-typed}
 use Rattle.hs_operands.specs.Laws.BranchesTyped.{conditional-typed, comma-typed}
-pub use Rattle.hs_operands.specs.Laws.CallsTyped.{all_with_one, one-typed, called-typed}
+pub use Rattle.hs_operands.specs.Laws.CallsTyped.{IsArgument, AreArguments, all_with_one, arguments_typed, arguments_readable, one-typed, called-typed}
 use Rattle.hs_operands.specs.Laws.Conditions.{not-typed, and-typed, or-typed}
 use Rattle.hs_operands.specs.Laws.Numbers.{unary-typed, arithmetic-typed}
 use Rattle.hs_operands.specs.Laws.ObjectsTyped.{size-typed, target-typed, element-typed, member-typed, arrow-typed, loaded-typed, address-typed}
