@@ -2,16 +2,18 @@
 --     IsOf types id kind              a value of that type is of that kind; of `void` it may be of any
 --     number_kinds, pointer_kinds     of numbers, and of pointers
 --     like_kinds                      types of one category have one kind
---     access_kind                     what a load or a store reaches is of the kind of its type
+--     read_kind, access_kind          what a load or a store reaches is of the kind of its type
 --     slot_by_type                    so is what a slot holds
 use Rattle.std.proofs.Common.{◌≡◌, ℕ, Bool, true, false, ◌&&◌, ◌||◌, Option, Some, None, IsTrue, is_some, refl, sym, ap, ◌∙◌, subst}
 use Rattle.hs_code.specs.Stacks.{Kind, kind_by, kind_of, kind_in, slot_kind, Scope, variable_in}
 use Rattle.hs_code.specs.Stacks as kinds
 use Rattle.hs_lowering.specs.Lowering.{access_in}
-use Rattle.hs_meaning.specs.Settings.{Setting, access_of, access_by, class_or}
+use Rattle.hs_meaning.specs.Classes.{class_of_type}
+use Rattle.hs_meaning.specs.Settings.{Setting, access_of, access_of_type, access_by, class_or}
 use Rattle.hs_tree.specs.Classes.{class_of}
 use Rattle.hs_tree.specs.Kinds.{kind_of_row, pointed_of_row, is_struct_row, is_void_row, category_of_row, Category, of_void, of_number, of_pointer, of_struct, of_array, of_function, AreAlike, pointed, size_at, is_void, IsAnyNumber, IsNumber, IsPointer, IsPointerTo, IsPointerToSize, IsReadable}
 use Rattle.hs_tree.specs.Trees.{LeftValue, type_of_left}
+use Rattle.hs_tree.specs.declared.class.Class.{Class}
 use Rattle.hs_types.specs.TypeTables.{TypeTable, row_of, layout_of}
 use Rattle.hs_types.specs.declared.integer.Integer.{Integer}
 use Rattle.hs_types.specs.declared.row.Row.{Row}
@@ -127,10 +129,17 @@ module _ (types : TypeTable) where
     (by_category (row_of types one)).1 ∙ ap void_category alike ∙ sym (by_category (row_of types other)).1,
   )
 
--- what can be read is no void
-pub access_kind : (setting : Setting) (e : LeftValue) → IsReadable setting.types (type_of_left e)
-    → kind_in (access_in (access_of setting e)) ≡ kind_of setting.types (type_of_left e) × (is_void setting.types (type_of_left e) ≡ false)
-access_kind setting e is =
-    readable_row setting (type_of_left e) (row_of setting.types (type_of_left e))
-    (class_or setting (type_of_left e) (class_of setting.types setting.same setting.taken e))
-    (is_some (layout_of setting.types (type_of_left e))) is
+module _ (setting : Setting) where
+  -- what can be read is no void
+  pub read_kind : (id : TypeId) (class : Class) → IsReadable setting.types id
+      → kind_in (access_in (access_of_type setting id class)) ≡ kind_of setting.types id × (is_void setting.types id ≡ false)
+  read_kind id class is = readable_row setting id (row_of setting.types id) class (is_some (layout_of setting.types id)) is
+
+  pub access_kind : (e : LeftValue) → IsReadable setting.types (type_of_left e)
+      → kind_in (access_in (access_of setting e)) ≡ kind_of setting.types (type_of_left e) × (is_void setting.types (type_of_left e) ≡ false)
+  access_kind e is =
+      read_kind (type_of_left e) (class_or setting (type_of_left e) (class_of setting.types setting.same setting.taken e)) is
+
+  -- a value of it is of its kind
+  pub read_value : (id : TypeId) → IsReadable setting.types id → is_void setting.types id ≡ false
+  read_value id is = (read_kind id (class_of_type setting.same id) is).1

@@ -16,12 +16,12 @@ use Rattle.hs_code.specs.declared.op.Object.TheVariants as object
 use Rattle.hs_code.specs.declared.op.Op.{Op}
 use Rattle.hs_code.specs.declared.op.Op.TheVariants as op
 use Rattle.hs_code.specs.declared.op.Unary.TheVariants as unary
-use Rattle.hs_lowering.specs.Laws.Kinds.{IsOf, number_kinds, pointer_kinds, any_number, a_pointer, sized_pointer, like_kinds, access_kind}
+use Rattle.hs_lowering.specs.Laws.Kinds.{IsOf, number_kinds, pointer_kinds, any_number, a_pointer, sized_pointer, like_kinds, access_kind, read_value}
 use Rattle.hs_lowering.specs.Laws.Leaving.{Is, IsPlain, Goes, Leaves, weaker, nothing_goes, operand_goes, sequence_goes, only_goes, only_leaves, one_leaves, one_goes, two_leaves, two_goes, chosen_goes, answered_leaves, conjoined_leaves}
 use Rattle.hs_lowering.specs.Lowering.{Lowered, operand, sequence, only, on_one, on_two, answered, declared_in, slot_by, slot_of, access_in, read_code, written_code, fetched, updated_code, stepped_code, numbers_changed, takes_decision, decided_if, bound_code, right_code, address_code, all_code, dropped_code}
 use Rattle.hs_meaning.specs.Classes.{is_slot_declared}
 use Rattle.hs_meaning.specs.Settings.{Setting, setting_of, access_of}
-use Rattle.hs_tree.specs.Fitting.{HasOperands, HasResult, FitsFunction, FitsRoutine, FitParameters, FitsCalled, FitsPrototype, prototype_in, IsSecondOperand, AreSteps, struct_at, stepping, IsOfType, IsObjectOf, IsVariableOf, variable_of_global}
+use Rattle.hs_tree.specs.Fitting.{HasOperands, HasResult, AreReadable, FitsFunction, FitsRoutine, FitParameters, FitsCalled, FitsPrototype, prototype_in, IsSecondOperand, AreSteps, struct_at, stepping, IsOfType, IsObjectOf, IsVariableOf, variable_of_global}
 use Rattle.hs_tree.specs.Inside.{Node, right, left, EachRight, EachLeft, EachOf}
 use Rattle.hs_tree.specs.Kinds.{kind_of_row, number_kind, pointed, is_void, IsAnyNumber, IsPointer, AreAlike}
 use Rattle.hs_tree.specs.Objects.{number_in}
@@ -48,24 +48,12 @@ use Rattle.hs_types.specs.declared.row.TypeId.{TypeId}
 
 -- ---- facts of an expression
 
--- no argument is of type void
-abbrev pub AreValues : TypeTable → RightValues → Type 0
-AreValues types tree.no_values = Unit {0}
-AreValues types (tree.more_values e rest) = (is_void types (type_of e) ≡ false) × AreValues types rest
-
--- nor is one of a call
-abbrev pub PassesValues : TypeTable → Node → Type 0
-PassesValues types (right (tree.call head number routine arguments)) = AreValues types arguments
-PassesValues types (right (tree.call_routine head routine arguments)) = AreValues types arguments
-PassesValues types _ = Unit {0}
-
 -- its operands and its result are of the right types
 pub record KindsFit (program : TypedProgram) (function : TypedFunction) (node : Node) : Type 0 where
   pub operands : HasOperands program.types node
   pub result : HasResult program function node
   pub called : FitsFunction program node
   pub routine : FitsRoutine program node
-  pub values : PassesValues program.types node
 
 -- ---- kinds on a stack
 
@@ -486,7 +474,7 @@ module _ (program : TypedProgram) (function : TypedFunction) (code : FunctionCod
       ∙ taken_all (map (kind_of program.types) signature.parameters) kinds (kind_of program.types signature.result)))
 
   -- the called function and the called routine are there
-  module _ (head : Head) (arguments : RightValues) (kinds : List Kind) (values : AreValues program.types arguments)
+  module _ (head : Head) (arguments : RightValues) (kinds : List Kind)
       (all_leave : (parameters : List TypeId) → FitParameters (AreOne program.same program.types) parameters arguments → (last : Lowered)
       → Goes scope code last (IsOf program.types head.type_id) (pushed (map (kind_of program.types) parameters) kinds) (λ kind. kind ∷ kinds)
       → LeavesOf (all_code setting function.variables piece arguments last) head.type_id kinds) where
@@ -686,10 +674,10 @@ module _ (program : TypedProgram) (function : TypedFunction) (code : FunctionCod
         (slot_of_kind into stacks.pointer (pointer_kinds program.types (type_of_left into) (sized_pointer program.types stride.size (type_of_left into) is.0.operands)).0 is.1)
         (pointer_access into (sized_pointer program.types stride.size (type_of_left into) is.0.operands)) (left_leaves into is.1 kinds))
     right_leaves (tree.call head place routine arguments) is kinds =
-        call_leaves head arguments kinds is.0.values (λ parameters fits last goes. all_leave arguments is.1 parameters fits is.0.values last head.type_id kinds kinds goes)
+        call_leaves head arguments kinds (λ parameters fits last goes. all_leave arguments is.1 parameters fits is.0.operands last head.type_id kinds kinds goes)
         place routine (slice_get program.functions place) refl is.0.called
     right_leaves (tree.call_routine head place arguments) is kinds =
-        routine_leaves head arguments kinds is.0.values (λ parameters fits last goes. all_leave arguments is.1 parameters fits is.0.values last head.type_id kinds kinds goes)
+        routine_leaves head arguments kinds (λ parameters fits last goes. all_leave arguments is.1 parameters fits is.0.operands last head.type_id kinds kinds goes)
         place (slice_get program.routines place) refl is.0.routine
 
     -- of an address
@@ -715,20 +703,20 @@ module _ (program : TypedProgram) (function : TypedFunction) (code : FunctionCod
 
     -- of the arguments of a call, and then that
     all_leave : (arguments : RightValues) → EachOf (KindsFit program function) arguments → (parameters : List TypeId)
-        → FitParameters (AreOne program.same program.types) parameters arguments → AreValues program.types arguments → (last : Lowered) (result : TypeId)
+        → FitParameters (AreOne program.same program.types) parameters arguments → AreReadable program.types arguments → (last : Lowered) (result : TypeId)
         (base kinds : List Kind)
         → Goes scope code last (IsOf program.types result) (pushed (map (kind_of program.types) parameters) kinds) (λ kind. kind ∷ base)
         → Goes scope code (all_code setting function.variables piece arguments last) (IsOf program.types result) kinds (λ kind. kind ∷ base)
-    all_leave tree.no_values is [] fits values last result base kinds goes = goes
-    all_leave tree.no_values is (id ∷ ids) fits values last result base kinds goes = absurd fits
-    all_leave (tree.more_values e rest) is [] fits values last result base kinds goes = absurd fits
-    all_leave (tree.more_values e rest) is (id ∷ ids) fits values last result base kinds goes =
+    all_leave tree.no_values is [] fits readable last result base kinds goes = goes
+    all_leave tree.no_values is (id ∷ ids) fits readable last result base kinds goes = absurd fits
+    all_leave (tree.more_values e rest) is [] fits readable last result base kinds goes = absurd fits
+    all_leave (tree.more_values e rest) is (id ∷ ids) fits readable last result base kinds goes =
         operand_goes scope code (right_code setting function.variables piece e) (all_code setting function.variables piece rest last) (λ a. refl)
         (right_leaves e is.0 kinds)
         (λ kind of. subst
         (λ kind. Goes scope code (all_code setting function.variables piece rest last) (IsOf program.types result) (kind ∷ kinds) (λ kind. kind ∷ base))
-        (sym (of values.0 ∙ (like_kinds program.types (type_of e) id fits.0.0).0))
-        (all_leave rest is.1 ids fits.1 values.1 last result base (kind_of program.types id ∷ kinds) goes))
+        (sym (of (read_value setting (type_of e) readable.0) ∙ (like_kinds program.types (type_of e) id fits.0.0).0))
+        (all_leave rest is.1 ids fits.1 readable.1 last result base (kind_of program.types id ∷ kinds) goes))
 
     -- of the left operands of a comma, each dropped, and then that
     dropped_leaves : (head : Head) (lefts : RightValues) → EachOf (KindsFit program function) lefts → (last : Lowered) (id : TypeId) (kinds : List Kind)
