@@ -1,3 +1,4 @@
+pub mod Aims
 pub mod Contexts
 pub mod Emits
 pub mod Emitting

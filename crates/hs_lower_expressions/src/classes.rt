@@ -1,6 +1,6 @@
 //! The numbers of the classes of pointers.
 
-ghost use Rattle.std.specs.Prelude.{◌≡◌, [], OnOk, OnErr};
+ghost use Rattle.std.specs.Prelude.{◌≡◌, [], OnOk, OnErr, IfOk};
 ghost use Rattle.std.specs.List.{position_or_len};
 ghost use Rattle.indexmap.specs.IndexSet.{insert_key};
 ghost use Rattle.hs_meaning.specs.Classes.{same_class};
@@ -52,6 +52,15 @@ impl Classes {
         }
         self.set.insert(class)?;
         Ok(())
+    }
+
+    /// The classes as a vector. Fails if memory runs out.
+    pub fn to_vec(&self, alloc: Global) -> Result<Vec<Class>, NoMemory>
+        ensures { IfOk result (λ its. its.items ≡ self.now) }
+    {
+        let mut its = Vec::new(alloc);
+        its.extend_from_slice(self.set.as_slice())?;
+        Ok(its)
     }
 
     /// The number of the class. For a class that was not added it is how many classes there are.

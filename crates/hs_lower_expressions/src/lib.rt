@@ -13,4 +13,4 @@ pub use classes::Classes;
 pub use context::Context;
 pub use expressions::{address, expression};
 pub use lower_end::LowerEnd;
-pub use ops::Ops;
+pub use ops::{Exits, Ops};
