@@ -3,6 +3,7 @@ pub mod Branches
 pub mod Calls
 pub mod Exact
 pub mod Expressions
+pub mod Filling
 pub mod Fitting
 pub mod Flows
 pub mod Frames
@@ -22,6 +23,7 @@ pub mod Placing
 pub mod Positions
 pub mod Programs
 pub mod Ranges
+pub mod Stacking
 pub mod Stacks
 pub mod Starts
 pub mod Statements

@@ -3,7 +3,7 @@
 ghost use Rattle.std.specs.List.{AllByRecursion};
 ghost use Rattle.std.specs.Prelude.{◌≡◌, ◌<◌, ℕ, Bool, List, ◌∷◌, length, true, None};
 ghost use Rattle.hs_base.specs.declared.pos.Pos.{Pos};
-ghost use Rattle.hs_code.specs.Codes.{IsInRange, scope_of, view_program};
+ghost use Rattle.hs_code.specs.Codes.{IsCode, IsInRange, scope_of, view_program};
 ghost use Rattle.hs_code.specs.Stacks.{Kind, pointer};
 ghost use Rattle.hs_code.specs.declared.function_code.FunctionCode.{FunctionCode};
 ghost use Rattle.hs_code_run.specs.Codes.{CodeProgram, Waiting};
@@ -20,6 +20,7 @@ ghost use Rattle.hs_lowering.specs.Laws.Stacks.{KindsFit};
 ghost use Rattle.hs_lowering.specs.Lowering.{after, slot_of, right_code, address_code};
 ghost use Rattle.hs_lowering.specs.Performing.{Any, Holds, Performs, at_point};
 ghost use Rattle.hs_lowering.specs.Stacked.{Stacked};
+ghost use Rattle.hs_lowering.specs.Statements.{codes_of};
 ghost use Rattle.hs_meaning.specs.Classes.{classes_of};
 ghost use Rattle.hs_meaning.specs.Evaluation.{Flow, Job, value_of, addressed};
 ghost use Rattle.hs_meaning.specs.Settings.{Setting, setting_of};
@@ -138,6 +139,15 @@ pub fn programs_name_what_is_there(program: &Program)
 pub fn code_of_programs_is_in_range(program: &Program)
     ensures { ∥ AllByRecursion (IsRanged (view_program program.now)) (view_program program.now).functions ∥₁ }
 {}
+
+/// The code of a program is code (`IsCode`): each function has one, which is in range as above, and in which each operation that control can reach
+/// has its operands on the stack, of the kinds that it takes, and notes how many values are there. What a `return` takes is of the kind of the
+/// function's result.
+pub fn code_of_programs_is_code(program: &Program)
+    ensures { ∥ IsCode (view_program program.now) (classes_of (view_program program.now)) (codes_of (view_program program.now)) ∥₁ }
+{
+    program.types.is_right();
+}
 
 /// The code of a program runs as the program does: for every input, schedule and number of turns, its run without choices ends as the run of the
 /// program, with the same output, and in no other way.

@@ -51,6 +51,13 @@ impl<T: Eq + Hash + Copy + Drop> Interned<T> {
         Ok(place as u32)
     }
 
+    /// How many entries there are.
+    pub(crate) fn len(&self) -> usize
+        ensures { result ≡ length self.now }
+    {
+        self.set.len()
+    }
+
     /// The entry at that place, if there is one.
     pub(crate) fn entry(&self, place: u32) -> Option<T>
         ensures { result ≡ slice_get self.now place }

@@ -64,6 +64,8 @@ impl Model for Types {
 }
 
 impl Types {
+    ghost use Rattle.hs_types.specs.TypeTables.{IsRight};
+
     /// The table before any type of a program: it has `void`, the integer types, `char *` and `char **`. Fails if memory runs out.
     pub fn new(alloc: Global) -> Result<Types, NoMemory>
         ensures { IfOk result (λ types. types ≡ basic_types) }
@@ -87,6 +89,20 @@ impl Types {
             structs: Vec::new(alloc),
             enumerations: Vec::new(alloc),
         })
+    }
+
+    /// Says what each table keeps: its first types are the basic ones, and what it knows of each type fits the others. It does nothing.
+    pub fn is_right(&self)
+        ensures { IsRight self.now }
+    {
+        let _ = &self.rows;
+    }
+
+    /// How many types there are. A type has no more types inside one another than that.
+    pub fn len(&self) -> usize
+        ensures { result ≡ length self.now.rows }
+    {
+        self.rows.len()
     }
 
     /// The type of that number, if there is one.

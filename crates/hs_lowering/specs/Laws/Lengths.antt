@@ -269,7 +269,7 @@ module _ (setting : Setting) (function : TypedFunction) where
       ((plain_declarations (one_piece counts) declarations).labels (suc start))
       ∙ append-nil _
 
-  block_labels_counted : (it : TypedBlock) (counts : Counts) (targets : Targets) (start count : ℕ)
+  pub block_labels_counted : (it : TypedBlock) (counts : Counts) (targets : Targets) (start count : ℕ)
       → past count (cases_in (block_code setting function it counts targets start).labels) ≡ cases_of_block it count
   block_labels_counted (tree.compound opening declarations list closing) counts targets start count =
       ap (λ its. past count (cases_in its)) (block_labels opening closing declarations list counts targets start)

@@ -73,7 +73,7 @@ self stacks.number = refl
 self stacks.pointer = refl
 self stacks.structure = refl
 
-without_all : (its kinds : List Kind) → without its (its ++ kinds) ≡ Some kinds
+pub without_all : (its kinds : List Kind) → without its (its ++ kinds) ≡ Some kinds
 without_all [] kinds = refl
 without_all (kind ∷ its) kinds = ap (λ is. if_same is (without its (its ++ kinds))) (self kind) ∙ without_all its kinds
 
@@ -157,12 +157,12 @@ module _ (scope : Scope) (code : FunctionCode) (piece : ℕ) (head : Head) where
       → kinds_after scope (op.Load access) (stacks.pointer ∷ kinds) ≡ Some (kind ∷ kinds)
   load_operands access kind kinds same = ap (λ its. Some (its ∷ kinds)) same
 
-  store_operands : (access : Access) (kind : Kind) (kinds : List Kind) → kind_in access ≡ kind
+  pub store_operands : (access : Access) (kind : Kind) (kinds : List Kind) → kind_in access ≡ kind
       → kinds_after scope (op.Store access) (kind ∷ stacks.pointer ∷ kinds) ≡ Some (kind ∷ kinds)
   store_operands access kind kinds same =
       ap (λ its. turned (its ∷ stacks.pointer ∷ []) its (kind ∷ stacks.pointer ∷ kinds)) same ∙ store_again kind kinds
 
-  set_operands : (its : Variable) (kind : Kind) (kinds : List Kind) → SlotFits scope (Some its) kind
+  pub set_operands : (its : Variable) (kind : Kind) (kinds : List Kind) → SlotFits scope (Some its) kind
       → kinds_after scope (op.Set its) (kind ∷ kinds) ≡ Some (kind ∷ kinds)
   set_operands its kind kinds fits = ap (λ found. after_set found (kind ∷ kinds)) fits ∙ set_again kind kinds
 
@@ -308,7 +308,7 @@ readable_pointer false true c is = refl
 readable_pointer false false c is = absurd cc
 
 -- the representation of a number is there
-number_there : (types : TypeTable) (bits : ℕ) (id : TypeId) → number_in bits (number_kind types id) ≡ Some bits → IsAnyNumber types id
+pub number_there : (types : TypeTable) (bits : ℕ) (id : TypeId) → number_in bits (number_kind types id) ≡ Some bits → IsAnyNumber types id
 number_there types bits id is = by (number_kind types id) is
   where
     by : (its : Option Integer) → number_in bits its ≡ Some bits → IsTrue (is_some its)
