@@ -5,7 +5,7 @@
 mod laws;
 
 pub use laws::{
-    code_of_expressions_is_exact, code_of_programs_is_exact, code_of_programs_is_in_range,
-    expressions_jump_inside, expressions_keep_their_positions, expressions_leave_one_value,
-    expressions_name_what_is_there, programs_name_what_is_there,
+    code_of_expressions_is_exact, code_of_programs_is_code, code_of_programs_is_exact,
+    code_of_programs_is_in_range, expressions_jump_inside, expressions_keep_their_positions,
+    expressions_leave_one_value, expressions_name_what_is_there, programs_name_what_is_there,
 };

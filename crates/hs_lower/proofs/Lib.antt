@@ -1,0 +1,9 @@
+pub mod Chains
+pub mod Forms
+pub mod Fors
+pub mod Ifs
+pub mod Lists
+pub mod Rests
+pub mod Switches
+pub mod Whiles
+pub mod Wholes

@@ -1,0 +1,3 @@
+pub mod Aiming
+pub mod Places
+pub mod Writing

@@ -1,0 +1,12 @@
+//! Lowering of typed programs: statements, functions and whole programs, over the expressions of `hs_lower_expressions`.
+#![tactic(auto)]
+
+mod branches;
+mod loops;
+mod lowering;
+mod parts;
+mod program;
+mod statements;
+mod text;
+
+pub use program::lower;

@@ -1,0 +1,4 @@
+pub mod FirstValues
+pub mod Keys
+pub mod PartIndex
+pub mod Steps

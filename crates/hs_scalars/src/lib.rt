@@ -1,0 +1,11 @@
+//! The scalars of an object, one after the other. `specs/Left.antt` says what is left of them.
+#![tactic(auto)]
+
+mod pending;
+mod scalar;
+mod scalars;
+#[cfg(test)]
+mod tests;
+
+pub use scalar::Scalar;
+pub use scalars::Scalars;
