@@ -1,0 +1,2 @@
+//! The machine that runs code.
+#![tactic(auto)]

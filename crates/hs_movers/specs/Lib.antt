@@ -1,0 +1,3 @@
+pub mod Movers
+pub mod ScriptTexts
+pub mod Seeds

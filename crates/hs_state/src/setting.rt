@@ -1,0 +1,114 @@
+//! What the machine needs of a program.
+
+ghost use Rattle.std.specs.Prelude.{◌≡◌};
+ghost use Rattle.hs_code.specs.Codes.{view_program};
+ghost use Rattle.hs_code_run.specs.Steps.{access_of};
+ghost use Rattle.hs_meaning.specs.Classes.{class_of_scalar, class_of_type, classes_of};
+ghost use Rattle.hs_meaning.specs.Settings.{access_of_type, class_number, setting_of};
+ghost use Rattle.hs_state.specs.Settings.{setting_here};
+ghost use Rattle.hs_types.specs.TypeTables.{size_of};
+
+use hs_code::Access;
+use hs_tree::{
+    Class, Globals, Literals, Part, Program, Representatives, Routines, TakenFields,
+};
+use hs_types::{Integer, Row, TypeId, Types};
+
+/// What the machine needs of a program besides the bodies of its functions.
+#[derive(Clone, Copy)]
+pub struct Setting<'a> {
+    /// The types of the program.
+    pub types: &'a Types,
+    /// The objects of static storage duration.
+    pub globals: &'a Globals,
+    /// The string literals.
+    pub literals: &'a Literals,
+    /// The routines of the table.
+    pub routines: &'a Routines,
+    /// Which types are one in several units.
+    pub same: &'a Representatives,
+    /// The fields whose address is taken.
+    pub taken: &'a TakenFields,
+    /// The classes of pointers.
+    pub classes: &'a [Class],
+}
+
+impl<'a> Setting<'a> {
+    /// The setting of a program, with the list of its classes.
+    pub fn of(program: &'a Program, classes: &'a [Class]) -> Setting<'a>
+        requires classes { classes.now ≡ classes_of (view_program program.now) }
+        ensures { setting_here result ≡ setting_of (view_program program.now) }
+    {
+        Setting {
+            types: &program.types,
+            globals: &program.globals,
+            literals: &program.literals,
+            routines: &program.routines,
+            same: &program.same,
+            taken: &program.taken,
+            classes,
+        }
+    }
+
+    /// The size of a type in bytes, or 0 if it is incomplete.
+    pub fn size_of(&self, type_id: TypeId) -> u32
+        ensures { result ≡ size_of self.now.types.now type_id }
+    {
+        match self.types.layout(type_id) {
+            Some(layout) => layout.size,
+            None => 0,
+        }
+    }
+
+    /// The class of a pointer that is no field.
+    pub fn class_of_type(&self, type_id: TypeId) -> Class
+        ensures { result ≡ class_of_type self.now.same.now type_id }
+    {
+        Class::Pointer(self.same.type_for(type_id))
+    }
+
+    /// The class of a scalar inside an object.
+    pub fn class_of_part(&self, part: &Part) -> Class
+        ensures { result ≡ class_of_scalar self.now.same.now self.now.taken.now part.now.type_id part.now.field }
+    {
+        let Some(field) = part.field else {
+            return self.class_of_type(part.type_id);
+        };
+        let field = self.same.field_for(field);
+        if self.taken.has(field) {
+            self.class_of_type(part.type_id)
+        } else {
+            Class::Field(field)
+        }
+    }
+
+    /// The number of a class: its place among those of the program, or their number if it is not there.
+    fn class_number(&self, class: &Class) -> u32
+        requires few { length self.now.classes.now ≤ 4294967295 }
+        ensures { result ≡ class_number (setting_here self.now) class.now }
+    {
+        match self.classes.iter().position(|it| it == class) {
+            Some(place) => place as u32,
+            None => self.classes.len() as u32,
+        }
+    }
+
+    /// What a store reaches of an object of that type, whose class is that one if it is a pointer.
+    pub fn access_of_type(&self, type_id: TypeId, class: Class) -> Access
+        ensures { access_of result ≡ access_of_type (setting_here self.now) type_id class }
+    {
+        match self.types.row(type_id) {
+            Some(Row::Integer(kind)) => Access::Number(kind),
+            Some(Row::Enumeration(_)) => Access::Number(Integer::Int),
+            Some(Row::Pointer(_)) => Access::Pointer(self.class_number(&class)),
+            Some(
+                Row::Void
+                | Row::Struct(_)
+                | Row::Array { .. }
+                | Row::OpenArray(_)
+                | Row::Function { .. },
+            )
+            | None => Access::Struct(self.size_of(type_id)),
+        }
+    }
+}
