@@ -1,3 +1,4 @@
 pub mod Movers
+pub mod ScriptRanges
 pub mod ScriptTexts
 pub mod Seeds

@@ -10,6 +10,9 @@ use hs_base::NoMemory;
 use hs_heap::Decision;
 use std::alloc::Global;
 
+/// How many decisions a mover tells that never ends.
+pub(crate) const MOST_DECISIONS: u32 = 4_000_001;
+
 /// A call of a routine that moves or purges, as a mover sees it.
 #[derive(Clone, Copy, Debug, PartialEq, Eq)]
 pub struct MoverCall {
@@ -53,7 +56,12 @@ pub trait Mover: Drop {
     /// # Errors
     ///
     /// `NoMemory` if memory runs out. What the mover tells then is not known.
-    fn decide(&mut self, alloc: Global, call: &MoverCall, into: &mut Decision) -> Result<(), NoMemory>
+    fn decide(
+        &mut self,
+        alloc: Global,
+        call: &MoverCall,
+        into: &mut Decision,
+    ) -> Result<(), NoMemory>
         ensures same_number { number self.new ≡ number self.old }
         ensures decides { OnOk result (Decides (told self.old) into.new (told self.new)) };
 }

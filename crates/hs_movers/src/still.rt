@@ -14,12 +14,15 @@ pub struct Still;
 
 impl Still {
     /// The mover. Takes no memory.
-    pub fn new() -> Still {
+    pub fn new() -> Still
+        ensures number { ⟦<Still as Mover>⟧.number result ≡ 0 }
+        ensures tells { ⟦<Still as Mover>⟧.told result ≡ Some [] }
+    {
         Still
     }
 }
 
-/// Which names no block. Takes no memory.
+/// Names no block. Takes no memory.
 pub(crate) fn no_block(alloc: Global) -> Decision
     ensures { result ≡ no_block }
 {
@@ -44,7 +47,12 @@ impl Mover for Still {
         Ok(())
     }
 
-    fn decide(&mut self, alloc: Global, _call: &MoverCall, into: &mut Decision) -> Result<(), NoMemory> {
+    fn decide(
+        &mut self,
+        alloc: Global,
+        _call: &MoverCall,
+        into: &mut Decision,
+    ) -> Result<(), NoMemory> {
         *into = no_block(alloc);
         Ok(())
     }

@@ -1,10 +1,11 @@
 //! Loads and stores through pointers.
 
-ghost use Rattle.std.specs.Prelude.{◌≡◌, ◌↔◌, IsTrue, length, unit};
+ghost use Rattle.std.specs.Prelude.{◌≡◌, ◌↔◌, IsTrue, length};
 ghost use Rattle.hs_code_run.specs.Steps.{access_of};
 ghost use Rattle.hs_heap.specs.Memory.{IsMade, block_at};
 ghost use Rattle.hs_heap.specs.declared.cell.Pointer.TheVariants as at;
 ghost use Rattle.hs_meaning.specs.Accesses.{cells_at, cells_loaded, loaded, master_in, stored, unless_stopped, use_stops, with_cells_at};
+ghost use Rattle.hs_meaning.specs.Machine.{and_then, done};
 ghost use Rattle.hs_meaning.specs.Stops.{stop_of};
 ghost use Rattle.hs_meaning.specs.Values.{length_of};
 ghost use Rattle.hs_state.specs.Machines.{Copies, Does, Keeps, machine_of};
@@ -71,19 +72,38 @@ impl Machine<'_> {
         self.heap.load(its, into).map_err(stop_of)
     }
 
+    /// Loads through a pointer into a block, by way of so many cells.
+    fn load_into(&self, access: Access, its: &Spot, cells: &mut [Cell]) -> Result<Value, Halt>
+        requires all { length cells.old ≡ length_of (access_of access) }
+        ensures { Does (cells_loaded (access_of access) (at.Spot its.now) (machine_of self.now)) (machine_of self.now) result }
+    {
+        match self.copy(its, cells) {
+            Ok(()) => loaded(self.alloc, access, cells),
+            Err(why) => Err(Halt::Stopped(why)),
+        }
+    }
+
     /// Loads through a pointer into a block.
     fn load_spot(&self, access: Access, its: &Spot) -> Result<Value, Halt>
         ensures { Does (cells_loaded (access_of access) (at.Spot its.now) (machine_of self.now)) (machine_of self.now) result }
     {
         if let Access::Struct(size) = access {
             let mut cells = vec![in self.alloc; Cell::Undefined; size as usize]?;
-            self.copy(its, cells.as_mut_slice())?;
-            return Ok(Value::structure(self.alloc, cells)?);
+            return self.load_into(access, its, cells.as_mut_slice());
         }
         let mut cells = [Cell::Undefined; 4];
-        let cells = &mut cells[..length_of(access)];
-        self.copy(its, cells)?;
-        loaded(self.alloc, access, cells)
+        self.load_into(access, its, &mut cells[..length_of(access)])
+    }
+
+    /// Loads through a pointer into an object.
+    #[tactic(auto, using(crate::proofs::Loading::lent))]
+    fn load_fixed(&self, access: Access, object: u32, offset: i64) -> Result<Value, Halt>
+        ensures { Does (cells_loaded (access_of access) (at.Fixed object offset) (machine_of self.now)) (machine_of self.now) result }
+    {
+        match self.objects.cells(object, offset, length_of(access)) {
+            Ok(cells) => loaded(self.alloc, access, cells),
+            Err(why) => Err(Halt::Stopped(why)),
+        }
     }
 
     /// Loads what the pointer reaches.
@@ -98,10 +118,7 @@ impl Machine<'_> {
             (Pointer::Nil, _) => Err(Halt::Stopped(Stop::Nil)),
             (Pointer::Handle(block), Access::Pointer(_)) => self.load_master(block),
             (Pointer::Handle(_), _) => Err(Halt::Stopped(Stop::BadLoad)),
-            (Pointer::Fixed(object, at), _) => {
-                let cells = self.objects.cells(object, at, length_of(access))?;
-                loaded(self.alloc, access, cells)
-            }
+            (Pointer::Fixed(object, at), _) => { self.load_fixed(access, object, at) }
             (Pointer::Spot(its), _) => self.load_spot(access, &its),
         }
     }
@@ -112,7 +129,7 @@ impl Machine<'_> {
     ///
     /// Why the pointer is not used. Nothing is changed then.
     pub fn write(&mut self, its: Pointer, cells: &[Cell]) -> Result<(), Halt>
-        ensures does { Does (unless_stopped (use_stops its (length cells.now) (machine_of self.old)) unit (with_cells_at its cells.now (machine_of self.old)) (machine_of self.old)) (machine_of self.new) result }
+        ensures does { Does (unless_stopped (use_stops its (length cells.now) (machine_of self.old)) tt (with_cells_at its cells.now (machine_of self.old)) (machine_of self.old)) (machine_of self.new) result }
         ensures keeps { Keeps self.old self.new }
     {
         match its {
@@ -131,21 +148,25 @@ impl Machine<'_> {
         }
     }
 
-    /// Stores a value where the pointer reaches, and gives it back. A struct with another number of cells than it is stored as, which no
-    /// typed program has, is answered by `NoMemory`.
+    /// Stores a value where the pointer reaches. A struct with another number of cells than it is stored as, which no typed program has, is
+    /// answered by `NoMemory`.
     ///
     /// # Errors
     ///
     /// Why the value or the pointer is not used so. Nothing is changed then.
-    pub fn store(&mut self, access: Access, its: Pointer, value: Value) -> Result<Value, Halt>
-        ensures does { Does (stored (access_of access) its value (machine_of self.old)) (machine_of self.new) result }
+    pub fn put(&mut self, access: Access, its: Pointer, value: &Value) -> Result<(), Halt>
+        ensures does { Does (and_then (stored (access_of access) its value.now (machine_of self.old)) (λ it after. done tt after)) (machine_of self.new) result }
         ensures keeps { Keeps self.old self.new }
     {
-        let parcel = Parcel::of(access, &value)?;
-        if parcel.cells().len() != length_of(access) {
-            return Err(Halt::NoMemory);
+        match Parcel::of(access, value) {
+            Ok(parcel) => {
+                let cells = parcel.cells();
+                if cells.len() != length_of(access) {
+                    return Err(Halt::NoMemory);
+                }
+                self.write(its, cells)
+            }
+            Err(why) => Err(Halt::Stopped(why)),
         }
-        self.write(its, parcel.cells())?;
-        Ok(value)
     }
 }

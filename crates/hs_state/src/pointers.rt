@@ -1,26 +1,24 @@
 //! Comparisons of pointers, which look at the blocks that they point into.
 
-ghost use Rattle.std.specs.Prelude.{◌≡◌, unit};
+ghost use Rattle.std.specs.Prelude.{◌≡◌};
 ghost use Rattle.hs_meaning.specs.Pointers.{compare_stops, current_stop, difference_of, difference_stops, orders, pointer_answer};
 ghost use Rattle.hs_state.specs.Machines.{machine_of};
-ghost use Rattle.hs_values.specs.Answers.{or_first, or_stop};
+ghost use Rattle.hs_values.specs.Answers.{Halts, or_first, or_stop};
 
 use crate::Machine;
 use crate::accesses::stop_of;
 use hs_heap::{Pointer, Spot};
 use hs_meaning::Stop;
 use hs_tree::Comparison;
-use hs_values::{answered, are_apart, difference};
+use hs_values::{Halt, answered, are_apart, difference};
 
 /// Whether a comparison is one of order, and not of equality.
 fn orders(operator: Comparison) -> bool
     ensures { result ≡ orders operator }
 {
     match operator {
-        Comparison::Less
-        | Comparison::Greater
-        | Comparison::LessEqual
-        | Comparison::GreaterEqual => true,
+        Comparison::Less | Comparison::Greater | Comparison::LessEqual | Comparison::GreaterEqual =>
+            true,
         Comparison::Equal | Comparison::NotEqual => false,
     }
 }
@@ -32,7 +30,7 @@ impl Machine<'_> {
     ///
     /// `Disposed`, `Old` and `Stale`, in this order. `BadPointer` for a block that was never made.
     pub fn current(&self, its: Pointer) -> Result<(), Stop>
-        ensures { result ≡ or_stop (current_stop its (machine_of self.now)) unit }
+        ensures { result ≡ or_stop (current_stop its (machine_of self.now)) tt }
     {
         let Pointer::Spot(its) = its else {
             return Ok(());
@@ -66,15 +64,16 @@ impl Machine<'_> {
     ///
     /// # Errors
     ///
-    /// Those of `current`, first of the left one; `BadPointer` if they are not into one object or block.
-    pub fn difference(&self, size: u32, a: Pointer, b: Pointer) -> Result<u32, Stop>
-        ensures { result ≡ or_first (difference_stops a b (machine_of self.now)) (difference_of size a b) }
+    /// Those of `current`, first of the left one; `BadPointer` if they are not into one object or block. `NoMemory` if there are 2147483648
+    /// objects or more between them, which no pointers of a run have.
+    pub fn difference(&self, size: u32, a: Pointer, b: Pointer) -> Result<u32, Halt>
+        ensures { Halts (or_first (difference_stops a b (machine_of self.now)) (difference_of size a b)) result }
     {
         self.current(a)?;
         self.current(b)?;
         if are_apart(a, b) {
-            return Err(Stop::BadPointer);
+            return Err(Halt::Stopped(Stop::BadPointer));
         }
-        Ok(difference(size, a, b))
+        difference(size, a, b).ok_or(Halt::NoMemory)
     }
 }

@@ -1,17 +1,16 @@
 //! What the machine needs of a program.
 
-ghost use Rattle.std.specs.Prelude.{◌≡◌};
+ghost use Rattle.std.specs.Prelude.{◌≡◌, ◌<◌, ◌≤◌, length, IfOk, IfSome};
+ghost use Rattle.std.specs.List.{position};
 ghost use Rattle.hs_code.specs.Codes.{view_program};
 ghost use Rattle.hs_code_run.specs.Steps.{access_of};
-ghost use Rattle.hs_meaning.specs.Classes.{class_of_scalar, class_of_type, classes_of};
+ghost use Rattle.hs_meaning.specs.Classes.{class_of_scalar, class_of_type, classes_of, same_class};
 ghost use Rattle.hs_meaning.specs.Settings.{access_of_type, class_number, setting_of};
-ghost use Rattle.hs_state.specs.Settings.{setting_here};
 ghost use Rattle.hs_types.specs.TypeTables.{size_of};
 
+use hs_base::NoMemory;
 use hs_code::Access;
-use hs_tree::{
-    Class, Globals, Literals, Part, Program, Representatives, Routines, TakenFields,
-};
+use hs_tree::{Class, Globals, Literals, Part, Program, Representatives, Routines, TakenFields};
 use hs_types::{Integer, Row, TypeId, Types};
 
 /// What the machine needs of a program besides the bodies of its functions.
@@ -31,15 +30,33 @@ pub struct Setting<'a> {
     pub taken: &'a TakenFields,
     /// The classes of pointers.
     pub classes: &'a [Class],
+    pub ghost few: { length classes.now ≤ 4294967295 },
+}
+
+/// The place of a class in a list, if it is there.
+fn place_of(classes: &[Class], class: &Class) -> Option<usize>
+    ensures place { result ≡ position (same_class class.now) classes.now }
+    ensures below { IfSome result (λ place. place < length classes.now) }
+{
+    classes.iter().position(|it| class == it)
 }
 
 impl<'a> Setting<'a> {
+    ghost use Rattle.hs_state.specs.Settings.{setting_here};
+
     /// The setting of a program, with the list of its classes.
-    pub fn of(program: &'a Program, classes: &'a [Class]) -> Setting<'a>
+    ///
+    /// # Errors
+    ///
+    /// `NoMemory` if their numbers would not fit into 32 bits; so many classes are in no memory.
+    pub fn of(program: &'a Program, classes: &'a [Class]) -> Result<Setting<'a>, NoMemory>
         requires classes { classes.now ≡ classes_of (view_program program.now) }
-        ensures { setting_here result ≡ setting_of (view_program program.now) }
+        ensures { IfOk result (λ its. setting_here its ≡ setting_of (view_program program.now)) }
     {
-        Setting {
+        if classes.len() > u32::MAX as usize {
+            return Err(NoMemory);
+        }
+        Ok(Setting {
             types: &program.types,
             globals: &program.globals,
             literals: &program.literals,
@@ -47,7 +64,7 @@ impl<'a> Setting<'a> {
             same: &program.same,
             taken: &program.taken,
             classes,
-        }
+        })
     }
 
     /// The size of a type in bytes, or 0 if it is incomplete.
@@ -84,10 +101,9 @@ impl<'a> Setting<'a> {
 
     /// The number of a class: its place among those of the program, or their number if it is not there.
     fn class_number(&self, class: &Class) -> u32
-        requires few { length self.now.classes.now ≤ 4294967295 }
         ensures { result ≡ class_number (setting_here self.now) class.now }
     {
-        match self.classes.iter().position(|it| it == class) {
+        match place_of(self.classes, class) {
             Some(place) => place as u32,
             None => self.classes.len() as u32,
         }

@@ -1,0 +1,4 @@
+mod Declaring
+mod Doing
+mod Giving
+mod Closing

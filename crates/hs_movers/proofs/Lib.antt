@@ -1,0 +1,7 @@
+pub mod Lines
+pub mod Lists
+pub mod Numerals
+pub mod Pieces
+pub mod Printed
+pub mod ScriptTextLaws
+pub mod Told

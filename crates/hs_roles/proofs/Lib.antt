@@ -1,0 +1,4 @@
+mod Copying
+mod Emptying
+mod Moving
+mod Placing
