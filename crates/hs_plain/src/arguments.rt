@@ -5,14 +5,13 @@ ghost use Rattle.hs_heap.specs.Blocks.{size_of};
 ghost use Rattle.hs_heap.specs.Memory.{block_at};
 ghost use Rattle.hs_meaning.specs.Handles.{handle_stop_in};
 ghost use Rattle.hs_meaning.specs.Plain.{argument, argument_stops, byte_stop, gone_stop, pointer_used, pointers_used, used_stop};
-ghost use Rattle.hs_meaning.specs.Stops.{stop_of};
 ghost use Rattle.hs_state.specs.Machines.{machine_of};
 ghost use Rattle.hs_values.specs.Answers.{or_first, or_stop};
 
-use hs_heap::{HeapStop, Pointer};
+use hs_heap::Pointer;
 use hs_meaning::Stop;
 use hs_objects::Objects;
-use hs_state::Machine;
+use hs_state::{Machine, stop_of};
 use hs_values::Value;
 
 /// The argument of that number, counted from 1. Number 0 is none.
@@ -20,19 +19,6 @@ pub(crate) fn argument<T>(number: u32, items: &[T]) -> Option<&T>
     ensures { option_copied result ≡ argument number items.now }
 {
     items.get((number as usize).checked_sub(1)?)
-}
-
-/// The stop of the machine for a stop of the heap.
-fn stop_of(why: HeapStop) -> Stop
-    ensures { result ≡ stop_of why }
-{
-    match why {
-        HeapStop::Disposed => Stop::Disposed,
-        HeapStop::Old => Stop::Old,
-        HeapStop::Stale => Stop::Stale,
-        HeapStop::Purged => Stop::Purged,
-        HeapStop::Range => Stop::Range,
-    }
 }
 
 /// Tests whether the object of that number was made and has not ended.

@@ -7,12 +7,12 @@ ghost use Rattle.hs_meaning.specs.Numbers.{signed};
 ghost use Rattle.hs_roles.specs.Parts.{granted, makes_handle, makes_pointer, reshapes, size_if};
 ghost use Rattle.hs_state.specs.Machines.{Does, Keeps, machine_of};
 
-use crate::handles::{standing_block, stop_of};
+use crate::handles::standing_block;
 use crate::reshape::{Reshape, reshape_block};
 use hs_base::NoMemory;
 use hs_heap::{Cell, HeapEnd, Pointer};
 use hs_objects::{Object, Storage};
-use hs_state::Machine;
+use hs_state::{Machine, stop_of};
 use hs_values::{Halt, Value};
 
 /// Returns the size that a number is. A number below 0 is not a size.

@@ -4,30 +4,16 @@ ghost use Rattle.std.specs.Prelude.{◌≡◌, IfOk, IfSome};
 ghost use Rattle.hs_heap.specs.Blocks.{size_of, state_of};
 ghost use Rattle.hs_heap.specs.Memory.{IsMade};
 ghost use Rattle.hs_meaning.specs.Roles.{handle_stops};
-ghost use Rattle.hs_meaning.specs.Stops.{stop_of};
 ghost use Rattle.hs_meaning.specs.Values.{number, pointer_in, state};
 ghost use Rattle.hs_roles.specs.Parts.{answers, any_block, changed_as, changes, named, sets_state};
 ghost use Rattle.hs_state.specs.Machines.{Does, Keeps, machine_of};
 ghost use Rattle.hs_values.specs.Answers.{or_first};
 
 use crate::change::{Change, apply};
-use hs_heap::{HeapStop, Pointer};
+use hs_heap::Pointer;
 use hs_meaning::Stop;
-use hs_state::Machine;
+use hs_state::{Machine, stop_of};
 use hs_values::{Halt, Value};
-
-/// Returns the stop of the machine for a stop of the heap.
-pub(crate) fn stop_of(why: HeapStop) -> Stop
-    ensures { result ≡ stop_of why }
-{
-    match why {
-        HeapStop::Disposed => Stop::Disposed,
-        HeapStop::Old => Stop::Old,
-        HeapStop::Stale => Stop::Stale,
-        HeapStop::Purged => Stop::Purged,
-        HeapStop::Range => Stop::Range,
-    }
-}
 
 /// Returns the number of the block of a handle. NIL has none.
 ///

@@ -11,10 +11,9 @@ ghost use Rattle.hs_state.specs.Machines.{Does, Keeps, machine_of};
 ghost use Rattle.hs_values.specs.Answers.{Halts, or_first};
 
 use crate::allocations::size_in;
-use crate::handles::stop_of;
 use hs_heap::{Cell, Pointer, Spot};
 use hs_meaning::Stop;
-use hs_state::Machine;
+use hs_state::{Machine, stop_of};
 use hs_values::{Halt, Value};
 
 /// Returns the pointer that the value is. Any other value, which no typed program has here, counts as NIL.

@@ -17,7 +17,7 @@ use hs_meaning::Stop;
 use hs_values::{Halt, Parcel, Value, loaded};
 
 /// The stop of the machine for a stop of the heap.
-pub(crate) fn stop_of(why: HeapStop) -> Stop
+pub fn stop_of(why: HeapStop) -> Stop
     ensures { result ≡ stop_of why }
 {
     match why {

@@ -9,6 +9,7 @@ mod pointers;
 mod setting;
 mod variables;
 
+pub use accesses::stop_of;
 pub use binding::Binding;
 pub use machine::Machine;
 pub use setting::Setting;

@@ -1,2 +1,0 @@
-//! The machine that runs code.
-#![tactic(auto)]

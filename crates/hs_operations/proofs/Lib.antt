@@ -1,0 +1,2 @@
+mod Operating
+mod Working

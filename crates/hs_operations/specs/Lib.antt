@@ -1,0 +1,3 @@
+pub mod Operating
+pub mod Stacks
+pub mod Works

@@ -1,0 +1,88 @@
+//! Operations on the stack of their call.
+
+ghost use Rattle.std.specs.Prelude.{◌≡◌, ◌++◌, ◌∷◌, [], take, Err, OnOk, OnErr};
+ghost use Rattle.hs_code_run.specs.Steps.{operation_of};
+ghost use Rattle.hs_operations.specs.Operating.{Takes};
+ghost use Rattle.hs_operations.specs.Works.{WorksAs};
+ghost use Rattle.hs_state.specs.Machines.{Keeps, machine_of};
+ghost use Rattle.hs_state.specs.Settings.{setting_here};
+ghost use Rattle.hs_values.specs.declared.halt.Halt.TheVariants.{NoMemory as no_memory};
+
+use crate::operate::operate;
+use hs_code::Op;
+use hs_layers::Layers;
+use hs_meaning::Stop;
+use hs_state::{Machine, Setting};
+use hs_values::{Halt, Value};
+
+/// How many values an operation takes that leaves one.
+fn takes(op: Op) -> usize
+    ensures { Takes (operation_of op) result }
+{
+    match op {
+        Op::Get(_) => 0,
+        Op::Set(_) | Op::Load(_) | Op::Conv(_) | Op::Unary(_) | Op::IsNil | Op::Offset(_) => 1,
+        Op::Store(_) | Op::Binary(_, _) | Op::Compare(_) | Op::Difference(_) | Op::Step { .. } => 2,
+        Op::Num(_)
+        | Op::Nil
+        | Op::Address(_)
+        | Op::Drop
+        | Op::Dup
+        | Op::Tuck
+        | Op::Jump(_)
+        | Op::Zero(_)
+        | Op::Choose(_)
+        | Op::Shift(_)
+        | Op::Routine(_)
+        | Op::Call(_)
+        | Op::Return
+        | Op::Turn
+        | Op::Mark
+        | Op::Pick(_)
+        | Op::Bring(_) => 0,
+    }
+}
+
+/// Puts a value in the place of so many on top.
+fn replace(stack: &mut Layers<Value>, low: usize, value: Value) -> Result<(), Halt>
+    ensures top { OnOk result (stack.new.top ≡ take low stack.old.top ++ value ∷ []) }
+    ensures below { stack.new.below ≡ stack.old.below }
+    ensures memory { OnErr result (result ≡ Err no_memory) }
+{
+    stack.truncate(low);
+    match stack.push(value) {
+        Ok(()) => Ok(()),
+        Err(_) => Err(Halt::NoMemory),
+    }
+}
+
+/// Does an operation that takes values from the top of the stack of its call and leaves one: a load, a store, arithmetic, a comparison, or the
+/// value of a slot. It stops with `BadPointer` if the stack has fewer values than it takes. Nothing is said of any other operation.
+///
+/// Example: `Binary(Add)` with 3 on top of 2 leaves 5.
+///
+/// # Errors
+///
+/// Why the operation stops. The stack is then as it was. `NoMemory` if memory runs out.
+pub fn work(
+    setting: &Setting,
+    machine: &mut Machine,
+    stack: &mut Layers<Value>,
+    op: Op,
+) -> Result<(), Halt>
+    ensures works { WorksAs (operation_of op) (setting_here setting.now) stack.old.top (machine_of machine.old) (machine_of machine.new) stack.new.top result }
+    ensures keeps { Keeps machine.old machine.new }
+    ensures below { stack.new.below ≡ stack.old.below }
+{
+    let values = stack.items();
+    let count = takes(op);
+    if values.len() < count {
+        return Err(Halt::Stopped(Stop::BadPointer));
+    }
+    let low = values.len() - count;
+    let (_, high) = values.split_at(low);
+    match operate(setting, machine, op, high) {
+        Ok(value) => replace(stack, low, value),
+        Err(why) => Err(why),
+    }
+}
