@@ -10,3 +10,4 @@ mod types;
 mod words;
 
 pub use plain::call;
+pub use types::number_kind;

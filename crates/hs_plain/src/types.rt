@@ -6,8 +6,8 @@ ghost use Rattle.hs_tree.specs.Kinds.{number_kind, pointed, size_at};
 
 use hs_types::{Integer, Row, TypeId, Types};
 
-/// How numbers of the type are represented, if it is an integer type or an enumeration.
-pub(crate) fn number_kind(types: &Types, id: TypeId) -> Option<Integer>
+/// The integer type whose numbers the values of the type are, if it is an integer type or an enumeration.
+pub fn number_kind(types: &Types, id: TypeId) -> Option<Integer>
     ensures { result ≡ number_kind types.now id }
 {
     match types.row(id)? {
