@@ -2,7 +2,5 @@
 #![tactic(auto)]
 
 mod layers;
-#[cfg(test)]
-mod tests;
 
 pub use layers::Layers;
