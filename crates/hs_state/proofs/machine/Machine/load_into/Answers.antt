@@ -1,5 +1,4 @@
 -- The cells that were copied are those that the pointer reaches.
-use Rattle.std.proofs.Common.{sym}
 use Rattle.hs_code_run.specs.Steps.{access_of}
 use Rattle.hs_heap.specs.declared.cell.Pointer.TheVariants.{Spot}
 use Rattle.hs_state.specs.Machines.{machine_of}
