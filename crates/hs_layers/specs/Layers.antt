@@ -4,7 +4,8 @@
 --     layered items base bases     the same with the list on top, which begins at `base`
 --     IsNested items bases         each list is inside what is below the one above it
 --     Opens, Closes                an empty list is put on top; the list on top is taken away
-use Rattle.std.specs.Prelude.{◌≡◌, ◌≤◌, ℕ, Bool, true, false, List, [], ◌∷◌, length, take, drop}
+--     brought place item list      the list with the item of that place at its end
+use Rattle.std.specs.Prelude.{◌≡◌, ◌≤◌, ℕ, suc, Bool, true, false, List, [], ◌∷◌, ◌++◌, length, take, drop}
 
 -- what a contract sees
 pub record Layered (T : Type 0) : Type 0 where
@@ -36,3 +37,7 @@ Closes [] old new true = ⊥
 Closes [] old new false = new ≡ old
 Closes (first ∷ rest) old new true = (new.top ≡ first) × (new.below ≡ rest)
 Closes (first ∷ rest) old new false = ⊥
+
+-- the others stay in their order
+abbrev pub brought : {T : Type 0} → ℕ → T → List T → List T
+brought place item list = take place list ++ drop (suc place) list ++ item ∷ []

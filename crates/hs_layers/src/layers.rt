@@ -1,7 +1,7 @@
 //! Lists on top of one another.
 
-ghost use Rattle.std.specs.Prelude.{◌≡◌, ◌<◌, ◌≤◌, [], ◌∷◌, ◌++◌, length, take, slice_set, option_to_list, OnOk, OnErr};
-ghost use Rattle.hs_layers.specs.Layers.{Layered, Opens, Closes};
+ghost use Rattle.std.specs.Prelude.{◌≡◌, ◌<◌, ◌≤◌, [], ◌∷◌, ◌++◌, length, take, slice_get, slice_set, option_to_list, OnOk, OnErr};
+ghost use Rattle.hs_layers.specs.Layers.{Layered, Opens, Closes, brought};
 
 use hs_base::NoMemory;
 use std::alloc::Global;
@@ -92,6 +92,19 @@ impl<T: Drop> Layers<T> {
         ensures below { self.new.below ≡ self.old.below }
     {
         self.items[self.base + place] = item;
+    }
+
+    /// Moves the item at that place of the list on top to its end. Takes no memory.
+    pub fn bring(&mut self, place: usize)
+        requires there { place < length self.old.top }
+        ensures top { (item : T) → slice_get self.old.top place ≡ Some item → self.new.top ≡ brought place item self.old.top }
+        ensures below { self.new.below ≡ self.old.below }
+    {
+        let item = self.items.remove(self.base + place);
+        match self.items.push(item) {
+            Ok(()) => (),
+            Err(_) => unreachable!(),
+        }
     }
 
     /// Puts an empty list on top.
