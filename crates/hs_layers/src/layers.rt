@@ -1,6 +1,6 @@
 //! Lists on top of one another.
 
-ghost use Rattle.std.specs.Prelude.{◌≡◌, ◌<◌, ◌≤◌, [], ◌∷◌, ◌++◌, length, take, slice_get, slice_set, option_to_list, OnOk, OnErr};
+ghost use Rattle.std.specs.Prelude.{◌≡◌, ◌<◌, ◌≤◌, [], ◌∷◌, ◌++◌, length, take, slice_get, slice_set, option_to_list, IfNone, OnOk, OnErr};
 ghost use Rattle.hs_layers.specs.Layers.{Layered, Opens, Closes, brought};
 
 use hs_base::NoMemory;
@@ -66,6 +66,7 @@ impl<T: Drop> Layers<T> {
     /// Takes the last item of the list on top, if it has one.
     pub fn pop(&mut self) -> Option<T>
         ensures top { self.old.top ≡ self.new.top ++ option_to_list result }
+        ensures none { IfNone result (self.old.top ≡ []) }
         ensures below { self.new.below ≡ self.old.below }
     {
         if self.items.len() > self.base {

@@ -64,7 +64,7 @@ impl Machine<'_> {
     ///
     /// # Errors
     ///
-    /// Those of `current`, first of the left one; `BadPointer` if they are not into one object or block. `NoMemory` if there are 2147483648
+    /// Those of `current`, first of the left one; `BadPointer` if they are not into one object or block. `NoMemory` if there are 4294967296
     /// objects or more between them, which no pointers of a run have.
     pub fn difference(&self, size: u32, a: Pointer, b: Pointer) -> Result<u32, Halt>
         ensures { Halts (or_first (difference_stops a b (machine_of self.now)) (difference_of size a b)) result }

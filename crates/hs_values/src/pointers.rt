@@ -15,8 +15,8 @@ use hs_tree::{Comparison, Stride};
 /// How far a pointer goes from the front of its object or block, in bytes.
 const FARTHEST: i64 = 2_147_483_647;
 
-/// The most objects between two pointers.
-const MOST: u64 = 2_147_483_647;
+/// The most objects between two pointers, of which none goes farther than `FARTHEST` from its front.
+const MOST: u64 = 4_294_967_295;
 
 /// How many bytes a step is; the number is taken with its sign, whatever its type is.
 pub fn stride_bytes(stride: Stride, bits: u32) -> i64
@@ -114,7 +114,7 @@ pub fn answered(operator: Comparison, a: Pointer, b: Pointer) -> bool
     }
 }
 
-/// How many objects of that size are between two offsets, as 32 bits; 0 if the size is. There is no answer for 2147483648 objects or more.
+/// How many objects of that size are between two offsets, as 32 bits; 0 if the size is. There is no answer for 4294967296 objects or more.
 fn count_between(size: u32, a: i64, b: i64) -> Option<u32>
     ensures { IfSome result (λ bits. bits ≡ bits_of (int_div (a -ℤ b) (pos size))) }
 {
@@ -132,8 +132,8 @@ fn count_between(size: u32, a: i64, b: i64) -> Option<u32>
     })
 }
 
-/// How many objects of that size are between two pointers, as 32 bits; 0 if they are apart. There is no answer if they are 2147483648 objects
-/// or more: no pointers of a run are, since none goes so far from the front of its object.
+/// How many objects of that size are between two pointers, as 32 bits; 0 if they are apart. There is no answer if they are 4294967296 objects
+/// or more: no pointers of a run are, since none goes farther than 2147483647 bytes from the front of its object.
 pub fn difference(size: u32, a: Pointer, b: Pointer) -> Option<u32>
     ensures { IfSome result (λ bits. bits ≡ pointers.difference_of size a b) }
 {

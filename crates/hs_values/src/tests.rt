@@ -178,5 +178,11 @@ fn a_difference_counts_objects(rt: HostRuntime) -> Result<(), Fail> {
     assert_eq!(rt; difference(4, a, b), Some(0xFFFF_FFFE));
     assert_eq!(rt; difference(4, b, a), Some(2));
     assert_eq!(rt; difference(4, a, Pointer::Fixed(2, 4)), Some(0));
+    let (front, end) = (
+        Pointer::Fixed(1, -2_147_483_647),
+        Pointer::Fixed(1, 2_147_483_647),
+    );
+    assert_eq!(rt; difference(1, end, front), Some(0xFFFF_FFFE));
+    assert_eq!(rt; difference(1, front, end), Some(2));
     Ok(())
 }
