@@ -1,11 +1,14 @@
-//! The operations of code that take values from the stack of their call and leave one, on the running machine. `specs/Works.antt` says what they
-//! do with the stack, and that this is the step of a run.
+//! The operations of code that only take values from the stack of their call and leave others, on the running machine. `specs/Works.antt` says
+//! what they do with the stack, and that this is the step of a run.
 #![tactic(auto)]
 
+mod dispatch;
 mod laws;
 mod operate;
 mod operators;
+mod places;
 mod stacks;
+mod values;
 
+pub use dispatch::work;
 pub use laws::operations_are_steps;
-pub use stacks::work;

@@ -44,7 +44,7 @@ fn takes(op: Op) -> usize
 }
 
 /// Puts a value in the place of so many on top.
-fn replace(stack: &mut Layers<Value>, low: usize, value: Value) -> Result<(), Halt>
+pub(crate) fn replace(stack: &mut Layers<Value>, low: usize, value: Value) -> Result<(), Halt>
     ensures top { OnOk result (stack.new.top ≡ take low stack.old.top ++ value ∷ []) }
     ensures below { stack.new.below ≡ stack.old.below }
     ensures memory { OnErr result (result ≡ Err no_memory) }
@@ -59,12 +59,10 @@ fn replace(stack: &mut Layers<Value>, low: usize, value: Value) -> Result<(), Ha
 /// Does an operation that takes values from the top of the stack of its call and leaves one: a load, a store, arithmetic, a comparison, or the
 /// value of a slot. It stops with `BadPointer` if the stack has fewer values than it takes. Nothing is said of any other operation.
 ///
-/// Example: `Binary(Add)` with 3 on top of 2 leaves 5.
-///
 /// # Errors
 ///
 /// Why the operation stops. The stack is then as it was. `NoMemory` if memory runs out.
-pub fn work(
+pub(crate) fn apply(
     setting: &Setting,
     machine: &mut Machine,
     stack: &mut Layers<Value>,

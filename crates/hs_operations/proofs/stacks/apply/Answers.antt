@@ -5,7 +5,7 @@ use Rattle.hs_code_run.specs.Steps.{operation_of}
 use Rattle.hs_state.specs.Machines.{machine_of}
 use Rattle.hs_state.specs.Settings.{setting_here}
 use Rattle.hs_operations.proofs.Working.{takes_same, whole_given, whole_not}
-use Rattle.hs_operations.proofs.stacks.work.Goals as goal
+use Rattle.hs_operations.proofs.stacks.apply.Goals as goal
 
 pub returns-in-Ok-clause-works : goal.returns-in-Ok-clause-works
 returns-in-Ok-clause-works c =

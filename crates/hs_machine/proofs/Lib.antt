@@ -1,0 +1,14 @@
+pub mod Beginning
+pub mod Calling
+pub mod Deciding
+pub mod Entering
+pub mod Going
+pub mod Looking
+pub mod Moving
+pub mod Numbers
+pub mod Onwards
+pub mod Performing
+pub mod Returning
+pub mod Showing
+pub mod Taking
+pub mod Telling

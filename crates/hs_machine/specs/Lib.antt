@@ -1,0 +1,7 @@
+pub mod Advancing
+pub mod Programs
+pub mod Reaching
+pub mod Recording
+pub mod Running
+pub mod Standing
+pub mod Transcripts

@@ -1,0 +1,66 @@
+-- The decisions of a run as they are recorded (own).
+--     recorded decision                  as a mover gave it: the number 0 names no block
+--     told_front count told              the first decisions of those told, as they are recorded; past the end they name no block
+--     IsTold told script                 the script is what the mover told
+--     size_of script                     what the limit of scripts counts: the decisions, and the block numbers in them
+--     SizedWith script decision result   one decision more was counted
+use Rattle.std.specs.Prelude.{◌≡◌, ◌<◌, ◌≤◌, ℕ, zero, suc, ◌+◌, ◌==◌, not, List, [], ◌∷◌, ◌++◌, length, filter, Option, Some, None, Result, Ok, Err}
+use Rattle.std.proofs.Common.{arith}
+use Rattle.hs_base.specs.declared.limit.LimitKind.TheVariants as kind
+use Rattle.hs_heap.specs.declared.decision.Decision.{Decision}
+use Rattle.hs_heap.specs.declared.decision.Which.{Which}
+use Rattle.hs_heap.specs.declared.decision.Which.TheVariants.{All, These}
+use Rattle.hs_machine.specs.declared.transcript.MachineEnd.{MachineEnd}
+use Rattle.hs_machine.specs.declared.transcript.MachineEnd.TheVariants.{Limit, NoMemory}
+use Rattle.hs_movers.specs.Movers.{no_block}
+
+-- 0 is the number of no block
+abbrev pub named : Which → Which
+named All = All
+named (These numbers) = These (filter (λ number. not (number == 0)) numbers)
+
+-- as a mover gave it
+abbrev pub recorded : Decision → Decision
+recorded decision = record { moves = named decision.moves; purges = named decision.purges }
+
+-- so many of those told
+abbrev pub told_front : ℕ → List Decision → List Decision
+told_front zero told = []
+told_front (suc more) [] = no_block ∷ told_front more []
+told_front (suc more) (decision ∷ rest) = recorded decision ∷ told_front more rest
+
+-- if the mover told its decisions
+abbrev pub IsTold : Option (List Decision) → List Decision → Type 0
+IsTold None script = Unit {0}
+IsTold (Some told) script = script ≡ told_front (length script) told
+
+-- the block numbers that are named one by one
+abbrev pub numbers_in : Which → ℕ
+numbers_in All = 0
+numbers_in (These numbers) = length numbers
+
+-- a decision, and the block numbers in it
+abbrev pub size_of_one : Decision → ℕ
+size_of_one decision = 1 + numbers_in decision.moves + numbers_in decision.purges
+
+-- of all decisions
+abbrev pub size_of : List Decision → ℕ
+size_of [] = 0
+size_of (decision ∷ rest) = size_of_one decision + size_of rest
+
+-- one decision more has room, or the script has more than it may
+abbrev pub SizedWith : List Decision → Decision → Result ℕ MachineEnd → Type 0
+SizedWith script decision (Ok size) = (size ≡ size_of (script ++ decision ∷ [])) × (size ≤ 4000000)
+SizedWith script decision (Err (Limit its)) =
+    (its.kind ≡ kind.Script) × (its.reached ≡ 4000000) × (4000000 < size_of (script ++ decision ∷ []))
+SizedWith script decision (Err NoMemory) = ⊥
+
+-- a decision at the end counts as it does at the front
+pub size_of-more : (script : List Decision) (decision : Decision) → size_of (script ++ decision ∷ []) ≡ size_of script + size_of_one decision
+size_of-more [] decision = omega arith
+size_of-more (first ∷ rest) decision = omega (arith, size_of-more rest decision)
+
+-- each decision counts
+pub length_in_size : (script : List Decision) → length script ≤ size_of script
+length_in_size [] = omega arith
+length_in_size (first ∷ rest) = omega (arith, length_in_size rest)
