@@ -87,7 +87,7 @@ fn shown(machine: Machine, recorder: Recorder, outcome: Outcome) -> Transcript
     }
 }
 
-/// Runs the code of a program with that input and so many turns, on a heap that moves as the mover decides at each call of a routine that moves
+/// Runs the code of a program with that input and so many turns on a heap that moves as the mover decides at each call of a routine that moves
 /// or purges (X3.159-1989 3.1.2.4 and 3.6; the machine is own).
 ///
 /// The transcript is that of the run of the code under the decisions that are recorded. If the mover tells its decisions, they are those, without
