@@ -5,6 +5,7 @@ pub mod Entering
 pub mod Going
 pub mod Looking
 pub mod Moving
+pub mod Naming
 pub mod Numbers
 pub mod Onwards
 pub mod Performing

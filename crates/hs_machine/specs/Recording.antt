@@ -4,8 +4,10 @@
 --     IsTold told script                 the script is what the mover told
 --     size_of script                     what the limit of scripts counts: the decisions, and the block numbers in them
 --     SizedWith script decision result   one decision more was counted
+--     NamesBlocks script                 no list of it has the number 0
 use Rattle.std.specs.Prelude.{◌≡◌, ◌<◌, ◌≤◌, ℕ, zero, suc, ◌+◌, ◌==◌, not, List, [], ◌∷◌, ◌++◌, length, filter, Option, Some, None, Result, Ok, Err}
 use Rattle.std.proofs.Common.{arith}
+use Rattle.std.specs.List.{All as Each}
 use Rattle.hs_base.specs.declared.limit.LimitKind.TheVariants as kind
 use Rattle.hs_heap.specs.declared.decision.Decision.{Decision}
 use Rattle.hs_heap.specs.declared.decision.Which.{Which}
@@ -13,6 +15,7 @@ use Rattle.hs_heap.specs.declared.decision.Which.TheVariants.{All, These}
 use Rattle.hs_machine.specs.declared.transcript.MachineEnd.{MachineEnd}
 use Rattle.hs_machine.specs.declared.transcript.MachineEnd.TheVariants.{Limit, NoMemory}
 use Rattle.hs_movers.specs.Movers.{no_block}
+use Rattle.hs_movers.specs.ScriptTexts.{HasNoZero}
 
 -- 0 is the number of no block
 abbrev pub named : Which → Which
@@ -64,3 +67,8 @@ size_of-more (first ∷ rest) decision = omega (arith, size_of-more rest decisio
 pub length_in_size : (script : List Decision) → length script ≤ size_of script
 length_in_size [] = omega arith
 length_in_size (first ∷ rest) = omega (arith, length_in_size rest)
+
+-- no list of a script has the number of no block
+pub record NamesBlocks (script : List Decision) : Type 0 where
+  pub moves : Each (λ decision. HasNoZero decision.moves) script
+  pub purges : Each (λ decision. HasNoZero decision.purges) script

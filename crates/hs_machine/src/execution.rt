@@ -9,6 +9,7 @@ ghost use Rattle.hs_machine.specs.Transcripts.{GivesUp, HasRun};
 ghost use Rattle.hs_meaning.specs.Classes.{classes_of};
 ghost use Rattle.hs_meaning.specs.Frames.{opened};
 ghost use Rattle.hs_meaning.specs.Statements.{opening_of};
+ghost use Rattle.hs_movers.specs.ScriptTexts.{IsPrintable};
 ghost use Rattle.hs_state.specs.Machines.{Does, machine_of};
 ghost use Rattle.hs_state.specs.Settings.{setting_here};
 ghost use Rattle.hs_tree.specs.Views.{view_function};
@@ -108,6 +109,7 @@ pub fn execute(
     ensures run { IfOk result (λ its. HasRun (code_program (view_program code.now.program.now) code.now.functions.items) input.now turns its) }
     ensures told { IfOk result (λ its. IsTold (told mover.old) its.script.decisions) }
     ensures seed { IfOk result (λ its. its.script.seed ≡ 0) }
+    ensures printable { IfOk result (λ its. IsPrintable its.script) }
     ensures few_bytes { IfOk result (λ its. length its.output ≤ 16777216) }
     ensures few_decisions { IfOk result (λ its. size_of its.script.decisions ≤ 4000000) }
     ensures same_number { number mover.new ≡ number mover.old }

@@ -3,7 +3,7 @@
 ghost use Rattle.std.specs.Prelude.{◌≡◌, ◌<◌, ◌≤◌, [], length, slice_get, option_copied, IsSome, OnOk};
 ghost use Rattle.hs_machine.specs.Advancing.{Advances, Operates};
 ghost use Rattle.hs_machine.specs.Programs.{program_here};
-ghost use Rattle.hs_machine.specs.Recording.{IsTold};
+ghost use Rattle.hs_machine.specs.Recording.{IsTold, NamesBlocks};
 ghost use Rattle.hs_machine.specs.Running.{Runs};
 ghost use Rattle.hs_machine.specs.Standing.{Waits};
 
@@ -92,6 +92,7 @@ pub(crate) fn run<'c>(
     ensures same_number { number mover.new ≡ number mover.old }
     ensures few_bytes { OnOk result (length runner.new.machine.output.items ≤ 16777216) }
     ensures told { OnOk result (IsTold (told mover.old) recorder.new.decisions.items) }
+    ensures names_blocks { OnOk result (NamesBlocks recorder.new.decisions.items) }
     ensures runs { Runs (program_here loaded.now) runner.old runner.new recorder.new.decisions.items (told mover.old) result }
 {
     // Code need not end. No machine comes to the last turn of this loop.

@@ -1,3 +1,4 @@
 mod Bringing
 mod Operating
+mod Tops
 mod Working

@@ -4,6 +4,7 @@
 
 mod dispatch;
 mod laws;
+mod numbers;
 mod operate;
 mod operators;
 mod places;

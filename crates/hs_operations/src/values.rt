@@ -28,10 +28,13 @@ pub(crate) fn drop_top(stack: &mut Layers<Value>) -> Result<(), Halt>
     ensures top { (setting : Given) (machine : Meant) → Works (worked setting op.Drop (reverse stack.old.top) machine) (reverse stack.new.top) machine result }
     ensures below { stack.new.below ≡ stack.old.below }
 {
-    match stack.pop() {
-        Some(_) => Ok(()),
-        None => Err(Halt::Stopped(Stop::BadPointer)),
+    // Cut where it is: a value that is popped is moved first.
+    let count = stack.items().len();
+    if count == 0 {
+        return Err(Halt::Stopped(Stop::BadPointer));
     }
+    stack.truncate(count - 1);
+    Ok(())
 }
 
 /// Copies the value on top.

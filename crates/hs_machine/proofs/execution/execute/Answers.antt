@@ -5,9 +5,11 @@ use Rattle.hs_code_run.specs.Codes.{CodeProgram, Point}
 use Rattle.hs_code_run.specs.Runs.{starting_point}
 use Rattle.hs_machine.proofs.Beginning.{cause_too, main_comes, main_reaches, main_stops, runs_too}
 use Rattle.hs_machine.proofs.Looking.{given_is}
+use Rattle.hs_machine.proofs.Naming.{printable}
 use Rattle.hs_machine.proofs.Showing.{shows, stops_silently}
 use Rattle.hs_machine.proofs.execution.execute.Goals as goal
 use Rattle.hs_machine.specs.Programs.{function_of, program_here}
+use Rattle.hs_machine.specs.Recording.{size_of}
 use Rattle.hs_machine.specs.Running.{comes_from, reaches_from}
 use Rattle.hs_machine.specs.Standing.{point_at}
 use Rattle.hs_machine.specs.Transcripts.{GivesUp, HasRun, comes_under, reaches_under}
@@ -120,3 +122,9 @@ returns-in-Err-clause-gives_up g c =
     subst (λ (p : CodeProgram). GivesUp p input turns told c.in-Err.why) loaded
     (cause_too program (reaches_from program first) (reaches_under program input turns) (comes_from program first) (comes_under program input turns) far last told
     c.in-Err.why c.in-Err.ensures.runs)
+
+pub returns-in-Ok-run-clause-printable : goal.returns-in-Ok-run-clause-printable
+returns-in-Ok-run-clause-printable g c =
+    let recorder = c.run.new.recorder in
+    let counted : size_of recorder.decisions.items ≤ 4000000 = omega (arith, recorder.counted, recorder.few) in
+    printable c.shown-in-Ok-run.result.script recorder.decisions.items c.shown-in-Ok-run.ensures.script c.in-Ok-run.ensures.names_blocks counted

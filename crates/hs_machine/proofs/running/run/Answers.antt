@@ -2,11 +2,12 @@
 use Rattle.std.proofs.Common.{rules, length, List, Option, Ok, sym, ap, ◌∙◌, subst}
 use Rattle.hs_heap.specs.declared.decision.Decision.{Decision}
 use Rattle.hs_machine.proofs.Going.{gives_up, runs_over, there_first, there_next}
+use Rattle.hs_machine.proofs.Naming.{names_more, names_none}
 use Rattle.hs_machine.proofs.Telling.{TellsSo, tells_all, tells_more, tells_script}
 use Rattle.hs_machine.proofs.running.run.Goals as goal
 use Rattle.hs_machine.specs.Advancing.{AdvancesTo}
 use Rattle.hs_machine.specs.Programs.{program_here}
-use Rattle.hs_machine.specs.Recording.{IsTold}
+use Rattle.hs_machine.specs.Recording.{IsTold, NamesBlocks}
 use Rattle.hs_machine.specs.Running.{IsThere, comes_from, reaches_from}
 use Rattle.hs_machine.specs.Transcripts.{RunsTo}
 use Rattle.hs_meaning.specs.declared.outcome.Outcome.{Outcome}
@@ -20,6 +21,7 @@ operations-init g c =
     record {
       there = subst (λ (l : List Decision). IsThere program first l first) (sym c.requires.unrecorded) (there_first program first c.requires.begins);
       tells = subst (λ (l : List Decision). TellsSo told l told) (sym c.requires.unrecorded) (tells_all told);
+      names_blocks = subst (λ (l : List Decision). NamesBlocks l) (sym c.requires.unrecorded) names_none;
       counted = c.requires.unshifted ∙ sym (ap length c.requires.unrecorded);
       same_number = search rules;
     }
@@ -72,6 +74,19 @@ returns-in-Some-clause-runs g c =
     subst (λ (l : List Decision). RunsTo program (reaches_from program first) (comes_from program first) l c.in-Some.outcome (machine_of new.machine) new.turns)
     (sym ended.1) (runs_over program first script old new c.in-Some.outcome there ended.0)
 
+pub returns-in-Some-clause-names_blocks : goal.returns-in-Some-clause-names_blocks
+returns-in-Some-clause-names_blocks g c =
+    let program = program_here c.args.loaded.now in
+    let now = (goal.Mover-dyn g (c.operations.mover.vtable, c.operations.mover.value)).told c.operations.mover.value in
+    let later = (goal.Mover-dyn g (c.advance.new.mover.vtable, c.advance.new.mover.value)).told c.advance.new.mover.value in
+    let script = c.operations.recorder.decisions.items in
+    let after = c.advance.new.recorder.decisions.items in
+    let there = c.operations.invariant.there in
+    let ended =
+    subst (λ (o : Option Outcome). AdvancesTo program c.operations.runner c.advance.new.runner script after now later there.later (Ok o)) c.in-Some.is
+    (c.in-Ok.ensures.advances there.later there.waits) in
+    subst (λ (l : List Decision). NamesBlocks l) (sym ended.1) c.operations.invariant.names_blocks
+
 pub operations-preserved : goal.operations-preserved
 operations-preserved g c =
     let program = program_here c.args.loaded.now in
@@ -89,6 +104,7 @@ operations-preserved g c =
     record {
       there = there_next program first script after old new now later there onward;
       tells = tells_more told now later script onward.taken after c.operations.invariant.tells onward.tells onward.recorded;
+      names_blocks = names_more now later script onward.taken after c.operations.invariant.names_blocks onward.tells onward.recorded;
       counted = c.in-Ok.ensures.counted;
       same_number = c.in-Ok.ensures.same_number ∙ c.operations.invariant.same_number;
     }

@@ -3,6 +3,7 @@ use Rattle.std.proofs.Common.{◌≡◌, length}
 use Rattle.hs_machine.proofs.Telling.{TellsSo}
 use Rattle.hs_machine.proofs.running.run.Given as goal
 use Rattle.hs_machine.specs.Programs.{program_here}
+use Rattle.hs_machine.specs.Recording.{NamesBlocks}
 use Rattle.hs_machine.specs.Running.{IsThere}
 
 abbrev pub invariant-operations : goal.invariant-operations
@@ -12,6 +13,7 @@ invariant-operations g l =
     record {
       there : IsThere (program_here l.loaded) l.fn.runner l.recorder.decisions.items l.runner;
       tells : TellsSo (first.told l.fn.mover.value) l.recorder.decisions.items (now.told l.mover.value);
+      names_blocks : NamesBlocks l.recorder.decisions.items;
       counted : l.runner.machine.heap.shifts ≡ length l.recorder.decisions.items;
       same_number : now.number l.mover.value ≡ first.number l.fn.mover.value;
     }
