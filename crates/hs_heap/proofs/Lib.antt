@@ -1,6 +1,7 @@
 mod Acting
 mod Copying
 mod Counting
+mod Listing
 mod Marking
 mod Moving
 mod Passing

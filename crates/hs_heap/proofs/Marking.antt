@@ -3,9 +3,10 @@ use Rattle.std.proofs.Common.{◌≡◌, ◌≤◌, ◌<◌, ℕ, zero, suc, Lis
 use Rattle.std.specs.Prelude.{replicate}
 use Rattle.std.proofs.lemmas.List.{length-set}
 use Rattle.std.proofs.lemmas.Option.{none-some, same_Some}
-use Rattle.hs_heap.specs.Blocks.{Block}
-use Rattle.hs_heap.specs.Memory.{IsKept, IsMarked}
+use Rattle.hs_heap.specs.Blocks.{Block, StaysDisposed}
+use Rattle.hs_heap.specs.Memory.{IsKept, IsMarked, IsListed}
 use Rattle.hs_heap.proofs.Counting.{kept_same}
+use Rattle.hs_heap.proofs.Listing.{listed_set}
 
 -- each block has an epoch of at most that number
 abbrev pub AreBelow : List Block → ℕ → Type 0
@@ -40,13 +41,15 @@ marked_set blocks marks shifts place old other new marked is same =
       epochs = below_set blocks place shifts old other new is same marked.epochs;
     }
 
--- a block that changes, and keeps its epoch and how many cells it has
-pub stays : (blocks : List Block) (marks : List ℕ) (live shifts place : ℕ) (old other new : Block) → IsKept blocks live × IsMarked blocks marks shifts
-    → place < length blocks → old ≡ get_or blocks place other → length new.cells ≡ length old.cells → new.epoch ≡ old.epoch
-    → IsKept (slice_set blocks place new) live × IsMarked (slice_set blocks place new) marks shifts
-stays blocks marks live shifts place old other new kept there is as_large same = (
+-- a block that changes, keeps its epoch and how many cells it has, and is disposed if it was
+pub stays : (blocks : List Block) (marks listed : List ℕ) (live shifts place : ℕ) (old other new : Block)
+    → IsKept blocks live × IsMarked blocks marks shifts × IsListed blocks listed → place < length blocks → old ≡ get_or blocks place other
+    → length new.cells ≡ length old.cells → new.epoch ≡ old.epoch → StaysDisposed old new
+    → IsKept (slice_set blocks place new) live × IsMarked (slice_set blocks place new) marks shifts × IsListed (slice_set blocks place new) listed
+stays blocks marks listed live shifts place old other new kept there is as_large same disposed = (
   kept_same blocks live place old other kept.0 there is new as_large,
   marked_set blocks marks shifts place old other new kept.1 is same,
+  listed_set blocks listed place old other new kept.2 is disposed,
 )
 
 -- zeros are marks of no shift

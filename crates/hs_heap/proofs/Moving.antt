@@ -6,9 +6,10 @@ use Rattle.std.proofs.lemmas.List.{length-take-le, length-drop, length-append, l
 use Rattle.std.proofs.lemmas.Option.{slice_get-get_or, get_or_from_slice_get}
 use Rattle.hs_heap.proofs.Acting.{at_place}
 use Rattle.hs_heap.proofs.Counting.{counted_with}
+use Rattle.hs_heap.proofs.Listing.{listed_set}
 use Rattle.hs_heap.proofs.Marking.{marked_set}
 use Rattle.hs_heap.specs.Blocks.{Block, with_cells, place_for, places_of, range_at, reach, is_disposed, loaded, loaded_at, moved, stored_at}
-use Rattle.hs_heap.specs.Memory.{Memory, IsKept, IsMarked, IsCopiedBetween, ActsAs, block_at, put_block}
+use Rattle.hs_heap.specs.Memory.{Memory, IsKept, IsMarked, IsListed, IsCopiedBetween, ActsAs, block_at, put_block}
 use Rattle.hs_heap.specs.declared.cell.Cell.{Cell}
 use Rattle.hs_heap.specs.declared.cell.Spot.{Spot}
 use Rattle.hs_heap.specs.declared.presence.Presence.{Presence}
@@ -172,3 +173,9 @@ module _ (blocks : List Block) (live i j here there count : ℕ) (a b other anot
   marked_moved marks shifts marked =
       subst (λ its. IsMarked its marks shifts) (sym new_is)
       (marked_set blocks marks shifts j b another (with_cells there (take count (drop here a.cells)) b) marked is-b refl)
+
+  -- and none is disposed or made
+  pub listed_moved : (listed : List ℕ) → IsListed blocks listed → IsListed new listed
+  listed_moved listed all =
+      subst (λ its. IsListed its listed) (sym new_is)
+      (listed_set blocks listed j b another (with_cells there (take count (drop here a.cells)) b) all is-b (λ living. living))

@@ -1,6 +1,6 @@
 -- A pass over a list of numbers, one by one, changes the blocks that are named once each: a change that is made again does nothing, or the mark
 -- of the block says that it was made.
-use Rattle.std.proofs.Common.{◌≡◌, ◌≤◌, ◌<◌, ◌-◌, ◌+◌, ◌==◌, ℕ, zero, suc, Bool, true, false, ◌&&◌, ◌||◌, List, [], ◌∷◌, map, length, Option, Some, None, refl, sym, ap, subst, ◌∙◌, slice_get, slice_set, get_or, ◌⊎◌, inl, inr, if◌then◌else◌, true≢false, eqb-true, eq-eqb, arith}
+use Rattle.std.proofs.Common.{◌≡◌, ◌≤◌, ◌<◌, ◌-◌, ◌+◌, ◌==◌, ℕ, zero, suc, Bool, true, false, ◌&&◌, ◌||◌, List, [], ◌∷◌, length, Option, Some, None, refl, sym, ap, subst, ◌∙◌, slice_get, slice_set, get_or, ◌⊎◌, inl, inr, if◌then◌else◌, true≢false, eqb-true, eq-eqb, arith}
 use Rattle.std.specs.Prelude.{nat_le}
 use Rattle.std.specs.List.{list_any}
 use Rattle.std.proofs.lemmas.Bool.{ne_eqb, and_parts}
@@ -11,7 +11,7 @@ use Rattle.std.proofs.lemmas.Option.{slice_get_past, slice_get_within, none-some
 use Rattle.hs_heap.specs.Blocks.{Block}
 use Rattle.hs_heap.specs.Shift.{is_loose}
 use Rattle.hs_heap.specs.Passes.{purged, relocated, numbered, if_named, with_each, place_of, change_there, change_place, changed_at, has_mark, mark_place, marked_at, moved_at}
-use Rattle.hs_heap.specs.declared.decision.Which.TheVariants.{All, These}
+use Rattle.hs_heap.specs.declared.decision.Which.TheVariants.{These}
 
 -- two changes, one after the other
 pub numbered_twice : (f g : ℕ → Block → Block) (n : ℕ) (blocks : List Block)
@@ -33,11 +33,6 @@ numbered_same f g n (block ∷ blocks) same =
 pub numbered_idle : (which : _) (f : Block → Block) (n : ℕ) (blocks : List Block) → numbered (if_named false which f) n blocks ≡ blocks
 numbered_idle which f n [] = refl
 numbered_idle which f n (block ∷ blocks) = ap (λ (its : List Block). block ∷ its) (numbered_idle which f (suc n) blocks)
-
--- a pass over all
-pub numbered_all : (f : Block → Block) (n : ℕ) (blocks : List Block) → numbered (if_named true All f) n blocks ≡ map f blocks
-numbered_all f n [] = refl
-numbered_all f n (block ∷ blocks) = ap (λ (its : List Block). f block ∷ its) (numbered_all f (suc n) blocks)
 
 -- a pass over no numbers
 pub numbered_none : (f : Block → Block) (n : ℕ) (blocks : List Block) → numbered (if_named true (These []) f) n blocks ≡ blocks
@@ -87,7 +82,7 @@ there_numbered f (block ∷ blocks) (suc place) number n is =
 -- ---- the place of a number
 
 -- a number from 1 on has the place before it
-place_in : (place made : ℕ) → place < made → place_of (suc place) made ≡ Some place
+pub place_in : (place made : ℕ) → place < made → place_of (suc place) made ≡ Some place
 place_in place made within = rw (both place made within) (ap Some (less place))
   where
     both : (place made : ℕ) → place < made → (nat_le 1 (suc place) && nat_le (suc place) made) ≡ true

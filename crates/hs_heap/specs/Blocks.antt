@@ -6,6 +6,7 @@
 --     size_of, state_of, master_of, cells_of      what is answered of it, or the stop
 --     place_for s count block         where a use through a pointer begins, or the stop; loaded, stored, what it reads and leaves
 --     IsInRange block                 its life and its bytes are within their limits
+--     StaysDisposed old new           a disposed block stays disposed
 use Rattle.std.specs.Prelude.{◌≡◌, ◌≤◌, nat_le, nat_lt, ◌&&◌, ◌||◌, ◌%◌, ◌==◌, ◌-◌, ℤ, ℕ, pos, negsuc, ◌+◌, take, drop, ◌++◌, Bool, true, false, not, List, [], length, replicate, Option, Some, None, Result, Ok, Err, if◌then◌else◌}
 use Rattle.hs_heap.specs.declared.cell.Cell.{Cell}
 use Rattle.hs_heap.specs.declared.cell.Cell.TheVariants.{Undefined}
@@ -129,6 +130,10 @@ is_disposed Disposed = true
 is_disposed Present = false
 is_disposed Emptied = false
 is_disposed Purged = false
+
+-- one that was disposed still is
+abbrev pub StaysDisposed : Block → Block → Type 0
+StaysDisposed old new = is_disposed new.presence ≡ false → is_disposed old.presence ≡ false
 
 -- how many cells a pointer can reach: none of a block that was purged
 abbrev pub reach : Presence → List Cell → ℕ

@@ -8,8 +8,10 @@
 --     MakesBlock size old new result        a new block, or why not
 --     IsKept blocks live              what the heap keeps of its bytes
 --     IsMarked blocks marks shifts    what it keeps of its shifts
-use Rattle.std.specs.Prelude.{◌≡◌, ◌≤◌, ◌<◌, take, drop, ℕ, zero, suc, ◌+◌, ◌-◌, nat_lt, nat_le, Bool, true, false, ◌&&◌, List, [], ◌∷◌, ◌++◌, length, slice_get, slice_set, get_or, sum_by, Option, Some, None, Result, Ok, Err}
-use Rattle.hs_heap.specs.Blocks.{Block, IsCopied, cells_of, loaded, moved, with_cells, new_block}
+--     IsListed blocks listed          what it keeps of the blocks that a shift of all blocks visits
+use Rattle.std.specs.Prelude.{◌≡◌, ◌≤◌, ◌<◌, ◌==◌, take, drop, ℕ, zero, suc, ◌+◌, ◌-◌, nat_lt, nat_le, Bool, true, false, ◌&&◌, List, [], ◌∷◌, ◌++◌, length, slice_get, slice_set, get_or, sum_by, Option, Some, None, Result, Ok, Err}
+use Rattle.std.specs.List.{list_any}
+use Rattle.hs_heap.specs.Blocks.{Block, IsCopied, is_disposed, cells_of, loaded, moved, with_cells, new_block}
 use Rattle.hs_heap.specs.declared.cell.Cell.{Cell}
 use Rattle.hs_heap.specs.declared.cell.Spot.{Spot}
 use Rattle.hs_heap.specs.declared.stop.HeapStop.{HeapStop}
@@ -127,3 +129,10 @@ pub record IsMarked (blocks : List Block) (marks : List ℕ) (shifts : ℕ) : Ty
   pub long : length blocks ≤ length marks
   pub past : (place : ℕ) → get_or marks place 0 ≤ shifts
   pub epochs : (place : ℕ) (block : Block) → slice_get blocks place ≡ Some block → block.epoch ≤ shifts
+
+-- Each block that is not disposed is in the list of those that a shift of all blocks visits. Nothing is said of other numbers in the list: one that
+-- is there twice, or of a block that was disposed or never made, does no harm.
+abbrev pub IsListed : List Block → List ℕ → Type 0
+IsListed blocks listed =
+    (place : ℕ) (block : Block) → slice_get blocks place ≡ Some block → is_disposed block.presence ≡ false
+    → list_any (λ number. number == suc place) listed ≡ true

@@ -3,10 +3,14 @@
 --     with_each may which change blocks        the blocks, with a change of those that are named, if the routine may
 --     changed_at change number blocks          the blocks, with a change of the one of that number, if it was made
 --     moved_at shift marks number blocks       the same of a move, if the block has another mark; marked_by has the marks after it
-use Rattle.std.specs.Prelude.{ℕ, suc, ◌+◌, ◌-◌, ◌==◌, nat_le, min, Bool, ◌&&◌, List, [], ◌∷◌, length, slice_get, slice_set, get_or, Option, Some, None, false, if◌then◌else◌}
-use Rattle.hs_heap.specs.Blocks.{Block}
+--     is_remaining blocks number               a block of that number was made, and it is not disposed
+--     listed_for decision blocks listed        the numbers that a pass over all blocks visits
+use Rattle.std.specs.Prelude.{ℕ, suc, ◌+◌, ◌-◌, ◌==◌, nat_le, min, Bool, not, ◌&&◌, ◌||◌, List, [], ◌∷◌, length, filter, slice_get, slice_set, get_or, Option, Some, None, true, false, if◌then◌else◌}
+use Rattle.hs_heap.specs.Blocks.{Block, is_disposed}
 use Rattle.hs_heap.specs.Shift.{is_loose, is_named}
+use Rattle.hs_heap.specs.declared.decision.Decision.{Decision}
 use Rattle.hs_heap.specs.declared.decision.Which.{Which}
+use Rattle.hs_heap.specs.declared.decision.Which.TheVariants.{All, These}
 use Rattle.hs_heap.specs.declared.presence.Presence.TheVariants.{Purged}
 
 -- The next epoch, up to the last one. No heap makes so many shifts that it matters.
@@ -74,3 +78,30 @@ marked_by shift number blocks marks = marked_at shift (length blocks) number mar
 abbrev pub moved_at : ℕ → List ℕ → ℕ → List Block → List Block
 moved_at shift marks number blocks =
     if has_mark shift marks (place_of number (length blocks)) then blocks else changed_at relocated number blocks
+
+-- there is a block, and it is not disposed
+abbrev pub remains : Option Block → Bool
+remains None = false
+remains (Some block) = not (is_disposed block.presence)
+
+-- the same of a place
+abbrev pub remains_at : List Block → Option ℕ → Bool
+remains_at blocks None = false
+remains_at blocks (Some place) = remains (slice_get blocks place)
+
+-- and of a number
+abbrev pub is_remaining : List Block → ℕ → Bool
+is_remaining blocks number = remains_at blocks (place_of number (length blocks))
+
+-- it names all blocks, and not those of a list
+abbrev pub is_all : Which → Bool
+is_all All = true
+is_all (These numbers) = false
+
+-- the decision moves or purges all blocks
+abbrev pub names_all : Decision → Bool
+names_all decision = is_all decision.moves || is_all decision.purges
+
+-- The numbers that a pass over all blocks visits. Before a decision that names all blocks, those of disposed blocks are taken out of the list.
+abbrev pub listed_for : Decision → List Block → List ℕ → List ℕ
+listed_for decision blocks listed = if names_all decision then filter (is_remaining blocks) listed else listed

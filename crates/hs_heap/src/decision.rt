@@ -1,5 +1,8 @@
 //! Decisions of the schedule: which blocks to move and which to purge.
 
+ghost use Rattle.std.specs.Prelude.{◌≡◌};
+ghost use Rattle.hs_heap.specs.Passes.{names_all};
+
 use hs_base::Numbers;
 
 /// Blocks that a decision names, by number from 1.
@@ -15,4 +18,13 @@ pub enum Which {
 pub struct Decision {
     pub moves: Which,
     pub purges: Which,
+}
+
+impl Decision {
+    /// Whether it moves all blocks, or purges all.
+    pub(crate) fn names_all(&self) -> bool
+        ensures { result ≡ names_all self.now }
+    {
+        matches!(self.moves, Which::All) || matches!(self.purges, Which::All)
+    }
 }

@@ -8,7 +8,7 @@ ghost use Rattle.hs_heap.specs.Shift.{after_shift, OthersStay, LockedStay, Epoch
 
 use crate::cell::{Cell, Spot};
 use crate::decision::Decision;
-use crate::pass::{purge, relocate};
+use crate::pass::{drop_disposed, purge, relocate};
 use crate::row::Row;
 use crate::stop::{HeapEnd, HeapStop};
 use std::alloc::Global;
@@ -25,8 +25,10 @@ const MOST_BLOCKS: usize = 4_294_967_295;
 pub struct Heap {
     alloc: Global,
     rows: Vec<Row>,
-    /// For each block, the number of the last shift that moved it by a list. There may be one more.
+    /// For each block, the number of the last shift that named it to be moved. There may be one more.
     marks: Vec<u32>,
+    /// The numbers of the blocks that a shift of all blocks visits: each that is not disposed, and there may be others.
+    listed: Vec<u32>,
     /// The bytes of all blocks.
     live: usize,
     /// How many shifts were made.
@@ -34,13 +36,15 @@ pub struct Heap {
 }
 
 impl Model for Heap {
-    ghost use Rattle.hs_heap.specs.Memory.{Memory, IsKept, IsMarked};
+    ghost use Rattle.hs_heap.specs.Memory.{Memory, IsKept, IsMarked, IsListed};
 
     ghost Value = { Memory };
 
     ghost view = { λ it. record { blocks = it.rows.items; shifts = it.shifts } };
 
-    ghost invariant = { λ it. IsKept it.rows.items it.live × IsMarked it.rows.items it.marks.items it.shifts };
+    ghost invariant = { λ it. IsKept it.rows.items it.live
+        × IsMarked it.rows.items it.marks.items it.shifts
+        × IsListed it.rows.items it.listed.items };
 }
 
 /// Copies that many cells from one row to another, from and to these places.
@@ -106,6 +110,7 @@ impl Heap {
             alloc,
             rows: Vec::new(alloc),
             marks: Vec::new(alloc),
+            listed: Vec::new(alloc),
             live: 0,
             shifts: 0,
         }
@@ -124,10 +129,12 @@ impl Heap {
             return Err(HeapEnd::Full);
         }
         let row = Row::new(self.alloc, size)?;
+        let number = self.rows.len() as u32 + 1;
         self.marks.resize(self.rows.len() + 1, 0)?;
+        self.listed.push(number)?;
         self.rows.push(row)?;
         self.live += size as usize;
-        Ok(self.rows.len() as u32)
+        Ok(number)
     }
 
     /// Locks the block: no shift moves or purges it (HLock).
@@ -276,12 +283,14 @@ impl Heap {
         ensures as_many { length self.new.blocks ≡ length self.old.blocks }
     {
         self.shifts += 1;
-        purge(&mut self.rows, purges, &d.purges);
+        drop_disposed(&mut self.listed, self.rows.as_slice(), d);
+        purge(&mut self.rows, purges, &d.purges, self.listed.as_slice());
         relocate(
             &mut self.rows,
             &mut self.marks,
             moves || purges,
             &d.moves,
+            self.listed.as_slice(),
             self.shifts,
         );
     }

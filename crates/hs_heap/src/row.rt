@@ -1,7 +1,7 @@
 //! A block as the heap keeps it.
 
-ghost use Rattle.std.specs.Prelude.{◌≡◌, ◌≤◌, ◌+◌, take, drop, [], true, length, IfOk};
-ghost use Rattle.hs_heap.specs.Blocks.{new_block, with_lock, with_purge_bit, with_state, emptied, disposed, size_of, state_of, master_of, standing, bit, cells_of, reach, range_at, place_for, loaded, stored, RoleActs, Resizes, Reallocates, IsCopied, with_cells};
+ghost use Rattle.std.specs.Prelude.{◌≡◌, ◌≤◌, ◌+◌, take, drop, [], true, false, length, IfOk};
+ghost use Rattle.hs_heap.specs.Blocks.{new_block, with_lock, with_purge_bit, with_state, emptied, disposed, size_of, state_of, master_of, standing, bit, cells_of, is_disposed, StaysDisposed, reach, range_at, place_for, loaded, stored, RoleActs, Resizes, Reallocates, IsCopied, with_cells};
 ghost use Rattle.std.specs.Result.{result_map_both};
 ghost use Rattle.hs_heap.specs.Shift.{is_loose};
 ghost use Rattle.hs_heap.specs.Passes.{purged, relocated};
@@ -92,7 +92,8 @@ impl Row {
 
     /// Whether the block is there for a role, which does nothing to one that was emptied, and stops at others.
     fn standing(&self) -> Result<bool, HeapStop>
-        ensures { result ≡ standing self.now.presence }
+        ensures standing { result ≡ standing self.now.presence }
+        ensures there { IfOk result (λ _. is_disposed self.now.presence ≡ false) }
     {
         match self.presence {
             Presence::Present => Ok(true),
@@ -106,6 +107,7 @@ impl Row {
     pub(crate) fn set_lock(&mut self, on: bool) -> Result<(), HeapStop>
         ensures acts { RoleActs (with_lock on self.old) self.old self.new result }
         ensures same_epoch { self.new.epoch ≡ self.old.epoch }
+        ensures stays_disposed { StaysDisposed self.old self.new }
         ensures as_large { length self.new.cells ≡ length self.old.cells }
     {
         if self.standing()? {
@@ -118,6 +120,7 @@ impl Row {
     pub(crate) fn set_purge_bit(&mut self, on: bool) -> Result<(), HeapStop>
         ensures acts { RoleActs (with_purge_bit on self.old) self.old self.new result }
         ensures same_epoch { self.new.epoch ≡ self.old.epoch }
+        ensures stays_disposed { StaysDisposed self.old self.new }
         ensures as_large { length self.new.cells ≡ length self.old.cells }
     {
         if self.standing()? {
@@ -130,6 +133,7 @@ impl Row {
     pub(crate) fn set_state(&mut self, byte: u8) -> Result<(), HeapStop>
         ensures acts { RoleActs (with_state byte self.old) self.old self.new result }
         ensures same_epoch { self.new.epoch ≡ self.old.epoch }
+        ensures stays_disposed { StaysDisposed self.old self.new }
         ensures as_large { length self.new.cells ≡ length self.old.cells }
     {
         if self.standing()? {
@@ -143,6 +147,7 @@ impl Row {
     pub(crate) fn empty(&mut self) -> Result<(), HeapStop>
         ensures acts { RoleActs (emptied self.old) self.old self.new result }
         ensures same_epoch { self.new.epoch ≡ self.old.epoch }
+        ensures stays_disposed { StaysDisposed self.old self.new }
         ensures shrinks { length self.new.cells ≤ length self.old.cells }
     {
         if self.standing()? && !self.locked {
@@ -157,6 +162,7 @@ impl Row {
     pub(crate) fn dispose(&mut self) -> Result<(), HeapStop>
         ensures acts { RoleActs (disposed self.old) self.old self.new result }
         ensures same_epoch { self.new.epoch ≡ self.old.epoch }
+        ensures stays_disposed { StaysDisposed self.old self.new }
         ensures shrinks { length self.new.cells ≤ length self.old.cells }
     {
         self.standing()?;
@@ -217,6 +223,13 @@ impl Row {
         Ok(self.cells.as_slice())
     }
 
+    /// Whether the block was disposed.
+    pub(crate) fn is_disposed(&self) -> bool
+        ensures { result ≡ is_disposed self.now.presence }
+    {
+        matches!(self.presence, Presence::Disposed)
+    }
+
     /// How many cells a pointer can reach.
     fn reach(&self) -> usize
         ensures reach { result ≡ reach self.now.presence self.now.cells }
@@ -233,7 +246,7 @@ impl Row {
         ensures place { result ≡ place_for p.now count self.now }
         ensures inside { IfOk result (λ at. at + count ≤ length self.now.cells) }
     {
-        if matches!(self.presence, Presence::Disposed) {
+        if self.is_disposed() {
             return Err(HeapStop::Disposed);
         }
         if u64::from(p.life) != self.life {
@@ -258,6 +271,7 @@ impl Row {
     pub(crate) fn store(&mut self, p: &Spot, cells: &[Cell]) -> Result<(), HeapStop>
         ensures acts { RoleActs (stored p.now cells.now self.old) self.old self.new result }
         ensures same_epoch { self.new.epoch ≡ self.old.epoch }
+        ensures stays_disposed { StaysDisposed self.old self.new }
         ensures as_large { length self.new.cells ≡ length self.old.cells }
     {
         let at = self.place_for(p, cells.len())?;
@@ -270,6 +284,7 @@ impl Row {
         requires has_room { length self.old.cells ≤ room × room ≤ 16777216 }
         ensures reshapes { Resizes size room self.old self.new result }
         ensures same_epoch { self.new.epoch ≡ self.old.epoch }
+        ensures stays_disposed { StaysDisposed self.old self.new }
         ensures within { length self.new.cells ≤ room }
     {
         if !self.standing()? {
@@ -292,6 +307,7 @@ impl Row {
         requires has_room { length self.old.cells ≤ room × room ≤ 16777216 }
         ensures reshapes { Reallocates size room self.old self.new result }
         ensures same_epoch { self.new.epoch ≡ self.old.epoch }
+        ensures stays_disposed { StaysDisposed self.old self.new }
         ensures within { length self.new.cells ≤ room }
     {
         self.standing()?;

@@ -255,6 +255,44 @@ fn a_moved_block_has_a_new_epoch(rt: HostRuntime) -> Result<(), Fail> {
     Ok(())
 }
 
+/// Where three blocks are after all blocks were moved twice: one that was there from the start, one that was emptied before the first shift and got
+/// cells again after it, and one that was made after it. A fourth block was disposed before the first shift.
+fn shifted_twice(alloc: Global) -> Result<[Option<Spot>; 3], HeapEnd> {
+    let mut heap = Heap::new(alloc);
+    let a = heap.new_block(1)?;
+    let b = heap.new_block(1)?;
+    let gone = heap.new_block(1)?;
+    heap.empty(b)?;
+    heap.dispose(gone)?;
+    heap.shift(true, true, &all());
+    heap.realloc(b, 1)?;
+    let c = heap.new_block(1)?;
+    heap.shift(true, true, &all());
+    Ok([heap.master(a)?, heap.master(b)?, heap.master(c)?])
+}
+
+// Own: a shift of all blocks moves each that is not disposed, also one that had no cells at the shift before.
+#[test]
+fn each_block_that_is_left_moves(rt: HostRuntime) -> Result<(), Fail> {
+    let first = Spot { epoch: 2, ..FRONT };
+    let second = Spot {
+        block: 2,
+        life: 2,
+        epoch: 1,
+        ..FRONT
+    };
+    let last = Spot {
+        block: 4,
+        epoch: 1,
+        ..FRONT
+    };
+    assert_eq!(rt;
+        shifted_twice(rt.alloc()).ok(),
+        Some([Some(first), Some(second), Some(last)])
+    );
+    Ok(())
+}
+
 /// Why a block that was purged has no size, and cannot be locked; and why there is no room for a block that would fit if its bytes did not count.
 fn purged(alloc: Global) -> Result<(Option<HeapStop>, Option<HeapStop>, Option<HeapEnd>), HeapEnd> {
     let mut heap = Heap::new(alloc);

@@ -43,6 +43,7 @@ impl<T: Drop> Layers<T> {
     }
 
     /// Lends the list on top.
+    #[inline(always)]
     pub fn items(&self) -> &[T]
         ensures { result.now ≡ self.now.top }
     {
@@ -54,6 +55,7 @@ impl<T: Drop> Layers<T> {
     /// # Errors
     ///
     /// `NoMemory` if memory runs out. Nothing is changed then.
+    #[inline(always)]
     pub fn push(&mut self, item: T) -> Result<(), NoMemory>
         ensures top { OnOk result (self.new.top ≡ self.old.top ++ item ∷ []) }
         ensures kept { OnErr result (self.new.top ≡ self.old.top) }
@@ -64,6 +66,7 @@ impl<T: Drop> Layers<T> {
     }
 
     /// Takes the last item of the list on top, if it has one.
+    #[inline(always)]
     pub fn pop(&mut self) -> Option<T>
         ensures top { self.old.top ≡ self.new.top ++ option_to_list result }
         ensures none { IfNone result (self.old.top ≡ []) }
@@ -87,6 +90,7 @@ impl<T: Drop> Layers<T> {
     }
 
     /// Puts another item at that place of the list on top.
+    #[inline(always)]
     pub fn set(&mut self, place: usize, item: T)
         requires there { place < length self.old.top }
         ensures top { self.new.top ≡ slice_set self.old.top place item }

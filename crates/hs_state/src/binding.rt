@@ -43,6 +43,7 @@ impl Binding {
     }
 
     /// A slot with that value.
+    #[inline(always)]
     pub fn slot(value: Value) -> Binding
         ensures { result ≡ slot (Some value) }
     {
@@ -61,6 +62,7 @@ impl Binding {
     }
 
     /// The value of a slot that has one.
+    #[inline(always)]
     pub fn value(&self) -> Option<&Value>
         ensures { option_copied result ≡ value_of_slot (Some self.now) }
     {

@@ -42,6 +42,7 @@ impl Machine<'_> {
     }
 
     /// Gives a slot a value.
+    #[inline(always)]
     pub fn set(&mut self, name: Variable, value: Value)
         ensures sets { machine_of self.new ≡ with_value name value (machine_of self.old) }
         ensures keeps { Keeps self.old self.new }

@@ -44,6 +44,7 @@ fn constant_bits(operator: Binary, unsigned: bool, a: u32, b: u32) -> u32
 /// # Errors
 ///
 /// `Divide` for a division by 0.
+#[inline(always)]
 pub fn arithmetic(operator: Arithmetic, kind: Integer, a: u32, b: u32) -> Result<u32, Stop>
     ensures { result ≡ or_stop (stops_if (divides operator && (b == 0)) stop.Divide) (arithmetic_of operator kind a b) }
 {
@@ -63,6 +64,7 @@ pub fn arithmetic(operator: Arithmetic, kind: Integer, a: u32, b: u32) -> Result
 }
 
 /// Whether the first number is the lesser one (3.3.8).
+#[inline(always)]
 fn is_less(unsigned: bool, a: u32, b: u32) -> bool
     ensures { result ≡ is_less unsigned a b }
 {
@@ -74,6 +76,7 @@ fn is_less(unsigned: bool, a: u32, b: u32) -> bool
 }
 
 /// What a comparison of two numbers of that type answers (3.3.8 and 3.3.9).
+#[inline(always)]
 pub fn compared(operator: Comparison, kind: Integer, a: u32, b: u32) -> bool
     ensures { result ≡ answer_of operator kind a b }
 {

@@ -74,6 +74,7 @@ impl Model for Value {
 
 impl Value {
     /// A number, by its 32 bits.
+    #[inline(always)]
     pub fn number(bits: u32) -> Value
         ensures { result ≡ number bits }
     {
@@ -151,6 +152,7 @@ impl Value {
     /// # Errors
     ///
     /// `BadByte` for a state byte, and `BadPointer` for what no typed program uses so.
+    #[inline(always)]
     pub fn bits(&self) -> Result<u32, Stop>
         ensures { result ≡ or_stop (number_stop self.now) (bits_in self.now) }
     {

@@ -1,6 +1,6 @@
 use Rattle.std.proofs.Common.{length, ap, ◌∙◌}
 use Rattle.hs_heap.proofs.Counting.{within}
-use Rattle.hs_heap.proofs.Moving.{stops, moves, as_many_blocks, kept_moved, marked_moved}
+use Rattle.hs_heap.proofs.Moving.{stops, moves, as_many_blocks, kept_moved, marked_moved, listed_moved}
 use Rattle.hs_heap.proofs.heap.Heap.block_move.Goals as goal
 
 -- the bytes that the block takes stay
@@ -10,6 +10,8 @@ invariant_of-self c = (
       c.index.ensures c.index-2.ensures c.in-Ok.ensures.from_inside c.in-Ok.ensures.to_inside c.copy.ensures,
   marked_moved _ _ _ _ _ _ _ _ _ _ _ _ c.self.invariant.0 (within _ _ _ _ c.self.view_is c.requires.from) (within _ _ _ _ c.self.view_is c.requires.to)
       c.index.ensures c.index-2.ensures c.in-Ok.ensures.from_inside c.in-Ok.ensures.to_inside c.copy.ensures _ _ c.self.invariant.1,
+  listed_moved _ _ _ _ _ _ _ _ _ _ _ _ c.self.invariant.0 (within _ _ _ _ c.self.view_is c.requires.from) (within _ _ _ _ c.self.view_is c.requires.to)
+      c.index.ensures c.index-2.ensures c.in-Ok.ensures.from_inside c.in-Ok.ensures.to_inside c.copy.ensures _ c.self.invariant.2,
 )
 
 -- the second block has the cells

@@ -2,6 +2,7 @@ use Rattle.std.proofs.Common.{arith}
 use Rattle.hs_heap.proofs.Acting.{acts}
 use Rattle.hs_heap.proofs.Counting.{within, kept_less, part_of_live}
 use Rattle.hs_heap.specs.Blocks.{disposed}
+use Rattle.hs_heap.proofs.Listing.{listed_set}
 use Rattle.hs_heap.proofs.Marking.{marked_set}
 use Rattle.hs_heap.proofs.heap.Heap.dispose.Goals as goal
 
@@ -22,6 +23,7 @@ invariant_of-self c = (
       (kept_less _ _ _ _ _ c.self.invariant.0 (within _ _ _ _ c.self.view_is c.requires.made) c.index_mut-row.ensures.value c.dispose-done.new.self
       c.dispose-done.ensures.shrinks),
   marked_set _ _ _ _ _ _ _ c.self.invariant.1 c.index_mut-row.ensures.value c.dispose-done.ensures.same_epoch,
+  listed_set _ _ _ _ _ _ c.self.invariant.2 c.index_mut-row.ensures.value c.dispose-done.ensures.stays_disposed,
 )
 
 -- the row acts as the role says

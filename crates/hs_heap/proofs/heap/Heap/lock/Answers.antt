@@ -8,8 +8,8 @@ use Rattle.hs_heap.proofs.heap.Heap.lock.Goals as goal
 -- what the heap keeps
 pub invariant_of-self : goal.invariant_of-self
 invariant_of-self c =
-    stays _ _ _ _ _ _ _ _ c.self.invariant (within _ _ _ _ c.self.view_is c.requires.made) c.index_mut.ensures.value c.set_lock.ensures.as_large
-    c.set_lock.ensures.same_epoch
+    stays _ _ _ _ _ _ _ _ _ c.self.invariant (within _ _ _ _ c.self.view_is c.requires.made) c.index_mut.ensures.value c.set_lock.ensures.as_large
+    c.set_lock.ensures.same_epoch c.set_lock.ensures.stays_disposed
 
 -- the row acts as the role says
 pub returns-clause-acts : goal.returns-clause-acts

@@ -2,6 +2,7 @@ use Rattle.std.proofs.Common.{arith}
 use Rattle.hs_heap.proofs.Counting.{within, part_of_live}
 use Rattle.hs_heap.proofs.Reshaping.{room_there, kept_within, reshapes}
 use Rattle.hs_heap.specs.Blocks.{has_life, reallocated}
+use Rattle.hs_heap.proofs.Listing.{listed_set}
 use Rattle.hs_heap.proofs.Marking.{marked_set}
 use Rattle.hs_heap.proofs.heap.Heap.realloc.Goals as goal
 
@@ -26,6 +27,7 @@ invariant_of-self c = (
       (kept_within _ _ _ _ _ c.self.invariant.0 (within _ _ _ _ c.self.view_is c.requires.made) c.index_mut-row.ensures.value c.reallocate-done.new.self
       (rw (← c.bytes.ensures) c.reallocate-done.ensures.within)),
   marked_set _ _ _ _ _ _ _ c.self.invariant.1 c.index_mut-row.ensures.value c.reallocate-done.ensures.same_epoch,
+  listed_set _ _ _ _ _ _ c.self.invariant.2 c.index_mut-row.ensures.value c.reallocate-done.ensures.stays_disposed,
 )
 
 -- the row acts as the role says

@@ -7,8 +7,8 @@ use Rattle.hs_heap.proofs.heap.Heap.set_state.Goals as goal
 -- what the heap keeps
 pub invariant_of-self : goal.invariant_of-self
 invariant_of-self c =
-    stays _ _ _ _ _ _ _ _ c.self.invariant (within _ _ _ _ c.self.view_is c.requires.made) c.index_mut.ensures.value c.set_state.ensures.as_large
-    c.set_state.ensures.same_epoch
+    stays _ _ _ _ _ _ _ _ _ c.self.invariant (within _ _ _ _ c.self.view_is c.requires.made) c.index_mut.ensures.value c.set_state.ensures.as_large
+    c.set_state.ensures.same_epoch c.set_state.ensures.stays_disposed
 
 -- the row acts as the role says
 pub returns-clause-acts : goal.returns-clause-acts

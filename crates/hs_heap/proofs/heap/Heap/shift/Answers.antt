@@ -1,12 +1,25 @@
 use Rattle.std.proofs.Common.{◌≡◌, ◌≤◌, ◌<◌, ◌+◌, ◌||◌, length, sym, ap, subst, ◌∙◌}
+use Rattle.hs_heap.proofs.Listing.{listed_left, listed_each, listed_purged, relocated_leaves}
 use Rattle.hs_heap.proofs.Passing.{length_numbered}
 use Rattle.hs_heap.proofs.Shifting.{shift_is, kept_shift, marked_shift, EpochsRise-shift, length_shift}
 use Rattle.hs_heap.specs.Memory.{Memory, IsKept, IsMarked}
-use Rattle.hs_heap.specs.Passes.{purged, if_named}
+use Rattle.hs_heap.specs.Passes.{purged, relocated, if_named}
 use Rattle.hs_heap.specs.Shift.{OthersStay, LockedStay, EpochsRise, shift, after_shift}
 use Rattle.hs_heap.specs.ShiftLaws.{others_stay, locked_stay}
 use Rattle.hs_heap.proofs.heap.Heap.shift.Goals as goal
 use Rattle.hs_heap.proofs.heap.Heap.shift.Goals.{then-moves, else-moves}
+
+-- the list has each block that is not disposed, before each pass and after both
+pub purge-requires : goal.purge-requires
+purge-requires c =
+    record {
+      listed = rw c.as_slice-2.ensures.value (listed_left c.args.d.now _ _ _ c.self.invariant.2 (rw c.as_slice.ensures.value at c.drop_disposed.ensures));
+    }
+
+pub relocate-requires-clause-listed : goal.relocate-requires-clause-listed
+relocate-requires-clause-listed c =
+    rw c.as_slice-3.ensures.value
+    (listed_purged _ c.args.d.now _ _ _ _ c.self.invariant.2 (rw c.as_slice.ensures.value at c.drop_disposed.ensures) c.purge.ensures)
 
 pub relocate-requires-clause-long : goal.relocate-requires-clause-long
 relocate-requires-clause-long c =
@@ -31,6 +44,9 @@ invariant_of-self c = (
   subst (λ its. IsMarked its c.relocate.new.marks.items (c.self.inside.shifts + 1)) (sym (rows_are c))
       (marked_shift _ c.args.d.now c.self.inside.rows.items c.self.inside.marks.items _ _ c.self.invariant.1
       (subst (λ its. length its ≤ length c.relocate.new.marks.items) (rows_are c) c.relocate.ensures.long) c.relocate.ensures.marks),
+  listed_each _ _ relocated _ _ _ relocated_leaves
+      (listed_purged _ c.args.d.now _ _ _ _ c.self.invariant.2 (rw c.as_slice.ensures.value at c.drop_disposed.ensures) c.purge.ensures)
+      c.relocate.ensures.rows,
 )
 
 pub returns-clause-shifts : goal.returns-clause-shifts

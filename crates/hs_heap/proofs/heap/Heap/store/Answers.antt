@@ -7,8 +7,8 @@ use Rattle.hs_heap.proofs.heap.Heap.store.Goals as goal
 -- what the heap keeps
 pub invariant_of-self : goal.invariant_of-self
 invariant_of-self c =
-    stays _ _ _ _ _ _ _ _ c.self.invariant (within _ _ _ _ c.self.view_is c.requires.made) c.index_mut.ensures.value c.store.ensures.as_large
-    c.store.ensures.same_epoch
+    stays _ _ _ _ _ _ _ _ _ c.self.invariant (within _ _ _ _ c.self.view_is c.requires.made) c.index_mut.ensures.value c.store.ensures.as_large
+    c.store.ensures.same_epoch c.store.ensures.stays_disposed
 
 -- the row acts as the role says
 pub returns-clause-acts : goal.returns-clause-acts
