@@ -3,6 +3,7 @@ pub mod Calling
 pub mod Deciding
 pub mod Entering
 pub mod Going
+pub mod Hurrying
 pub mod Looking
 pub mod Moving
 pub mod Naming

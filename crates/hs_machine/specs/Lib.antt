@@ -1,4 +1,5 @@
 pub mod Advancing
+pub mod Hurrying
 pub mod Programs
 pub mod Reaching
 pub mod Recording

@@ -5,6 +5,7 @@
 mod calls;
 mod control;
 mod execution;
+mod hurry;
 mod loaded;
 mod recorder;
 mod runner;

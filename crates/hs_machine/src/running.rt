@@ -7,6 +7,7 @@ ghost use Rattle.hs_machine.specs.Recording.{IsTold, NamesBlocks};
 ghost use Rattle.hs_machine.specs.Running.{Runs};
 ghost use Rattle.hs_machine.specs.Standing.{Waits};
 
+use crate::hurry::hurry;
 use crate::loaded::Loaded;
 use crate::recorder::Recorder;
 use crate::runner::{End, Next, Runner};
@@ -19,7 +20,7 @@ use hs_meaning::{Outcome, Stop};
 use hs_movers::Mover;
 
 /// The operation at which a call goes on, if it is there.
-fn operation<'c>(next: Next<'c>) -> Option<&'c Placed>
+pub(crate) fn operation<'c>(next: Next<'c>) -> Option<&'c Placed>
     ensures there { option_copied result ≡ slice_get next.entry.code.now.ops next.entry.at }
     ensures small { IsSome result → next.entry.at < 4294967296 }
 {
@@ -97,6 +98,7 @@ pub(crate) fn run<'c>(
 {
     // Code need not end. No machine comes to the last turn of this loop.
     'operations: for _ in 0..u64::MAX {
+        hurry(runner);
         let came = match advance(loaded, runner, recorder, mover) {
             Ok(came) => came,
             Err(why) => return Err(why),

@@ -1,4 +1,5 @@
 mod Bringing
+mod Giving
 mod Operating
 mod Tops
 mod Working

@@ -7,7 +7,6 @@ ghost use Rattle.hs_operations.specs.Works.{Works, worked, works};
 ghost use Rattle.hs_state.specs.Machines.{Keeps, machine_of};
 ghost use Rattle.hs_state.specs.Settings.{setting_here};
 
-use crate::numbers::{binary, get, set};
 use crate::places::{address, routine};
 use crate::stacks::apply;
 use crate::values::{bring, double, drop_top, push, tuck};
@@ -60,10 +59,10 @@ pub fn work(
         Op::Num(bits) => push(stack, Value::number(bits)),
         Op::Nil => push(stack, Value::pointer(Pointer::Nil)),
         Op::Address(its) => push_address(setting, literals, machine, stack, its),
-        Op::Get(name) => get(setting, machine, stack, name),
-        Op::Set(name) => set(setting, machine, stack, name),
-        Op::Binary(its, kind) => binary(setting, machine, stack, its, kind),
-        Op::Load(_)
+        Op::Get(_)
+        | Op::Set(_)
+        | Op::Binary(_, _)
+        | Op::Load(_)
         | Op::Store(_)
         | Op::Conv(_)
         | Op::Unary(_)

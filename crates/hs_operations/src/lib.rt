@@ -13,3 +13,4 @@ mod values;
 
 pub use dispatch::work;
 pub use laws::operations_are_steps;
+pub use numbers::{attempt, between, number_of, push_number, take_number, with_number};

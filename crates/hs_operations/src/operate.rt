@@ -6,7 +6,7 @@ ghost use Rattle.hs_meaning.specs.Operations as operation;
 ghost use Rattle.hs_meaning.specs.Accesses.{stored};
 ghost use Rattle.hs_meaning.specs.Operations.{operate as operated};
 ghost use Rattle.hs_meaning.specs.Settings.{Setting as Meant};
-ghost use Rattle.hs_operations.specs.Operating.{Answers, DoesAs, Takes};
+ghost use Rattle.hs_operations.specs.Operating.{Answers, DoesAs, Gives, Takes};
 ghost use Rattle.hs_state.specs.Machines.{Does, Keeps, machine_of};
 ghost use Rattle.hs_state.specs.Settings.{setting_here};
 
@@ -79,7 +79,8 @@ fn set(machine: &mut Machine, name: Variable, values: &[Value]) -> Result<Value,
 }
 
 /// Loads what a pointer reaches.
-fn load(machine: &Machine, access: Access, values: &[Value]) -> Result<Value, Halt>
+#[inline(always)]
+pub(crate) fn load(machine: &Machine, access: Access, values: &[Value]) -> Result<Value, Halt>
     requires one { length values.now ≡ 1 }
     ensures { (setting : Meant) → Does (operated setting (operation.load (access_of access)) values.now (machine_of machine.now)) (machine_of machine.now) result }
 {
@@ -118,6 +119,44 @@ fn put(machine: &mut Machine, access: Access, its: Pointer, value: &Value) -> Re
     }
 }
 
+/// What an operation leaves on the stack that changes nothing else. The lowest value is the first.
+pub(crate) fn give(machine: &Machine, op: Op, values: &[Value]) -> Result<Value, Halt>
+    requires takes { Takes (operation_of op) (length values.now) }
+    ensures { (setting : Meant) → Gives (operation_of op) setting values.now (machine_of machine.now) result }
+{
+    match op {
+        Op::Load(access) => load(machine, access, values),
+        Op::Get(_)
+        | Op::Conv(_)
+        | Op::Unary(_)
+        | Op::Binary(_, _)
+        | Op::IsNil
+        | Op::Compare(_)
+        | Op::Difference(_)
+        | Op::Offset(_)
+        | Op::Step { .. } => answer(machine, op, values),
+        Op::Num(_)
+        | Op::Nil
+        | Op::Address(_)
+        | Op::Set(_)
+        | Op::Store(_)
+        | Op::Drop
+        | Op::Dup
+        | Op::Tuck
+        | Op::Jump(_)
+        | Op::Zero(_)
+        | Op::Choose(_)
+        | Op::Shift(_)
+        | Op::Routine(_)
+        | Op::Call(_)
+        | Op::Return
+        | Op::Turn
+        | Op::Mark
+        | Op::Pick(_)
+        | Op::Bring(_) => Err(Halt::NoMemory),
+    }
+}
+
 /// Does an operation on its values, the lowest first, and gives what it leaves on the stack.
 pub(crate) fn operate(
     setting: &Setting,
@@ -131,9 +170,9 @@ pub(crate) fn operate(
 {
     match op {
         Op::Set(name) => set(machine, name, values),
-        Op::Load(access) => load(machine, access, values),
         Op::Store(access) => store(machine, access, values),
-        Op::Get(_)
+        Op::Load(_)
+        | Op::Get(_)
         | Op::Conv(_)
         | Op::Unary(_)
         | Op::Binary(_, _)
@@ -141,7 +180,7 @@ pub(crate) fn operate(
         | Op::Compare(_)
         | Op::Difference(_)
         | Op::Offset(_)
-        | Op::Step { .. } => answer(machine, op, values),
+        | Op::Step { .. } => give(machine, op, values),
         Op::Num(_)
         | Op::Nil
         | Op::Address(_)

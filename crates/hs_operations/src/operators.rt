@@ -158,6 +158,7 @@ pub(crate) fn offset(bytes: u32, values: &[Value]) -> Result<Value, Stop>
 }
 
 /// The pointer after a step by a number.
+#[inline(always)]
 fn stepped(stride: Stride, its: &Value, by: &Value) -> Result<Value, Stop>
     ensures { result ≡ or_first (operation.step_stops stride its.now by.now) (operation.stepped stride its.now by.now) }
 {
@@ -167,6 +168,7 @@ fn stepped(stride: Stride, its: &Value, by: &Value) -> Result<Value, Stop>
 }
 
 /// A step of a pointer by a number, which is on top if the pointer comes first.
+#[inline(always)]
 pub(crate) fn step(stride: Stride, pointer_first: bool, values: &[Value]) -> Result<Value, Stop>
     requires two { length values.now ≡ 2 }
     ensures { (m : Meant) → result ≡ or_first (operation_stops (operation.step stride pointer_first) values.now m) (operation_value (operation.step stride pointer_first) values.now m) }

@@ -1,18 +1,24 @@
 //! Operations on the stack of their call.
 
-ghost use Rattle.std.specs.Prelude.{◌≡◌, ◌++◌, ◌∷◌, [], take, Err, OnOk, OnErr};
+ghost use Rattle.std.specs.Prelude.{◌≡◌, ◌≤◌, ◌++◌, ◌∷◌, [], length, take, Err, OnOk, OnErr};
+ghost use Rattle.hs_code.specs.declared.op.Op.TheVariants as op;
 ghost use Rattle.hs_code_run.specs.Steps.{operation_of};
+ghost use Rattle.hs_meaning.specs.Machine.{Machine as Meant};
 ghost use Rattle.hs_operations.specs.Operating.{Takes};
-ghost use Rattle.hs_operations.specs.Works.{WorksAs};
+ghost use Rattle.hs_meaning.specs.Settings.{Setting as Given};
+ghost use Rattle.hs_operations.specs.Numbers.{PutsAt};
+ghost use Rattle.hs_operations.specs.Works.{TriesAs, WorksAs};
 ghost use Rattle.hs_state.specs.Machines.{Keeps, machine_of};
 ghost use Rattle.hs_state.specs.Settings.{setting_here};
 ghost use Rattle.hs_values.specs.declared.halt.Halt.TheVariants.{NoMemory as no_memory};
 
-use crate::operate::operate;
-use hs_code::Op;
+use crate::operate::{give, load, operate};
+use crate::operators::step;
+use hs_code::{Access, Op};
 use hs_layers::Layers;
 use hs_meaning::Stop;
 use hs_state::{Machine, Setting};
+use hs_tree::Stride;
 use hs_values::{Halt, Value};
 
 /// How many values an operation takes that leaves one.
@@ -82,5 +88,79 @@ pub(crate) fn apply(
     match operate(setting, machine, op, high) {
         Ok(value) => replace(stack, low, value),
         Err(why) => Err(why),
+    }
+}
+
+/// Puts a value in the place of those from that place on. It does not if it is one more and memory runs out.
+#[inline(always)]
+fn put_at(stack: &mut Layers<Value>, low: usize, value: Value) -> bool
+    requires within { low ≤ length stack.old.top }
+    ensures puts { PutsAt low value stack.old.top stack.new.top result }
+    ensures below { stack.new.below ≡ stack.old.below }
+{
+    if low == stack.items().len() {
+        return match stack.push(value) {
+            Ok(()) => true,
+            Err(_) => false,
+        };
+    }
+    stack.set(low, value);
+    stack.truncate(low + 1);
+    true
+}
+
+/// Loads what the pointer on top reaches, if the load does not stop.
+#[inline(never)]
+pub(crate) fn load_top(machine: &Machine, stack: &mut Layers<Value>, access: Access) -> bool
+    ensures tries { (setting : Given) → TriesAs (operation_of (op.Load access)) setting stack.old.top stack.new.top (machine_of machine.now) result }
+    ensures below { stack.new.below ≡ stack.old.below }
+{
+    let values = stack.items();
+    if values.len() < 1 {
+        return false;
+    }
+    let low = values.len() - 1;
+    let (_, high) = values.split_at(low);
+    match load(machine, access, high) {
+        Ok(value) => put_at(stack, low, value),
+        Err(_) => false,
+    }
+}
+
+/// Moves a pointer by a number, if that does not stop. Both are on top.
+#[inline(never)]
+pub(crate) fn step_top(stack: &mut Layers<Value>, stride: Stride, pointer_first: bool) -> bool
+    ensures tries { (setting : Given) (machine : Meant) → TriesAs (operation_of (op.Step stride pointer_first)) setting stack.old.top stack.new.top machine result }
+    ensures below { stack.new.below ≡ stack.old.below }
+{
+    let values = stack.items();
+    if values.len() < 2 {
+        return false;
+    }
+    let low = values.len() - 2;
+    let (_, high) = values.split_at(low);
+    match step(stride, pointer_first, high) {
+        Ok(value) => put_at(stack, low, value),
+        Err(_) => false,
+    }
+}
+
+/// Does an operation that takes values from the top and leaves one, and changes nothing else, if it does not stop. Whether it was done; if not,
+/// nothing is changed. Nothing is said of any other operation.
+#[inline(never)]
+pub(crate) fn apply_giving(machine: &Machine, stack: &mut Layers<Value>, op: Op) -> bool
+    ensures tries { (setting : Given) → TriesAs (operation_of op) setting stack.old.top stack.new.top (machine_of machine.now) result }
+    ensures below { stack.new.below ≡ stack.old.below }
+{
+    let values = stack.items();
+    let count = takes(op);
+    if values.len() < count {
+        return false;
+    }
+    let low = values.len() - count;
+    let (_, high) = values.split_at(low);
+    match give(machine, op, high) {
+        Ok(value) => put_at(stack, low, value),
+        Err(_) => false,
     }
 }

@@ -1,7 +1,7 @@
 -- The run goes on, or ends, from where the runner is.
 use Rattle.std.proofs.Common.{rules, length, List, Option, Ok, sym, ap, ◌∙◌, subst}
 use Rattle.hs_heap.specs.declared.decision.Decision.{Decision}
-use Rattle.hs_machine.proofs.Going.{gives_up, runs_over, there_first, there_next}
+use Rattle.hs_machine.proofs.Going.{gives_up, runs_over, there_first, there_next, there_on}
 use Rattle.hs_machine.proofs.Naming.{names_more, names_none}
 use Rattle.hs_machine.proofs.Telling.{TellsSo, tells_all, tells_more, tells_script}
 use Rattle.hs_machine.proofs.running.run.Goals as goal
@@ -35,9 +35,10 @@ returns-in-Err-clause-runs g c =
     let later = (goal.Mover-dyn g (c.advance.new.mover.vtable, c.advance.new.mover.value)).told c.advance.new.mover.value in
     let script = c.operations.recorder.decisions.items in
     let after = c.advance.new.recorder.decisions.items in
-    let old = c.operations.runner in
+    let old = c.hurry.new.runner in
     let new = c.advance.new.runner in
-    let there = c.operations.invariant.there in
+    let there = there_on program c.args.runner.now script c.operations.runner c.hurry.new.runner c.operations.invariant.there
+    (c.hurry.ensures.runs_on program) in
     gives_up program first told now later script after old new there c.operations.invariant.tells c.in-Err.why
     (c.in-Err.ensures.advances there.later there.waits)
 
@@ -50,9 +51,10 @@ returns-in-Some-clause-told g c =
     let later = (goal.Mover-dyn g (c.advance.new.mover.vtable, c.advance.new.mover.value)).told c.advance.new.mover.value in
     let script = c.operations.recorder.decisions.items in
     let after = c.advance.new.recorder.decisions.items in
-    let old = c.operations.runner in
+    let old = c.hurry.new.runner in
     let new = c.advance.new.runner in
-    let there = c.operations.invariant.there in
+    let there = there_on program c.args.runner.now script c.operations.runner c.hurry.new.runner c.operations.invariant.there
+    (c.hurry.ensures.runs_on program) in
     let ended = subst (λ (o : Option Outcome). AdvancesTo program old new script after now later there.later (Ok o)) c.in-Some.is
     (c.in-Ok.ensures.advances there.later there.waits) in
     subst (λ (l : List Decision). IsTold told l) (sym ended.1) (tells_script told now script c.operations.invariant.tells)
@@ -66,9 +68,10 @@ returns-in-Some-clause-runs g c =
     let later = (goal.Mover-dyn g (c.advance.new.mover.vtable, c.advance.new.mover.value)).told c.advance.new.mover.value in
     let script = c.operations.recorder.decisions.items in
     let after = c.advance.new.recorder.decisions.items in
-    let old = c.operations.runner in
+    let old = c.hurry.new.runner in
     let new = c.advance.new.runner in
-    let there = c.operations.invariant.there in
+    let there = there_on program c.args.runner.now script c.operations.runner c.hurry.new.runner c.operations.invariant.there
+    (c.hurry.ensures.runs_on program) in
     let ended = subst (λ (o : Option Outcome). AdvancesTo program old new script after now later there.later (Ok o)) c.in-Some.is
     (c.in-Ok.ensures.advances there.later there.waits) in
     subst (λ (l : List Decision). RunsTo program (reaches_from program first) (comes_from program first) l c.in-Some.outcome (machine_of new.machine) new.turns)
@@ -81,9 +84,10 @@ returns-in-Some-clause-names_blocks g c =
     let later = (goal.Mover-dyn g (c.advance.new.mover.vtable, c.advance.new.mover.value)).told c.advance.new.mover.value in
     let script = c.operations.recorder.decisions.items in
     let after = c.advance.new.recorder.decisions.items in
-    let there = c.operations.invariant.there in
+    let there = there_on program c.args.runner.now script c.operations.runner c.hurry.new.runner c.operations.invariant.there
+    (c.hurry.ensures.runs_on program) in
     let ended =
-    subst (λ (o : Option Outcome). AdvancesTo program c.operations.runner c.advance.new.runner script after now later there.later (Ok o)) c.in-Some.is
+    subst (λ (o : Option Outcome). AdvancesTo program c.hurry.new.runner c.advance.new.runner script after now later there.later (Ok o)) c.in-Some.is
     (c.in-Ok.ensures.advances there.later there.waits) in
     subst (λ (l : List Decision). NamesBlocks l) (sym ended.1) c.operations.invariant.names_blocks
 
@@ -96,9 +100,10 @@ operations-preserved g c =
     let later = (goal.Mover-dyn g (c.advance.new.mover.vtable, c.advance.new.mover.value)).told c.advance.new.mover.value in
     let script = c.operations.recorder.decisions.items in
     let after = c.advance.new.recorder.decisions.items in
-    let old = c.operations.runner in
+    let old = c.hurry.new.runner in
     let new = c.advance.new.runner in
-    let there = c.operations.invariant.there in
+    let there = there_on program c.args.runner.now script c.operations.runner c.hurry.new.runner c.operations.invariant.there
+    (c.hurry.ensures.runs_on program) in
     let onward = subst (λ (o : Option Outcome). AdvancesTo program old new script after now later there.later (Ok o)) c.in_default.is
     (c.in-Ok.ensures.advances there.later there.waits) in
     record {
