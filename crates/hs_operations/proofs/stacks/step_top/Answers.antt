@@ -1,9 +1,8 @@
 -- The pointer is put in the place of both.
-use Rattle.std.proofs.Common.{◌≡◌, ◌++◌, ◌-◌, length, take, refl, arith}
+use Rattle.std.proofs.Common.{◌≡◌, ◌++◌, ◌-◌, length, take, arith}
 use Rattle.std.proofs.lemmas.List.{take-append-drop}
 use Rattle.hs_code.specs.declared.op.Op.TheVariants as op
 use Rattle.hs_code_run.specs.Steps.{operation_of}
-use Rattle.std.proofs.Common.{Ok}
 use Rattle.hs_operations.proofs.Operating.{step_gives}
 use Rattle.hs_operations.proofs.Working.{tries_given}
 use Rattle.hs_operations.proofs.stacks.step_top.Goals as goal
