@@ -51,3 +51,11 @@ pub copies : (role : Block → Result (List Cell) HeapStop) (blocks : List Block
 copies role blocks number shifts heap old other block before after result view is copied there =
     let at = at_place blocks number block (ap (λ it. block_at it.blocks number) view ∙ there)
     in subst (λ it. IsCopied (role it) before after result) (is ∙ get_or_from_slice_get blocks (number - 1) block other at) copied
+
+-- what is answered of the block there
+pub answers : {A : Type 0} (role : Block → Result A HeapStop) (blocks : List Block) (number shifts : ℕ) (heap : Memory) (old other block : Block)
+    (result : Result A HeapStop) → record { blocks = blocks; shifts = shifts } ≡ heap → old ≡ get_or blocks (number - 1) other
+    → result ≡ role old → block_at heap.blocks number ≡ Some block → result ≡ role block
+answers role blocks number shifts heap old other block result view is answered there =
+    answered ∙ ap role (is ∙ get_or_from_slice_get blocks (number - 1) block other
+    (at_place blocks number block (ap (λ it. block_at it.blocks number) view ∙ there)))

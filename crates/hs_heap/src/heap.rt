@@ -1,7 +1,7 @@
 //! The heap.
 
 ghost use Rattle.std.specs.Prelude.{◌≡◌, ◌≤◌, ◌<◌, ◌+◌, IfOk, [], true, false, length};
-ghost use Rattle.hs_heap.specs.Blocks.{both_places, with_lock, with_purge_bit, with_state, emptied, disposed, size_of, state_of, master_of, stored, always, resized, has_life, reallocated};
+ghost use Rattle.hs_heap.specs.Blocks.{both_places, with_lock, with_purge_bit, with_state, emptied, disposed, size_of, state_of, master_of, loaded, stored, always, resized, has_life, reallocated};
 ghost use Rattle.std.specs.Result.{result_map_both};
 ghost use Rattle.hs_heap.specs.Memory.{Acts, Answers, Reshapes, Loads, Lends, Moves, HasCells, IsCopiedBetween, MakesBlock, IsMade};
 ghost use Rattle.hs_heap.specs.Shift.{after_shift, OthersStay, LockedStay, EpochsRise};
@@ -265,6 +265,7 @@ impl Heap {
     }
 
     /// What the master pointer of the block's handle holds: where the block is now, or nothing if it was emptied.
+    #[inline(always)]
     pub fn master(&self, b: u32) -> Result<Option<Spot>, HeapStop>
         requires made { IsMade self.now b }
         ensures { Answers (master_of b) b self.now result }
@@ -307,7 +308,17 @@ impl Heap {
         self.rows[p.block as usize - 1].load(p, into)
     }
 
+    /// Lends that many cells, from the place that the pointer names, without copying them. The errors are those of `load`.
+    #[inline(always)]
+    pub fn lend(&self, p: &Spot, count: usize) -> Result<&[Cell], HeapStop>
+        requires made { IsMade self.now p.now.block }
+        ensures { Answers (loaded p.now count) p.now.block self.now (result_map_both (λ its. its.now) (λ why. why) result) }
+    {
+        self.rows[p.block as usize - 1].lend(p, count)
+    }
+
     /// Puts cells at the place that the pointer names. The errors are those of `load`, and the heap is then as it was.
+    #[inline(always)]
     pub fn store(&mut self, p: &Spot, cells: &[Cell]) -> Result<(), HeapStop>
         requires made { IsMade self.old p.now.block }
         ensures acts { Acts (stored p.now cells.now) p.now.block self.old self.new result }

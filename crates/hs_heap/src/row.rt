@@ -61,6 +61,7 @@ fn bit(worth: u8, is_set: bool) -> u8
 }
 
 /// Where that many cells begin from that offset on, if all of them lie among the cells of a block.
+#[inline(always)]
 fn range_at(offset: i64, count: usize, size: usize) -> Result<usize, HeapStop>
     requires fits { size ≤ 16777216 }
     ensures range { result ≡ range_at offset count size }
@@ -91,6 +92,7 @@ impl Row {
     }
 
     /// Whether the block is there for a role, which does nothing to one that was emptied, and stops at others.
+    #[inline(always)]
     fn standing(&self) -> Result<bool, HeapStop>
         ensures standing { result ≡ standing self.now.presence }
         ensures there { IfOk result (λ _. is_disposed self.now.presence ≡ false) }
@@ -199,6 +201,7 @@ impl Row {
     }
 
     /// Where the block is now, if its handle has that number; nothing of an emptied block.
+    #[inline(always)]
     pub(crate) fn master(&self, number: u32) -> Result<Option<Spot>, HeapStop>
         ensures { result ≡ master_of number self.now }
     {
@@ -224,6 +227,7 @@ impl Row {
     }
 
     /// Whether the block was disposed.
+    #[inline(always)]
     pub(crate) fn is_disposed(&self) -> bool
         ensures { result ≡ is_disposed self.now.presence }
     {
@@ -231,6 +235,7 @@ impl Row {
     }
 
     /// How many cells a pointer can reach.
+    #[inline(always)]
     fn reach(&self) -> usize
         ensures reach { result ≡ reach self.now.presence self.now.cells }
         ensures among { result ≤ length self.now.cells }
@@ -242,6 +247,7 @@ impl Row {
     }
 
     /// Where that many cells begin that a pointer reaches.
+    #[inline(always)]
     pub(crate) fn place_for(&self, p: &Spot, count: usize) -> Result<usize, HeapStop>
         ensures place { result ≡ place_for p.now count self.now }
         ensures inside { IfOk result (λ at. at + count ≤ length self.now.cells) }
@@ -258,6 +264,15 @@ impl Row {
         range_at(p.offset, count, self.reach())
     }
 
+    /// Lends the cells that the pointer reaches.
+    #[inline(always)]
+    pub(crate) fn lend(&self, p: &Spot, count: usize) -> Result<&[Cell], HeapStop>
+        ensures { result_map_both (λ its. its.now) (λ why. why) result ≡ loaded p.now count self.now }
+    {
+        let at = self.place_for(p, count)?;
+        Ok(&self.cells[at..at + count])
+    }
+
     /// Copies the cells that the pointer reaches.
     pub(crate) fn load(&self, p: &Spot, into: &mut [Cell]) -> Result<(), HeapStop>
         ensures { IsCopied (loaded p.now (length into.old) self.now) into.old into.new result }
@@ -268,6 +283,7 @@ impl Row {
     }
 
     /// Puts cells where the pointer reaches.
+    #[inline(always)]
     pub(crate) fn store(&mut self, p: &Spot, cells: &[Cell]) -> Result<(), HeapStop>
         ensures acts { RoleActs (stored p.now cells.now self.old) self.old self.new result }
         ensures same_epoch { self.new.epoch ≡ self.old.epoch }
@@ -371,6 +387,7 @@ impl Row {
     }
 
     /// Puts cells at that place.
+    #[inline(always)]
     pub(crate) fn put(&mut self, at: usize, cells: &[Cell])
         requires inside { at + length cells.now ≤ length self.old.cells }
         ensures { self.new ≡ with_cells at cells.now self.old }

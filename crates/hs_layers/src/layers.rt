@@ -1,11 +1,12 @@
 //! Lists on top of one another.
 
-ghost use Rattle.std.specs.Prelude.{◌≡◌, ◌<◌, ◌≤◌, [], ◌∷◌, ◌++◌, length, take, slice_get, slice_set, option_to_list, IfNone, OnOk, OnErr};
+ghost use Rattle.std.specs.Prelude.{◌≡◌, ◌<◌, ◌≤◌, [], ◌∷◌, ◌++◌, length, take, slice_get, slice_set, Some, option_to_list, IfNone, OnOk, OnErr};
 ghost use Rattle.hs_layers.specs.Layers.{Layered, Opens, Closes, brought};
 
 use hs_base::NoMemory;
 use std::alloc::Global;
 use std::marker::Model;
+use std::mem::replace;
 
 /// Lists on top of one another, of which the one on top is used. They share one `Vec`, so that a new one takes no memory of its own.
 #[derive(Drop)]
@@ -61,7 +62,11 @@ impl<T: Drop> Layers<T> {
         ensures kept { OnErr result (self.new.top ≡ self.old.top) }
         ensures below { self.new.below ≡ self.old.below }
     {
-        self.items.push(item)?;
+        // The test for room is short enough to stand where the push does.
+        if self.items.len() >= self.items.capacity() {
+            self.items.reserve(1)?;
+        }
+        self.items.push_reserved(item);
         Ok(())
     }
 
@@ -90,13 +95,23 @@ impl<T: Drop> Layers<T> {
     }
 
     /// Puts another item at that place of the list on top.
-    #[inline(always)]
     pub fn set(&mut self, place: usize, item: T)
         requires there { place < length self.old.top }
         ensures top { self.new.top ≡ slice_set self.old.top place item }
         ensures below { self.new.below ≡ self.old.below }
     {
         self.items[self.base + place] = item;
+    }
+
+    /// Puts another item at that place of the list on top, and gives the one that was there.
+    #[inline(always)]
+    pub fn replace(&mut self, place: usize, item: T) -> T
+        requires there { place < length self.old.top }
+        ensures top { self.new.top ≡ slice_set self.old.top place item }
+        ensures was { slice_get self.old.top place ≡ Some result }
+        ensures below { self.new.below ≡ self.old.below }
+    {
+        replace(&mut self.items[self.base + place], item)
     }
 
     /// Moves the item at that place of the list on top to its end. Takes no memory.
