@@ -53,6 +53,7 @@ impl Object {
     }
 
     /// Whether its life has ended.
+    #[inline(always)]
     pub fn has_ended(&self) -> bool
         ensures { result ≡ machine.has_ended self.now.storage }
     {
@@ -95,6 +96,7 @@ impl Object {
     }
 
     /// Where so many cells begin, from that byte on, if all of them are inside.
+    #[inline(always)]
     fn start(&self, at: i64, count: usize) -> Result<usize, Stop>
         ensures place { result ≡ or_first (object_stops at count (Some self.now)) (start_at at) }
         ensures inside { IfOk result (λ start. start + count ≤ length self.now.cells) }
@@ -113,6 +115,7 @@ impl Object {
     }
 
     /// Lends so many cells, from that byte on.
+    #[inline(always)]
     pub(crate) fn cells(&self, at: i64, count: usize) -> Result<&[Cell], Stop>
         ensures { result_map_both (λ its. its.now) (λ why. why) result
             ≡ or_first (object_stops at count (Some self.now)) (cells_from at count self.now.cells) }

@@ -63,6 +63,7 @@ impl Objects {
     }
 
     /// The object of that number, if it was made.
+    #[inline(always)]
     pub fn get(&self, place: u32) -> Option<&Object>
         ensures { option_copied result ≡ slice_get self.now place }
     {
@@ -126,6 +127,7 @@ impl Objects {
     /// # Errors
     ///
     /// `Gone` if its life has ended, and `Range` if the cells are not all inside it. `BadPointer` for an object that was never made.
+    #[inline(always)]
     pub fn cells(&self, place: u32, at: i64, count: usize) -> Result<&[Cell], Stop>
         ensures { result_map_both (λ its. its.now) (λ why. why) result ≡ cells_in place at count self.now }
     {

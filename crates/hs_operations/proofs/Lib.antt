@@ -1,5 +1,6 @@
 mod Bringing
 mod Giving
+mod InHand
 mod Operating
 mod Tops
 mod Working

@@ -3,6 +3,7 @@
 #![tactic(auto)]
 
 mod dispatch;
+mod in_hand;
 mod laws;
 mod numbers;
 mod operate;
@@ -12,5 +13,6 @@ mod stacks;
 mod values;
 
 pub use dispatch::work;
+pub use in_hand::{step_by, take_loaded, take_stored, take_with};
 pub use laws::operations_are_steps;
-pub use numbers::{attempt, between, number_of, push_number, take_number, with_number};
+pub use numbers::{attempt, between, number_of, push_loaded, push_number, take_number};

@@ -1,6 +1,6 @@
 //! Operations that take values and leave one.
 
-ghost use Rattle.std.specs.Prelude.{◌≡◌, [], length};
+ghost use Rattle.std.specs.Prelude.{◌≡◌, [], length, OnErr};
 ghost use Rattle.hs_code_run.specs.Steps.{access_of, operation_of};
 ghost use Rattle.hs_meaning.specs.Operations as operation;
 ghost use Rattle.hs_meaning.specs.Accesses.{stored};
@@ -94,10 +94,12 @@ pub(crate) fn load(machine: &Machine, access: Access, values: &[Value]) -> Resul
 }
 
 /// Stores a value where a pointer reaches, and leaves it.
-fn store(machine: &mut Machine, access: Access, values: &[Value]) -> Result<Value, Halt>
+#[inline(always)]
+pub(crate) fn store(machine: &mut Machine, access: Access, values: &[Value]) -> Result<Value, Halt>
     requires two { length values.now ≡ 2 }
     ensures does { (setting : Meant) → Does (operated setting (operation.store (access_of access)) values.now (machine_of machine.old)) (machine_of machine.new) result }
     ensures keeps { Keeps machine.old machine.new }
+    ensures kept { OnErr result (machine_of machine.new ≡ machine_of machine.old) }
 {
     let [its, value] = values else {
         return Err(Halt::Stopped(Stop::BadPointer));
@@ -109,12 +111,16 @@ fn store(machine: &mut Machine, access: Access, values: &[Value]) -> Result<Valu
 }
 
 /// Stores a value where a pointer reaches, and gives it back.
+#[inline(always)]
 fn put(machine: &mut Machine, access: Access, its: Pointer, value: &Value) -> Result<Value, Halt>
     ensures does { Does (stored (access_of access) its value.now (machine_of machine.old)) (machine_of machine.new) result }
     ensures keeps { Keeps machine.old machine.new }
+    ensures kept { OnErr result (machine_of machine.new ≡ machine_of machine.old) }
 {
+    // It is copied first: nothing is changed where there is no memory for that.
+    let left = value.copied(machine.alloc)?;
     match machine.put(access, its, value) {
-        Ok(()) => Ok(value.copied(machine.alloc)?),
+        Ok(()) => Ok(left),
         Err(why) => Err(why),
     }
 }

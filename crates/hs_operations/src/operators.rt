@@ -157,6 +157,15 @@ pub(crate) fn offset(bytes: u32, values: &[Value]) -> Result<Value, Stop>
     Ok(Value::pointer(moved(i64::from(bytes), its.as_pointer()?)?))
 }
 
+/// The pointer after a step by that number.
+#[inline(always)]
+pub(crate) fn stepped_by(stride: Stride, its: &Value, bits: u32) -> Result<Value, Stop>
+    ensures { result ≡ or_first (operation.step_stops stride its.now (number bits)) (operation.stepped stride its.now (number bits)) }
+{
+    let its = its.as_pointer()?;
+    Ok(Value::pointer(moved(stride_bytes(stride, bits), its)?))
+}
+
 /// The pointer after a step by a number.
 #[inline(always)]
 fn stepped(stride: Stride, its: &Value, by: &Value) -> Result<Value, Stop>

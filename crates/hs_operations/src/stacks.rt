@@ -1,20 +1,22 @@
 //! Operations on the stack of their call.
 
-ghost use Rattle.std.specs.Prelude.{◌≡◌, ◌≤◌, ◌++◌, ◌∷◌, [], length, take, Err, OnOk, OnErr};
+ghost use Rattle.std.specs.Prelude.{◌≡◌, ◌≤◌, ◌-◌, ◌++◌, ◌∷◌, [], length, take, reverse, slice_get, Some, Err, OnOk, OnErr, IfSome};
 ghost use Rattle.hs_code.specs.declared.op.Op.TheVariants as op;
 ghost use Rattle.hs_code_run.specs.Steps.{operation_of};
 ghost use Rattle.hs_meaning.specs.Machine.{Machine as Meant};
-ghost use Rattle.hs_operations.specs.Operating.{Takes};
 ghost use Rattle.hs_meaning.specs.Settings.{Setting as Given};
+ghost use Rattle.hs_meaning.specs.Values.{pointer};
+ghost use Rattle.hs_operations.specs.Operating.{Takes};
 ghost use Rattle.hs_operations.specs.Numbers.{PutsAt};
-ghost use Rattle.hs_operations.specs.Works.{TriesAs, WorksAs};
+ghost use Rattle.hs_operations.specs.Works.{Tries, TriesAs, WorksAs, operated};
 ghost use Rattle.hs_state.specs.Machines.{Keeps, machine_of};
 ghost use Rattle.hs_state.specs.Settings.{setting_here};
 ghost use Rattle.hs_values.specs.declared.halt.Halt.TheVariants.{NoMemory as no_memory};
 
-use crate::operate::{give, load, operate};
+use crate::operate::{give, load, operate, store};
 use crate::operators::step;
 use hs_code::{Access, Op};
+use hs_heap::Pointer;
 use hs_layers::Layers;
 use hs_meaning::Stop;
 use hs_state::{Machine, Setting};
@@ -91,8 +93,115 @@ pub(crate) fn apply(
     }
 }
 
-/// Puts a value in the place of those from that place on. It does not if it is one more and memory runs out.
+/// Puts a value in the place of the one on top.
 #[inline(always)]
+pub(crate) fn put_for_one(stack: &mut Layers<Value>, value: Value)
+    requires one { 1 ≤ length stack.old.top }
+    ensures top { stack.new.top ≡ take (length stack.old.top - 1) stack.old.top ++ value ∷ [] }
+    ensures below { stack.new.below ≡ stack.old.below }
+{
+    let count = stack.items().len();
+    stack.replace(count - 1, value).discard();
+}
+
+/// Puts a value in the place of the two on top.
+#[inline(always)]
+pub(crate) fn put_for_two(stack: &mut Layers<Value>, value: Value)
+    requires two { 2 ≤ length stack.old.top }
+    ensures top { stack.new.top ≡ take (length stack.old.top - 2) stack.old.top ++ value ∷ [] }
+    ensures below { stack.new.below ≡ stack.old.below }
+{
+    let count = stack.items().len();
+    stack.replace(count - 2, value).discard();
+    let _upper = stack.pop();
+}
+
+/// The value on top, if there is one.
+#[inline(always)]
+pub(crate) fn top_value(stack: &Layers<Value>) -> Option<&Value>
+    ensures { IfSome result (λ value. slice_get stack.now.top (length stack.now.top - 1) ≡ Some value.now) }
+{
+    let values = stack.items();
+    values.get(values.len().saturating_sub(1))
+}
+
+/// The pointer on top, if a pointer is there.
+#[inline(always)]
+#[tactic(auto, using(crate::specs::Numbers::is_pointer))]
+pub(crate) fn top_pointer(stack: &Layers<Value>) -> Option<Pointer>
+    ensures { IfSome result (λ its. slice_get stack.now.top (length stack.now.top - 1) ≡ Some (pointer its)) }
+{
+    let Some(value) = top_value(stack) else {
+        return None;
+    };
+    match value.as_pointer() {
+        Ok(its) => Some(its),
+        Err(_) => None,
+    }
+}
+
+/// Loads what the pointer on top reaches, if the load does not stop.
+#[inline(always)]
+pub(crate) fn load_top(machine: &Machine, stack: &mut Layers<Value>, access: Access) -> bool
+    ensures tries { (setting : Given) → TriesAs (operation_of (op.Load access)) setting stack.old.top stack.new.top (machine_of machine.now) result }
+    ensures below { stack.new.below ≡ stack.old.below }
+{
+    let values = stack.items();
+    if values.len() < 1 {
+        return false;
+    }
+    let (_, high) = values.split_at(values.len() - 1);
+    match load(machine, access, high) {
+        Ok(value) => {
+            put_for_one(stack, value);
+            true
+        }
+        Err(_) => false,
+    }
+}
+
+/// Stores the value on top where the pointer below it reaches, if the store does not stop.
+#[inline(always)]
+pub(crate) fn store_top(machine: &mut Machine, stack: &mut Layers<Value>, access: Access) -> bool
+    ensures tries { (setting : Given) → Tries (operated setting (operation_of (op.Store access)) (reverse stack.old.top) (machine_of machine.old)) stack.old.top stack.new.top (machine_of machine.old) (machine_of machine.new) result }
+    ensures keeps { Keeps machine.old machine.new }
+    ensures below { stack.new.below ≡ stack.old.below }
+{
+    let values = stack.items();
+    if values.len() < 2 {
+        return false;
+    }
+    let (_, high) = values.split_at(values.len() - 2);
+    match store(machine, access, high) {
+        Ok(value) => {
+            put_for_two(stack, value);
+            true
+        }
+        Err(_) => false,
+    }
+}
+
+/// Moves a pointer by a number, if that does not stop. Both are on top.
+#[inline(always)]
+pub(crate) fn step_top(stack: &mut Layers<Value>, stride: Stride, pointer_first: bool) -> bool
+    ensures tries { (setting : Given) (machine : Meant) → TriesAs (operation_of (op.Step stride pointer_first)) setting stack.old.top stack.new.top machine result }
+    ensures below { stack.new.below ≡ stack.old.below }
+{
+    let values = stack.items();
+    if values.len() < 2 {
+        return false;
+    }
+    let (_, high) = values.split_at(values.len() - 2);
+    match step(stride, pointer_first, high) {
+        Ok(value) => {
+            put_for_two(stack, value);
+            true
+        }
+        Err(_) => false,
+    }
+}
+
+/// Puts a value in the place of those from that place on. It does not if it is one more and memory runs out.
 fn put_at(stack: &mut Layers<Value>, low: usize, value: Value) -> bool
     requires within { low ≤ length stack.old.top }
     ensures puts { PutsAt low value stack.old.top stack.new.top result }
@@ -107,42 +216,6 @@ fn put_at(stack: &mut Layers<Value>, low: usize, value: Value) -> bool
     stack.set(low, value);
     stack.truncate(low + 1);
     true
-}
-
-/// Loads what the pointer on top reaches, if the load does not stop.
-#[inline(never)]
-pub(crate) fn load_top(machine: &Machine, stack: &mut Layers<Value>, access: Access) -> bool
-    ensures tries { (setting : Given) → TriesAs (operation_of (op.Load access)) setting stack.old.top stack.new.top (machine_of machine.now) result }
-    ensures below { stack.new.below ≡ stack.old.below }
-{
-    let values = stack.items();
-    if values.len() < 1 {
-        return false;
-    }
-    let low = values.len() - 1;
-    let (_, high) = values.split_at(low);
-    match load(machine, access, high) {
-        Ok(value) => put_at(stack, low, value),
-        Err(_) => false,
-    }
-}
-
-/// Moves a pointer by a number, if that does not stop. Both are on top.
-#[inline(never)]
-pub(crate) fn step_top(stack: &mut Layers<Value>, stride: Stride, pointer_first: bool) -> bool
-    ensures tries { (setting : Given) (machine : Meant) → TriesAs (operation_of (op.Step stride pointer_first)) setting stack.old.top stack.new.top machine result }
-    ensures below { stack.new.below ≡ stack.old.below }
-{
-    let values = stack.items();
-    if values.len() < 2 {
-        return false;
-    }
-    let low = values.len() - 2;
-    let (_, high) = values.split_at(low);
-    match step(stride, pointer_first, high) {
-        Ok(value) => put_at(stack, low, value),
-        Err(_) => false,
-    }
 }
 
 /// Does an operation that takes values from the top and leaves one, and changes nothing else, if it does not stop. Whether it was done; if not,

@@ -8,7 +8,8 @@ use Rattle.hs_state.specs.declared.binding.Home.TheVariants as home
 
 -- by the words in which it is kept
 abbrev pub binding_of : Home → Binding
-binding_of (home.Slot value) = slot value
+binding_of home.Empty = slot None
+binding_of (home.Slot value) = slot (Some value)
 binding_of (home.Object place) = object_at place
 
 -- a slot has none

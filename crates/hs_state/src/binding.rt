@@ -10,8 +10,10 @@ use std::marker::Model;
 /// Where a variable is.
 #[derive(Debug, Drop)]
 enum Home {
-    /// In a slot, with its value once it was given one.
-    Slot(Option<Value>),
+    /// In a slot that was given no value yet.
+    Empty,
+    /// In a slot, with its value.
+    Slot(Value),
     /// In the object of that number.
     Object(u32),
 }
@@ -37,9 +39,7 @@ impl Binding {
     pub fn empty() -> Binding
         ensures { result ≡ slot None }
     {
-        Binding {
-            home: Home::Slot(None),
-        }
+        Binding { home: Home::Empty }
     }
 
     /// A slot with that value.
@@ -48,7 +48,7 @@ impl Binding {
         ensures { result ≡ slot (Some value) }
     {
         Binding {
-            home: Home::Slot(Some(value)),
+            home: Home::Slot(value),
         }
     }
 
@@ -67,8 +67,17 @@ impl Binding {
         ensures { option_copied result ≡ value_of_slot (Some self.now) }
     {
         match &self.home {
-            Home::Slot(value) => value.as_ref(),
-            Home::Object(_) => None,
+            Home::Slot(value) => Some(value),
+            Home::Empty | Home::Object(_) => None,
+        }
+    }
+
+    /// Ends the binding, as `Value::discard` does.
+    #[inline(always)]
+    pub fn discard(self) {
+        match self.home {
+            Home::Slot(value) => value.discard(),
+            Home::Empty | Home::Object(_) => (),
         }
     }
 
@@ -77,7 +86,7 @@ impl Binding {
         ensures { result ≡ place_of self.now }
     {
         match &self.home {
-            Home::Slot(_) => None,
+            Home::Empty | Home::Slot(_) => None,
             Home::Object(place) => Some(*place),
         }
     }

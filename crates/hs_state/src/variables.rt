@@ -12,6 +12,7 @@ use hs_heap::Pointer;
 use hs_meaning::Stop;
 use hs_tree::Variable;
 use hs_values::{Halt, Value};
+use std::mem::replace;
 
 impl Machine<'_> {
     /// What the variable is, if it is there.
@@ -50,12 +51,14 @@ impl Machine<'_> {
         match name {
             Variable::Global(place) => {
                 if let Some(binding) = self.globals.get_mut(place as usize) {
-                    *binding = Binding::slot(value);
+                    replace(binding, Binding::slot(value)).discard();
                 }
             }
             Variable::Local(place) => {
                 if (place as usize) < self.locals.items().len() {
-                    self.locals.set(place as usize, Binding::slot(value));
+                    self.locals
+                        .replace(place as usize, Binding::slot(value))
+                        .discard();
                 }
             }
         }

@@ -14,8 +14,8 @@ mod value;
 
 pub use cells::Cells;
 pub use halt::Halt;
-pub use loads::loaded;
+pub use loads::{loaded, loaded_number};
 pub use numbers::{arithmetic, compared, signed};
-pub use parcel::Parcel;
+pub use parcel::{Parcel, byte_of};
 pub use pointers::{answered, are_apart, difference, moved, stride_bytes};
 pub use value::Value;

@@ -1,9 +1,9 @@
 //! What cells hold.
 
-ghost use Rattle.std.specs.Prelude.{◌≡◌, ◌<◌, ◌∷◌, [], IfSome, if◌then◌else◌, length};
+ghost use Rattle.std.specs.Prelude.{◌≡◌, ◌<◌, ◌∷◌, [], IfSome, Some, if◌then◌else◌, length, option_map};
 ghost use Rattle.std.specs.List.{list_any};
 ghost use Rattle.hs_code_run.specs.Steps.{access_of};
-ghost use Rattle.hs_meaning.specs.Values.{byte_in, is_byte, is_undefined, is_zero, joined, length_of, load_stops, number_in, of_number, of_pointer, part_in, pointer_at, value_in};
+ghost use Rattle.hs_meaning.specs.Values.{byte_in, is_byte, is_undefined, is_zero, joined, length_of, load_stops, number, number_in, of_number, of_pointer, part_in, pointer_at, value_in};
 ghost use Rattle.hs_types.specs.Integers.{integer_size};
 ghost use Rattle.hs_values.specs.Answers.{Halts, or_first};
 
@@ -21,6 +21,7 @@ use std::alloc::Global;
 ///
 /// `Undefined` if a cell of a number or a pointer has no value, and `BadLoad` if they hold something of another sort: a part of a pointer that
 /// was stored through another class, or parts that are not those of one pointer in their order. `NoMemory` only for a struct.
+#[inline(always)]
 pub fn loaded(alloc: Global, access: Access, cells: &[Cell]) -> Result<Value, Halt>
     requires all { length cells.now ≡ length_of (access_of access) }
     ensures { Halts (or_first (load_stops (access_of access) cells.now) (value_in (access_of access) cells.now)) result }
@@ -33,6 +34,7 @@ pub fn loaded(alloc: Global, access: Access, cells: &[Cell]) -> Result<Value, Ha
 }
 
 /// Whether one of the cells has no value.
+#[inline(always)]
 fn has_undefined(cells: &[Cell]) -> bool
     ensures { result ≡ list_any is_undefined cells.now }
 {
@@ -40,6 +42,7 @@ fn has_undefined(cells: &[Cell]) -> bool
 }
 
 /// The byte that a cell holds.
+#[inline(always)]
 fn byte(cell: &Cell) -> Option<u32>
     ensures value { result ≡ (if is_byte cell.now then Some (byte_in cell.now) else None) }
     ensures small { IfSome result (λ its. its < 256) }
@@ -51,6 +54,7 @@ fn byte(cell: &Cell) -> Option<u32>
 }
 
 /// A number or a state byte in one cell.
+#[inline(always)]
 fn in_one(kind: Integer, cell: &Cell) -> Option<Value>
     ensures { result ≡ number_in kind (cell.now ∷ []) }
 {
@@ -61,36 +65,61 @@ fn in_one(kind: Integer, cell: &Cell) -> Option<Value>
     }
 }
 
-/// A number in two cells.
-fn in_two(kind: Integer, high: &Cell, low: &Cell) -> Option<Value>
-    ensures { result ≡ number_in kind (high.now ∷ low.now ∷ []) }
+/// The bits of a number in one cell, if it is no state byte.
+#[inline(always)]
+fn bits_in_one(kind: Integer, cell: &Cell) -> Option<u32>
+    ensures { IfSome result (λ bits. number_in kind (cell.now ∷ []) ≡ Some (number bits)) }
 {
-    let bits = byte(high)? * 256 + byte(low)?;
-    Some(Value::number(kind.converted(bits)))
+    Some(kind.converted(byte(cell)?))
 }
 
-/// A number in four cells.
-fn in_four(kind: Integer, a: &Cell, b: &Cell, c: &Cell, d: &Cell) -> Option<Value>
-    ensures { result ≡ number_in kind (a.now ∷ b.now ∷ c.now ∷ d.now ∷ []) }
+/// The bits of a number in two cells.
+#[inline(always)]
+fn bits_in_two(kind: Integer, high: &Cell, low: &Cell) -> Option<u32>
+    ensures { option_map number result ≡ number_in kind (high.now ∷ low.now ∷ []) }
+{
+    let bits = byte(high)? * 256 + byte(low)?;
+    Some(kind.converted(bits))
+}
+
+/// The bits of a number in four cells.
+#[inline(always)]
+fn bits_in_four(kind: Integer, a: &Cell, b: &Cell, c: &Cell, d: &Cell) -> Option<u32>
+    ensures { option_map number result ≡ number_in kind (a.now ∷ b.now ∷ c.now ∷ d.now ∷ []) }
 {
     let bits = ((byte(a)? * 256 + byte(b)?) * 256 + byte(c)?) * 256 + byte(d)?;
-    Some(Value::number(kind.converted(bits)))
+    Some(kind.converted(bits))
+}
+
+/// The number that cells hold, if they hold one and no state byte.
+#[inline(always)]
+pub fn loaded_number(kind: Integer, cells: &[Cell]) -> Option<u32>
+    ensures { IfSome result (λ bits. number_in kind cells.now ≡ Some (number bits)) }
+{
+    match cells {
+        [cell] => bits_in_one(kind, cell),
+        [high, low] => bits_in_two(kind, high, low),
+        [a, b, c, d] => bits_in_four(kind, a, b, c, d),
+        _ => None,
+    }
 }
 
 /// The number or the state byte that the cells hold.
+#[inline(always)]
 fn held_number(kind: Integer, cells: &[Cell]) -> Option<Value>
     requires all { length cells.now ≡ integer_size kind }
     ensures { result ≡ number_in kind cells.now }
 {
     match cells {
         [cell] => in_one(kind, cell),
-        [high, low] => in_two(kind, high, low),
-        [a, b, c, d] => in_four(kind, a, b, c, d),
+        [high, low] => Some(Value::number(bits_in_two(kind, high, low)?)),
+        [a, b, c, d] => Some(Value::number(bits_in_four(kind, a, b, c, d)?)),
         _ => None,
     }
 }
 
 /// A load of a number.
+#[inline(always)]
 fn number(kind: Integer, cells: &[Cell]) -> Result<Value, Stop>
     requires all { length cells.now ≡ integer_size kind }
     ensures { result ≡ or_first (load_stops (of_number kind) cells.now) (value_in (of_number kind) cells.now) }

@@ -1,7 +1,7 @@
 //! Operations on numbers of 32 bits (X3.159-1989 3.3.3.3, 3.3.5 to 3.3.12).
 
 ghost use Rattle.std.specs.Prelude.{◌≡◌, ◌&&◌, ◌==◌};
-ghost use Rattle.hs_constants.specs.Arithmetic.{binary_value, is_less};
+ghost use Rattle.hs_constants.specs.Arithmetic.{binary_value, is_less, shifted_right};
 ghost use Rattle.hs_constants.specs.Conditions.{plain};
 ghost use Rattle.hs_meaning.specs.Numbers.{answer_of, arithmetic_of, divides, sign_of};
 ghost use Rattle.hs_meaning.specs.Stops.{stops_if};
@@ -24,7 +24,7 @@ pub fn signed(operator: Unary, bits: u32) -> u32
     }
 }
 
-/// What the operator gives in a constant expression; division and the shift to the right are the same there.
+/// What the operator gives in a constant expression; division is the same there.
 fn constant_bits(operator: Binary, unsigned: bool, a: u32, b: u32) -> u32
     ensures { result ≡ (binary_value operator (plain a unsigned) (plain b unsigned)).bits }
 {
@@ -35,6 +35,18 @@ fn constant_bits(operator: Binary, unsigned: bool, a: u32, b: u32) -> u32
     };
     let right = Value { bits: b, ..left };
     binary_value(operator, left, right).bits
+}
+
+/// The bits shifted to the right by the low five bits of the count; a signed number keeps its sign (3.3.7).
+#[inline(always)]
+fn shifted_right(unsigned: bool, bits: u32, count: u32) -> u32
+    ensures { result ≡ shifted_right unsigned bits count }
+{
+    if unsigned || bits < 0x8000_0000 {
+        bits.wrapping_shr(count)
+    } else {
+        !(!bits).wrapping_shr(count)
+    }
 }
 
 /// What an operator between two numbers of that type gives.
@@ -53,7 +65,7 @@ pub fn arithmetic(operator: Arithmetic, kind: Integer, a: u32, b: u32) -> Result
         Arithmetic::Add => Ok(a.wrapping_add(b)),
         Arithmetic::Subtract => Ok(a.wrapping_sub(b)),
         Arithmetic::ShiftLeft => Ok(a.wrapping_shl(b)),
-        Arithmetic::ShiftRight => Ok(constant_bits(Binary::ShiftRight, !kind.is_signed(), a, b)),
+        Arithmetic::ShiftRight => Ok(shifted_right(!kind.is_signed(), a, b)),
         Arithmetic::BitAnd => Ok(a & b),
         Arithmetic::BitXor => Ok(a ^ b),
         Arithmetic::BitOr => Ok(a | b),

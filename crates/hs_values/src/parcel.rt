@@ -64,7 +64,8 @@ fn front(cells: &[Cell], count: usize) -> &[Cell]
 }
 
 /// The byte of a number whose lowest bit is worth `unit`.
-fn byte(bits: u32, unit: u32) -> Cell
+#[inline(always)]
+pub fn byte_of(bits: u32, unit: u32) -> Cell
     requires { 0 < unit }
     ensures { result ≡ Byte (bits / unit % 256) }
 {
@@ -75,21 +76,21 @@ fn byte(bits: u32, unit: u32) -> Cell
 fn bytes_parcel<'a>(kind: Integer, bits: u32) -> Parcel<'a>
     ensures { cells_in result ≡ map Byte (bytes_of (integer_size kind) bits) }
 {
-    let low = byte(bits, 1);
+    let low = byte_of(bits, 1);
     match kind {
         Integer::Char | Integer::SignedChar | Integer::UnsignedChar => Parcel::Few(
             [low, REST, REST, REST],
             1,
         ),
         Integer::Short | Integer::UnsignedShort => Parcel::Few(
-            [byte(bits, 256), low, REST, REST],
+            [byte_of(bits, 256), low, REST, REST],
             2,
         ),
         Integer::Int | Integer::UnsignedInt | Integer::Long | Integer::UnsignedLong => Parcel::Few(
             [
-                byte(bits, 16_777_216),
-                byte(bits, 65_536),
-                byte(bits, 256),
+                byte_of(bits, 16_777_216),
+                byte_of(bits, 65_536),
+                byte_of(bits, 256),
                 low,
             ],
             4,

@@ -19,6 +19,7 @@ const FARTHEST: i64 = 2_147_483_647;
 const MOST: u64 = 4_294_967_295;
 
 /// How many bytes a step is; the number is taken with its sign, whatever its type is.
+#[inline(always)]
 pub fn stride_bytes(stride: Stride, bits: u32) -> i64
     ensures { result ≡ pointers.stride_bytes stride bits }
 {
@@ -27,6 +28,7 @@ pub fn stride_bytes(stride: Stride, bits: u32) -> i64
 }
 
 /// The offset so many bytes on.
+#[inline(always)]
 fn advanced(bytes: i64, at: i64) -> Result<i64, Stop>
     ensures { result ≡ or_stop (stops_if (not (pointers.is_near (at +ℤ bytes))) stop.BadPointer) (at +ℤ bytes) }
 {
@@ -41,6 +43,7 @@ fn advanced(bytes: i64, at: i64) -> Result<i64, Stop>
 /// # Errors
 ///
 /// `Nil` for NIL, and `BadPointer` for a handle or for a place that is more than 2147483647 bytes from the front of the object or block.
+#[inline(always)]
 pub fn moved(bytes: i64, its: Pointer) -> Result<Pointer, Stop>
     ensures { result ≡ or_stop (pointers.moved_stop bytes its) (pointers.moved_by bytes its) }
 {

@@ -33,6 +33,7 @@ pub(crate) enum Held {
 }
 
 /// The pointer into a block with these parts.
+#[inline(always)]
 fn spot(block: u32, life: u32, epoch: u32, offset: i64) -> Pointer
     ensures { result ≡ at.Spot (record { block = block; life = life; epoch = epoch; offset = offset }) }
 {
@@ -84,6 +85,7 @@ impl Value {
     }
 
     /// A pointer.
+    #[inline(always)]
     pub fn pointer(its: Pointer) -> Value
         ensures { result ≡ pointer its }
     {
@@ -147,6 +149,20 @@ impl Value {
         }
     }
 
+    /// Ends the value. Only a struct has memory to free, which a caller sees at once where this stands in it.
+    #[inline(always)]
+    pub fn discard(self) {
+        match self.held {
+            Held::Struct(cells) => drop(cells),
+            Held::Number(_)
+            | Held::Nil
+            | Held::Fixed(_, _)
+            | Held::Handle(_)
+            | Held::Spot(_, _, _, _)
+            | Held::State(_) => (),
+        }
+    }
+
     /// The bits of the value, if it is used as a number.
     ///
     /// # Errors
@@ -172,6 +188,7 @@ impl Value {
     /// # Errors
     ///
     /// `BadPointer` for what is none, which no typed program has there.
+    #[inline(always)]
     pub fn as_pointer(&self) -> Result<Pointer, Stop>
         ensures { result ≡ or_stop (pointer_stop self.now) (pointer_in self.now) }
     {
