@@ -98,7 +98,10 @@ pub(crate) fn run<'c>(
 {
     // Code need not end. No machine comes to the last turn of this loop.
     'operations: for _ in 0..u64::MAX {
-        hurry(runner);
+        match hurry(runner) {
+            Ok(()) => (),
+            Err(_) => return Err(MachineEnd::NoMemory),
+        }
         let came = match advance(loaded, runner, recorder, mover) {
             Ok(came) => came,
             Err(why) => return Err(why),

@@ -26,8 +26,8 @@ operations-init g c =
       same_number = search rules;
     }
 
-pub returns-in-Err-clause-runs : goal.returns-in-Err-clause-runs
-returns-in-Err-clause-runs g c =
+pub returns-in-Err-advance-clause-runs : goal.returns-in-Err-advance-clause-runs
+returns-in-Err-advance-clause-runs g c =
     let program = program_here c.args.loaded.now in
     let first = c.args.runner.now in
     let told = (goal.Mover-dyn g (c.args.mover.now.vtable, c.args.mover.now.value)).told c.args.mover.now.value in
@@ -38,9 +38,9 @@ returns-in-Err-clause-runs g c =
     let old = c.hurry.new.runner in
     let new = c.advance.new.runner in
     let there = there_on program c.args.runner.now script c.operations.runner c.hurry.new.runner c.operations.invariant.there
-    (c.hurry.ensures.runs_on program) in
-    gives_up program first told now later script after old new there c.operations.invariant.tells c.in-Err.why
-    (c.in-Err.ensures.advances there.later there.waits)
+    (c.in-Ok.ensures.runs_on program) in
+    gives_up program first told now later script after old new there c.operations.invariant.tells c.in-Err-advance.why
+    (c.in-Err-advance.ensures.advances there.later there.waits)
 
 pub returns-in-Some-clause-told : goal.returns-in-Some-clause-told
 returns-in-Some-clause-told g c =
@@ -54,9 +54,9 @@ returns-in-Some-clause-told g c =
     let old = c.hurry.new.runner in
     let new = c.advance.new.runner in
     let there = there_on program c.args.runner.now script c.operations.runner c.hurry.new.runner c.operations.invariant.there
-    (c.hurry.ensures.runs_on program) in
+    (c.in-Ok.ensures.runs_on program) in
     let ended = subst (λ (o : Option Outcome). AdvancesTo program old new script after now later there.later (Ok o)) c.in-Some.is
-    (c.in-Ok.ensures.advances there.later there.waits) in
+    (c.in-Ok-advance.ensures.advances there.later there.waits) in
     subst (λ (l : List Decision). IsTold told l) (sym ended.1) (tells_script told now script c.operations.invariant.tells)
 
 pub returns-in-Some-clause-runs : goal.returns-in-Some-clause-runs
@@ -71,9 +71,9 @@ returns-in-Some-clause-runs g c =
     let old = c.hurry.new.runner in
     let new = c.advance.new.runner in
     let there = there_on program c.args.runner.now script c.operations.runner c.hurry.new.runner c.operations.invariant.there
-    (c.hurry.ensures.runs_on program) in
+    (c.in-Ok.ensures.runs_on program) in
     let ended = subst (λ (o : Option Outcome). AdvancesTo program old new script after now later there.later (Ok o)) c.in-Some.is
-    (c.in-Ok.ensures.advances there.later there.waits) in
+    (c.in-Ok-advance.ensures.advances there.later there.waits) in
     subst (λ (l : List Decision). RunsTo program (reaches_from program first) (comes_from program first) l c.in-Some.outcome (machine_of new.machine) new.turns)
     (sym ended.1) (runs_over program first script old new c.in-Some.outcome there ended.0)
 
@@ -85,10 +85,10 @@ returns-in-Some-clause-names_blocks g c =
     let script = c.operations.recorder.decisions.items in
     let after = c.advance.new.recorder.decisions.items in
     let there = there_on program c.args.runner.now script c.operations.runner c.hurry.new.runner c.operations.invariant.there
-    (c.hurry.ensures.runs_on program) in
+    (c.in-Ok.ensures.runs_on program) in
     let ended =
     subst (λ (o : Option Outcome). AdvancesTo program c.hurry.new.runner c.advance.new.runner script after now later there.later (Ok o)) c.in-Some.is
-    (c.in-Ok.ensures.advances there.later there.waits) in
+    (c.in-Ok-advance.ensures.advances there.later there.waits) in
     subst (λ (l : List Decision). NamesBlocks l) (sym ended.1) c.operations.invariant.names_blocks
 
 pub operations-preserved : goal.operations-preserved
@@ -103,13 +103,13 @@ operations-preserved g c =
     let old = c.hurry.new.runner in
     let new = c.advance.new.runner in
     let there = there_on program c.args.runner.now script c.operations.runner c.hurry.new.runner c.operations.invariant.there
-    (c.hurry.ensures.runs_on program) in
+    (c.in-Ok.ensures.runs_on program) in
     let onward = subst (λ (o : Option Outcome). AdvancesTo program old new script after now later there.later (Ok o)) c.in_default.is
-    (c.in-Ok.ensures.advances there.later there.waits) in
+    (c.in-Ok-advance.ensures.advances there.later there.waits) in
     record {
       there = there_next program first script after old new now later there onward;
       tells = tells_more told now later script onward.taken after c.operations.invariant.tells onward.tells onward.recorded;
       names_blocks = names_more now later script onward.taken after c.operations.invariant.names_blocks onward.tells onward.recorded;
-      counted = c.in-Ok.ensures.counted;
-      same_number = c.in-Ok.ensures.same_number ∙ c.operations.invariant.same_number;
+      counted = c.in-Ok-advance.ensures.counted;
+      same_number = c.in-Ok-advance.ensures.same_number ∙ c.operations.invariant.same_number;
     }
