@@ -7,8 +7,6 @@ mod effects;
 mod function_code;
 mod op;
 mod successors;
-#[cfg(test)]
-mod tests;
 
 pub use code::Code;
 pub use effects::Effects;

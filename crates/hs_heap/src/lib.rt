@@ -9,8 +9,6 @@ mod pass;
 mod presence;
 mod row;
 mod stop;
-#[cfg(test)]
-mod tests;
 
 pub use cell::{Cell, Pointer, Spot};
 pub use decision::{Decision, Which};

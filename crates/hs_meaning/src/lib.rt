@@ -3,8 +3,6 @@
 #![tactic(auto)]
 
 mod input;
-#[cfg(test)]
-mod input_tests;
 mod input_text;
 mod laws;
 mod outcome;

@@ -9,8 +9,6 @@ mod scripted;
 mod seeded;
 mod slide;
 mod still;
-#[cfg(test)]
-mod tests;
 
 pub use mover::{Mover, MoverCall};
 pub use script::{Decisions, Script};

@@ -4,8 +4,6 @@
 
 mod index;
 mod scopes;
-#[cfg(test)]
-mod tests;
 
 pub use index::Index;
 pub use scopes::Scopes;

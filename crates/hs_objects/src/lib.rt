@@ -3,8 +3,6 @@
 
 mod object;
 mod objects;
-#[cfg(test)]
-mod tests;
 
 pub use object::{Object, Storage};
 pub use objects::Objects;

@@ -2,7 +2,5 @@
 #![tactic(auto)]
 
 mod printer;
-#[cfg(test)]
-mod tests;
 
 pub use printer::print_run;

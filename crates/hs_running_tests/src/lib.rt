@@ -12,8 +12,14 @@ mod made;
 #[cfg(test)]
 mod memory;
 #[cfg(test)]
+mod objects;
+#[cfg(test)]
+mod operations;
+#[cfg(test)]
 mod plain;
 #[cfg(test)]
 mod starts;
+#[cfg(test)]
+mod values;
 #[cfg(test)]
 mod variables;

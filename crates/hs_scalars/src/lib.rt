@@ -4,8 +4,6 @@
 mod pending;
 mod scalar;
 mod scalars;
-#[cfg(test)]
-mod tests;
 
 pub use scalar::Scalar;
 pub use scalars::Scalars;

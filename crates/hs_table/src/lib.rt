@@ -6,8 +6,6 @@ mod built_in_table;
 mod role;
 mod routine;
 mod table;
-#[cfg(test)]
-mod tests;
 
 pub use built_in_table::built_in;
 pub use role::Role;

@@ -6,8 +6,6 @@ mod error;
 mod printer;
 mod reader;
 mod roles;
-#[cfg(test)]
-mod tests;
 
 pub use error::TableError;
 pub use printer::print;

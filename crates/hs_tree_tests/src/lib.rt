@@ -2,6 +2,10 @@
 #![tactic(auto)]
 
 #[cfg(test)]
+mod names;
+#[cfg(test)]
+mod scalars;
+#[cfg(test)]
 mod straight;
 #[cfg(test)]
 mod trees;

@@ -8,8 +8,6 @@ mod loads;
 mod numbers;
 mod parcel;
 mod pointers;
-#[cfg(test)]
-mod tests;
 mod value;
 
 pub use cells::Cells;

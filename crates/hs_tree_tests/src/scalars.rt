@@ -1,7 +1,7 @@
 //! The scalars of small objects, and of one that is as deep as it may be.
 
-use crate::{Scalar, Scalars};
 use hs_base::{Bytes, NoMemory};
+use hs_scalars::{Scalar, Scalars};
 use hs_types::{FieldId, Integer, Member, Row, TypeEnd, TypeId, Types};
 use std::alloc::Global;
 use std::test::Fail;

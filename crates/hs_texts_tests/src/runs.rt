@@ -4,11 +4,11 @@ ghost use Rattle.std.specs.Prelude.{◌≡◌, IfOk};
 ghost use Rattle.hs_heap.specs.declared.decision.Which.TheVariants.{These};
 ghost use Rattle.hs_movers.specs.ScriptTexts.{IsPrintable};
 
-use crate::print_run;
 use hs_base::{NoMemory, Numbers, Pos};
 use hs_heap::{Decision, Which};
 use hs_meaning::{Outcome, Stop};
 use hs_movers::{Decisions, Script};
+use hs_run_text::print_run;
 use std::alloc::Global;
 use std::test::Fail;
 

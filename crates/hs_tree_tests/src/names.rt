@@ -1,7 +1,7 @@
 //! What names mean in nested scopes.
 
-use crate::Scopes;
 use hs_base::NoMemory;
+use hs_names::Scopes;
 use std::alloc::Global;
 use std::test::Fail;
 

@@ -5,14 +5,12 @@ ghost use Rattle.hs_movers.specs.Movers.{Decides};
 ghost use Rattle.hs_movers.specs.ScriptTexts.{IsPrintable};
 ghost use Rattle.hs_heap.specs.declared.decision.Which.TheVariants.{These};
 
-use crate::seeded::next_state;
-use crate::still::no_block;
-use crate::{
+use hs_base::{NoMemory, Numbers};
+use hs_heap::{Decision, Which};
+use hs_movers::{
     Decisions, Mover, MoverCall, Script, ScriptError, Scripted, Seeded, Slide, Still, print_script,
     read_script,
 };
-use hs_base::{NoMemory, Numbers};
-use hs_heap::{Decision, Which};
 use std::alloc::Global;
 use std::test::Fail;
 
@@ -23,6 +21,14 @@ const CALL: MoverCall = MoverCall {
     purges: true,
     blocks: 3,
 };
+
+/// A decision that names no block.
+fn no_block(alloc: Global) -> Decision {
+    Decision {
+        moves: Which::These(Numbers::from_vec(Vec::new(alloc))),
+        purges: Which::These(Numbers::from_vec(Vec::new(alloc))),
+    }
+}
 
 /// The next decision of a mover that is known only when the program runs.
 fn next_of(alloc: Global, mover: &mut Box<dyn Mover>) -> Result<Decision, NoMemory>
@@ -65,34 +71,6 @@ fn slide_moves_everything(rt: HostRuntime) -> Result<(), Fail> {
     Ok(())
 }
 
-/// The first three states from a seed.
-fn states(seed: u64) -> [u64; 3] {
-    let first = next_state(seed);
-    let second = next_state(first);
-    [first, second, next_state(second)]
-}
-
-// Computed apart from this program, with whole numbers of any size.
-#[test]
-fn states_are_those_of_the_generator(rt: HostRuntime) {
-    assert_eq!(rt;
-        states(0),
-        [
-            1442695040888963407,
-            1876011003808476466,
-            11166244414315200793
-        ]
-    );
-    assert_eq!(rt;
-        states(7),
-        [
-            9098160460397411210,
-            17628806926561717905,
-            16723372171710603212
-        ]
-    );
-}
-
 /// The first three decisions from a seed.
 fn drawn(alloc: Global, seed: u64) -> Result<[(bool, bool); 3], NoMemory> {
     let decisions = Decisions::from_vec(Vec::new(alloc));
@@ -121,7 +99,7 @@ fn seeded_decides_by_the_two_highest_bits(rt: HostRuntime) -> Result<(), Fail> {
 }
 
 /// What the text, which is short, is read as.
-#[tactic(auto, using(crate::proofs::ScriptTextLaws::few_line_feeds))]
+#[tactic(auto, using(crate::proofs::Lines::few_line_feeds))]
 fn read(alloc: Global, text: &[u8]) -> Result<Result<Script, ScriptError>, Fail> {
     if text.len() > 100 {
         return Err(Fail::new("the text is short"));

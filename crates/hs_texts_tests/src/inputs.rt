@@ -1,11 +1,11 @@
 //! Texts of inputs, by hand.
 
-use crate::{Input, InputError, read_input};
+use hs_meaning::{Input, InputError, read_input};
 use std::alloc::Global;
 use std::test::Fail;
 
 /// What the text, which is short, is read as.
-#[tactic(auto, using(crate::proofs::InputTextLaws::few_line_feeds))]
+#[tactic(auto, using(hs_meaning::proofs::InputTextLaws::few_line_feeds))]
 fn read(alloc: Global, text: &[u8]) -> Result<Result<Input, InputError>, Fail> {
     if text.len() > 100 {
         return Err(Fail::new("the text is short"));

@@ -1,9 +1,9 @@
 //! What calls do to objects.
 
-use crate::{Object, Objects, Storage};
 use hs_base::NoMemory;
 use hs_heap::Cell;
 use hs_meaning::Stop;
+use hs_objects::{Object, Objects, Storage};
 use std::alloc::Global;
 use std::test::Fail;
 

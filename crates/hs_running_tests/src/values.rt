@@ -4,12 +4,12 @@ ghost use Rattle.std.specs.Prelude.{◌≡◌};
 ghost use Rattle.hs_code_run.specs.Steps.{access_of};
 ghost use Rattle.hs_meaning.specs.Values.{length_of};
 
-use crate::{Halt, Parcel, Value, arithmetic, difference, loaded};
 use hs_code::Access;
 use hs_heap::{Cell, Pointer, Spot};
 use hs_meaning::Stop;
 use hs_tree::Arithmetic;
 use hs_types::Integer;
+use hs_values::{Halt, Parcel, Value, arithmetic, difference, loaded};
 use std::alloc::Global;
 use std::test::Fail;
 

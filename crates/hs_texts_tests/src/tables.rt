@@ -1,7 +1,7 @@
 //! The sample table, the text that is printed, and what each refusal names.
 
-use crate::{TableError, print, read};
 use hs_table::{Role, Routine, Table, built_in};
+use hs_table_text::{TableError, print, read};
 use std::alloc::{AllocError, Global};
 use std::test::Fail;
 

@@ -1,7 +1,7 @@
 //! What calls do to blocks.
 
-use crate::{Cell, Decision, Heap, HeapEnd, HeapStop, Spot, Which};
 use hs_base::Numbers;
+use hs_heap::{Cell, Decision, Heap, HeapEnd, HeapStop, Spot, Which};
 use std::alloc::Global;
 use std::test::Fail;
 

@@ -1,6 +1,6 @@
 //! The built-in table, routine by routine.
 
-use crate::{Routine, built_in};
+use hs_table::{Routine, built_in};
 use std::alloc::{AllocError, Global};
 use std::test::Fail;
 

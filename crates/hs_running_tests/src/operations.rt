@@ -1,8 +1,8 @@
 //! What can follow an operation, on the code of a small function.
 
-use crate::{Case, Cases, Effects, FunctionCode, Goal, Op, Operations, Placed, Successors, succ};
 use bitflags::Flags;
 use hs_base::Pos;
+use hs_code::{Case, Cases, Effects, FunctionCode, Goal, Op, Operations, Placed, Successors, succ};
 use std::alloc::{AllocError, Global};
 use std::test::Fail;
 

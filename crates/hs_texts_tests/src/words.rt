@@ -1,6 +1,6 @@
 //! Words, with the commands that they are.
 
-use crate::{Command, WordsError, command_of};
+use hs_words::{Command, WordsError, command_of};
 use std::alloc::Global;
 use std::test::Fail;
 
