@@ -1,7 +1,7 @@
 //! Declarations: the objects that they make.
 
 use crate::refusal::{Refusal, Why};
-use crate::texts::{boxed, units_of};
+use crate::texts::{boxed, units_of, with};
 use hs_declarations::{block_declaration, file_declaration};
 use hs_linkage::{Definitions, Translator};
 use hs_syntax::{Block, Decl, External, Unit, first_of_specifiers};
@@ -73,7 +73,8 @@ fn last_size(m: &Translator) -> u32 {
 /// What is known before the first declaration of units.
 pub(crate) fn beginning(alloc: Global, units: &[Unit]) -> Result<Box<Translator>, Refusal> {
     let definitions = Definitions::of(alloc, units)?;
-    boxed(alloc, Translator::new(alloc, built_in(alloc)?, definitions))
+    let (definitions, table) = with(definitions, built_in(alloc))?;
+    boxed(alloc, Translator::new(alloc, table, definitions))
 }
 
 /// Declares what units declare, and returns how many variables are given a value.

@@ -12,7 +12,7 @@ use std::fmt::Write;
 /// The functions that units define.
 fn defined_in(alloc: Global, units: &[Unit]) -> Result<Vec<Function>, Refusal> {
     let mut m = beginning(alloc, units)?;
-    Ok(functions_of(alloc, &mut m, units)?)
+    functions_of(alloc, &mut m, units).map_err(Refusal::from)
 }
 
 /// The functions that a text defines.

@@ -2,7 +2,7 @@
 
 use crate::declarations::{place_of, size_of};
 use crate::refusal::{Refusal, Why};
-use crate::texts::unit_of;
+use crate::texts::units_of;
 use crate::type_names::type_name;
 use crate::world::beginning;
 use hs_expressions::{derivations, specifiers};
@@ -15,8 +15,11 @@ use hs_types::{TypeId, Types};
 use std::alloc::{AllocError, Global};
 use std::fmt::Write;
 
-/// The only declaration of a unit.
-fn only(it: &Unit) -> Result<&Decl, Refusal> {
+/// The only declaration of units.
+fn only(units: &[Unit]) -> Result<&Decl, Refusal> {
+    let [it] = units else {
+        return Err(Why::Unread.into());
+    };
     match it.externals.as_slice() {
         [External::Declaration(it)] => Ok(it),
         _ => Err(Why::Unread.into()),
@@ -79,11 +82,16 @@ fn constants_with(alloc: Global, typer: &mut Typer, it: &Decl) -> Result<String,
     Ok(parts_text(alloc, size_of(&typer.types, made), &parts)?)
 }
 
+/// What the object of units starts with.
+fn constants_of(alloc: Global, units: &[Unit]) -> Result<String, Refusal> {
+    let mut typer = beginning(alloc)?;
+    constants_with(alloc, &mut typer, only(units)?)
+}
+
 /// What the object of a text starts with.
 pub(crate) fn constants(alloc: Global, text: &str) -> Result<String, Refusal> {
-    let unit = unit_of(alloc, text)?;
-    let mut typer = beginning(alloc)?;
-    constants_with(alloc, &mut typer, only(&unit)?)
+    let units = units_of(alloc, text)?;
+    constants_of(alloc, &units)
 }
 
 /// What an automatic object starts with: the type of its value, or constants.
@@ -102,17 +110,27 @@ fn value_with(alloc: Global, typer: &mut Typer, it: &Decl) -> Result<String, Ref
     value_text(alloc, &typer.types, &value)
 }
 
+/// The same of the object of units.
+fn value_of(alloc: Global, units: &[Unit]) -> Result<String, Refusal> {
+    let mut typer = beginning(alloc)?;
+    value_with(alloc, &mut typer, only(units)?)
+}
+
 /// What the automatic object of a text starts with: the type of its value, or constants.
 pub(crate) fn value(alloc: Global, text: &str) -> Result<String, Refusal> {
-    let unit = unit_of(alloc, text)?;
+    let units = units_of(alloc, text)?;
+    value_of(alloc, &units)
+}
+
+/// Reads the words after the prototype of units, if they are constants.
+fn read_inline(alloc: Global, units: &[Unit]) -> Result<(), Refusal> {
     let mut typer = beginning(alloc)?;
-    value_with(alloc, &mut typer, only(&unit)?)
+    Ok(inline_words(alloc, &mut typer, start(only(units)?)?)?)
 }
 
 /// Whether the words after the prototype of a text are constants.
 pub(crate) fn inline(alloc: Global, text: &str) -> Result<String, Refusal> {
-    let unit = unit_of(alloc, text)?;
-    let mut typer = beginning(alloc)?;
-    inline_words(alloc, &mut typer, start(only(&unit)?)?)?;
+    let units = units_of(alloc, text)?;
+    read_inline(alloc, &units)?;
     Ok(String::from_str(alloc, "constants")?)
 }

@@ -16,6 +16,17 @@ fn with_item<T: Drop>(list: Vec<T>, next: Result<T, Refusal>) -> Result<Vec<T>, 
     Ok(items)
 }
 
+/// What is held, and what was made. What is held is of a type that this function does not know, so its proof is short.
+pub(crate) fn with<T: Drop, U: Drop, E: Into<Refusal>>(
+    held: T,
+    made: Result<U, E>,
+) -> Result<(T, U), Refusal> {
+    match made {
+        Ok(it) => Ok((held, it)),
+        Err(why) => Err(why.into()),
+    }
+}
+
 /// What was made, in a box: a function that holds a box pays little for the type of what is in it.
 pub(crate) fn boxed<T: Drop, E: Into<Refusal>>(
     alloc: Global,
@@ -57,7 +68,7 @@ pub(crate) fn tokens_of(alloc: Global, text: &[u8]) -> Result<Vec<SourceToken>, 
 }
 
 /// The unit that a text is.
-pub(crate) fn unit_of(alloc: Global, text: &str) -> Result<Unit, Refusal> {
+fn unit_of(alloc: Global, text: &str) -> Result<Unit, Refusal> {
     let tokens = tokens_of(alloc, text.as_bytes())?;
     match unit(alloc, &tokens) {
         Ok(it) => Ok(it),
