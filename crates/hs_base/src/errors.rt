@@ -24,7 +24,7 @@ impl<T: Drop> From<AllocFailed<T>> for NoMemory {
 }
 
 /// A put failed. It comes only if the sink's count of faults rose.
-#[derive(Clone, Copy, Debug, PartialEq, Eq, Error)]
+#[derive(Clone, Copy, Debug, Error)]
 #[error("a write failed")]
 pub struct Failed;
 

@@ -33,7 +33,7 @@ impl Bytes {
 }
 
 /// A list of numbers below 2^32. Contracts see the numbers alone.
-#[derive(Debug, Drop)]
+#[derive(Drop)]
 pub struct Numbers {
     vec: Vec<u32>,
 }

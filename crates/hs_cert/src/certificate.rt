@@ -7,7 +7,7 @@ use hs_base::{NoMemory, Numbers};
 use hs_cut::Flow;
 
 /// What shows that a cut of a network is least.
-#[derive(Debug, Drop)]
+#[derive(Drop)]
 pub struct Certificate {
     /// The vertices inside, which ascend.
     pub inside: Numbers,

@@ -21,7 +21,7 @@ use hs_typing::{ProgramError, program_of as typed_program};
 use std::alloc::{AllocFailed, Global};
 
 /// Why the named files give no program.
-#[derive(Debug, Drop)]
+#[derive(Drop)]
 pub enum SourceError {
     /// Reading refuses them: the first refusal. It is not a limit, and not that memory ran out.
     Read(ReadError),

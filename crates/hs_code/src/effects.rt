@@ -12,7 +12,7 @@ use bitflags::{Flag, Flags, bitflag_items};
 /// - `MARKS`: mark a block as purgeable, or set the state of its handle to another one than it was;
 /// - `BITS`: read or change the state of a handle;
 /// - `DISPOSES`: dispose of a block that a handle is of.
-#[derive(Clone, Copy, Debug, PartialEq, Eq)]
+#[derive(Clone, Copy)]
 pub struct Effects(u8);
 
 bitflag_items! {

@@ -7,7 +7,7 @@ use hs_base::Pos;
 use std::marker::Model;
 
 /// An operation with what is known of its place.
-#[derive(Clone, Copy, Debug, PartialEq, Eq)]
+#[derive(Clone, Copy)]
 pub struct Placed {
     pub op: Op,
     /// The place in the text to which a stop of the operation belongs.
@@ -19,7 +19,7 @@ pub struct Placed {
 }
 
 /// A case of a switch.
-#[derive(Clone, Copy, Debug, PartialEq, Eq)]
+#[derive(Clone, Copy)]
 pub struct Case {
     /// The number, as 32 bits.
     pub bits: u32,
@@ -28,7 +28,7 @@ pub struct Case {
 }
 
 /// The operations of a function, of which there are at most 4294967295. Contracts see the list.
-#[derive(Debug, Drop)]
+#[derive(Drop)]
 pub struct Operations {
     vec: Vec<Placed>,
 }
@@ -63,7 +63,7 @@ impl Operations {
 }
 
 /// The cases of the switches of a function, switch by switch. Contracts see the list.
-#[derive(Debug, Drop)]
+#[derive(Drop)]
 pub struct Cases {
     vec: Vec<Case>,
 }
@@ -94,7 +94,7 @@ impl Cases {
 }
 
 /// The code of a function: its operations, and the cases of its switches. A call begins at operation 0.
-#[derive(Debug, Drop)]
+#[derive(Drop)]
 pub struct FunctionCode {
     pub ops: Operations,
     pub cases: Cases,

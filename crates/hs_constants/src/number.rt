@@ -6,7 +6,7 @@ ghost use Rattle.hs_constants.specs.Numbers.{with_suffix, hex_number, octal_numb
 use crate::digits::{Base, digits_ahead};
 
 /// An integer constant (X3.159-1989 3.1.3.2).
-#[derive(Clone, Copy, Debug, PartialEq, Eq)]
+#[derive(Clone, Copy)]
 pub struct Number {
     pub value: u32,
     /// Written in decimal digits, and not in octal or hexadecimal ones.

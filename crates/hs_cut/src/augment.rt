@@ -21,7 +21,7 @@ pub(crate) struct FullFlow {
 }
 
 /// A vertex that a search reached.
-#[derive(Debug, Clone, Copy, PartialEq, Eq)]
+#[derive(Clone, Copy)]
 struct Reached {
     vertex: u32,
     distance: u32,

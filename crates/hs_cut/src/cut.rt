@@ -7,7 +7,7 @@ use crate::lists::Flow;
 use hs_base::{NoMemory, Numbers};
 
 /// A least cut, and what shows that it is least.
-#[derive(Debug, Drop)]
+#[derive(Drop)]
 pub struct Cut {
     /// The vertices inside, which ascend.
     pub inside: Numbers,
@@ -16,7 +16,7 @@ pub struct Cut {
 }
 
 /// Why there is no cut.
-#[derive(Debug, Drop)]
+#[derive(Drop)]
 pub enum CutEnd {
     /// Edges that may not be crossed join a vertex that must be inside to one that must be outside: the vertices of the
     /// least among the shortest such paths.

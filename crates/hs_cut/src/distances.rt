@@ -8,7 +8,7 @@ use hs_base::NoMemory;
 use std::alloc::Global;
 
 /// Which ways an edge can be traversed.
-#[derive(Debug, Clone, Copy, PartialEq, Eq)]
+#[derive(Clone, Copy)]
 pub(crate) struct Gate {
     /// From its begin to its end.
     pub along: bool,

@@ -9,7 +9,7 @@ use hs_base::NoMemory;
 use std::alloc::Global;
 
 /// A way over an edge, out of the vertex in whose row it is.
-#[derive(Debug, Clone, Copy, PartialEq, Eq)]
+#[derive(Clone, Copy)]
 pub(crate) struct Arc {
     /// Where it leads.
     pub to: u32,

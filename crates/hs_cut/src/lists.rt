@@ -6,7 +6,7 @@ use crate::network::CutEdge;
 use std::marker::Model;
 
 /// A list of edges. Contracts see the edges alone: capacity and allocator count for nothing.
-#[derive(Debug, Drop)]
+#[derive(Drop)]
 pub struct CutEdges {
     vec: Vec<CutEdge>,
 }
@@ -38,7 +38,7 @@ impl CutEdges {
 
 /// What flows over each edge, in the order of the edges: along it if the number is positive, against it if it is
 /// negative.
-#[derive(Debug, Drop)]
+#[derive(Drop)]
 pub struct Flow {
     vec: Vec<i64>,
 }

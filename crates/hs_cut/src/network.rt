@@ -4,7 +4,7 @@ use crate::lists::CutEdges;
 use hs_base::Numbers;
 
 /// An edge between two vertices. A cut may cross it if it is a slot.
-#[derive(Debug, Clone, Copy, PartialEq, Eq)]
+#[derive(Clone, Copy)]
 pub struct CutEdge {
     /// The vertex where it begins.
     pub from: u32,
@@ -15,7 +15,7 @@ pub struct CutEdge {
 }
 
 /// What is to be cut: vertices, edges between them, and the vertices whose sides are given.
-#[derive(Debug, Drop)]
+#[derive(Drop)]
 pub struct Network {
     /// How many vertices there are: they are the numbers below this one.
     pub vertices: u32,

@@ -4,7 +4,7 @@ use hs_base::{Limit, NoMemory, Pos};
 use std::alloc::AllocFailed;
 
 /// Why tokens are no unit.
-#[derive(Clone, Copy, Debug, PartialEq, Eq)]
+#[derive(Clone, Copy, Debug)]
 pub enum ParseError {
     /// The nesting passes its limit at some token: `Depth` is the kind.
     Limit(Limit),

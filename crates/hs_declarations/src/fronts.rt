@@ -14,7 +14,7 @@ use hs_types::TypeId;
 use std::alloc::Global;
 
 /// What the specifiers of a declaration say: the storage word, and the type.
-#[derive(Clone, Copy, Debug, PartialEq, Eq)]
+#[derive(Clone, Copy)]
 pub struct Front {
     pub storage: Option<Storage>,
     /// The type that they name.

@@ -7,7 +7,7 @@ use hs_base::{Bytes, Pos};
 use std::alloc::{AllocError, AllocFailed};
 
 /// Why a text has no tokens (X3.159-1989 3.1).
-#[derive(Clone, Copy, Debug, PartialEq, Eq)]
+#[derive(Clone, Copy, Debug)]
 pub enum ScanKind {
     /// A byte that no token may have there, or a malformed escape.
     BadByte,
@@ -18,7 +18,7 @@ pub enum ScanKind {
 }
 
 /// Why a macro is refused (X3.159-1989 3.8.3).
-#[derive(Clone, Copy, Debug, PartialEq, Eq)]
+#[derive(Clone, Copy, Debug)]
 pub enum MacroKind {
     /// A `#define` that is no definition, or another one than stands. At its `#`.
     BadMacro,

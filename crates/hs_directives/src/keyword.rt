@@ -6,7 +6,7 @@ ghost use Rattle.hs_directives.specs.Pieces.{keyword, keyword_of};
 use hs_tokens::{Token, is_identifier};
 
 /// What a directive calls for (X3.159-1989 3.8).
-#[derive(Clone, Copy, Debug, PartialEq, Eq)]
+#[derive(Clone, Copy)]
 pub(crate) enum Keyword {
     If,
     Ifdef,

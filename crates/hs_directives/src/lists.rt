@@ -9,7 +9,7 @@ use std::alloc::AllocError;
 use std::marker::Model;
 
 /// A list of names or texts. Contracts see the items alone: capacity and allocator count for nothing.
-#[derive(Debug, Drop)]
+#[derive(Drop)]
 pub struct Texts {
     vec: Vec<Bytes>,
 }
@@ -37,7 +37,7 @@ impl Texts {
 }
 
 /// The numbers of files.
-#[derive(Debug, Drop)]
+#[derive(Drop)]
 pub struct FileNumbers {
     vec: Vec<u16>,
 }
@@ -65,7 +65,7 @@ impl FileNumbers {
 }
 
 /// The tokens of a unit.
-#[derive(Debug, Drop)]
+#[derive(Drop)]
 pub struct SourceTokens {
     vec: Vec<SourceToken>,
 }
@@ -101,7 +101,7 @@ impl SourceTokens {
 }
 
 /// The token lists of units.
-#[derive(Debug, Drop)]
+#[derive(Drop)]
 pub struct UnitTokens {
     vec: Vec<SourceTokens>,
 }

@@ -8,7 +8,7 @@ use std::alloc::AllocError;
 use std::marker::Model;
 
 /// The changes of macros in a unit.
-#[derive(Debug, Drop)]
+#[derive(Drop)]
 pub struct MacroChanges {
     vec: Vec<MacroChange>,
 }
@@ -44,7 +44,7 @@ impl MacroChanges {
 }
 
 /// The changes of macros in each unit.
-#[derive(Debug, Drop)]
+#[derive(Drop)]
 pub struct UnitChanges {
     vec: Vec<MacroChanges>,
 }

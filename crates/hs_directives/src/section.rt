@@ -6,7 +6,7 @@ ghost use Rattle.hs_directives.specs.Sections.{opened, skipped, elsed, passed_ov
 use hs_base::Pos;
 
 /// A conditional section that is open (X3.159-1989 3.8.1).
-#[derive(Clone, Copy, Debug, PartialEq, Eq)]
+#[derive(Clone, Copy)]
 pub(crate) struct Section {
     /// The `#` that begins it.
     pub(crate) pos: Pos,

@@ -5,7 +5,7 @@ use crate::macro_changes::UnitChanges;
 use hs_base::{Bytes, Pos};
 
 /// A `#define` or `#undef` that was reached.
-#[derive(Debug, Drop)]
+#[derive(Drop)]
 pub struct MacroChange {
     /// Its `#`, or that of the root file's outermost open `#include` if one is open.
     pub pos: Pos,
@@ -16,7 +16,7 @@ pub struct MacroChange {
 }
 
 /// What named files and their headers were read as.
-#[derive(Debug, Drop)]
+#[derive(Drop)]
 pub struct Source {
     /// The names of the files, in the order of first reads. A file's number is its place here.
     pub names: Texts,

@@ -4,7 +4,7 @@ use hs_base::NoMemory;
 use std::alloc::{AllocError, AllocFailed};
 
 /// Why nothing was read.
-#[derive(Clone, Copy, Debug, PartialEq, Eq)]
+#[derive(Clone, Copy, Debug)]
 pub enum ParseEnd {
     /// No expression starts there.
     NotExpr,

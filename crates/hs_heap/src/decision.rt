@@ -6,7 +6,7 @@ ghost use Rattle.hs_heap.specs.Passes.{names_all};
 use hs_base::Numbers;
 
 /// Blocks that a decision names, by number from 1.
-#[derive(Debug, Drop)]
+#[derive(Drop)]
 pub enum Which {
     All,
     These(Numbers),
@@ -14,7 +14,7 @@ pub enum Which {
 
 /// A decision of the schedule: the blocks to move and the blocks to purge. What a block does not permit counts for nothing, so every list of
 /// decisions is a schedule.
-#[derive(Debug, Drop)]
+#[derive(Drop)]
 pub struct Decision {
     pub moves: Which,
     pub purges: Which,

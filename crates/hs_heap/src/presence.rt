@@ -1,7 +1,7 @@
 //! Whether a block has its cells.
 
 /// Whether a relocatable block has its cells.
-#[derive(Clone, Copy, Debug, PartialEq, Eq)]
+#[derive(Clone, Copy)]
 pub(crate) enum Presence {
     Present,
     /// The program emptied it.

@@ -11,7 +11,7 @@ use hs_tree::{Base, Constant, Lvalue, Rvalue, Variable};
 use hs_types::Types;
 
 /// An address constant: an object of static storage duration, and the byte from its start.
-#[derive(Clone, Copy, Debug, PartialEq, Eq)]
+#[derive(Clone, Copy)]
 pub(crate) struct Address {
     pub(crate) base: Base,
     pub(crate) offset: i32,

@@ -13,7 +13,7 @@ use hs_types::{FieldId, Fields, Row, TypeId, Types};
 const MOST_BYTES: u32 = 16_777_216;
 
 /// An aggregate that a list of initialisers goes through, or a scalar in braces.
-#[derive(Clone, Copy, Debug, PartialEq, Eq)]
+#[derive(Clone, Copy)]
 pub(crate) struct Aggregate {
     pub(crate) type_id: TypeId,
     /// The byte of the whole object at which it begins.
@@ -25,7 +25,7 @@ pub(crate) struct Aggregate {
 }
 
 /// A part of an object that an initialiser is for: a member, an element or the object itself.
-#[derive(Clone, Copy, Debug, PartialEq, Eq)]
+#[derive(Clone, Copy)]
 pub(crate) struct Subobject {
     /// The byte of the whole object at which it begins.
     pub(crate) offset: u32,

@@ -14,7 +14,7 @@ use hs_typer::{Entity, Typer};
 use std::alloc::Global;
 
 /// What a name with linkage refers to in its unit (X3.159-1989 3.1.2.2).
-#[derive(Clone, Copy, Debug, PartialEq, Eq)]
+#[derive(Clone, Copy)]
 pub struct Linked {
     /// Whether the linkage is internal.
     pub internal: bool,

@@ -13,7 +13,7 @@ use std::marker::Model;
 const MOST: usize = 4_294_967_295;
 
 /// The cases of the switches of a function while they are made. Contracts see the list.
-#[derive(Debug, Drop)]
+#[derive(Drop)]
 pub(crate) struct CaseList {
     vec: Vec<Case>,
 }
@@ -67,7 +67,7 @@ impl CaseList {
 }
 
 /// The code of a function while it is made: its operations, the cases of its switches, and how many pieces of text there were.
-#[derive(Debug, Drop)]
+#[derive(Drop)]
 pub(crate) struct Text {
     pub ops: Ops,
     pub cases: CaseList,

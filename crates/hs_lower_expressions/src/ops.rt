@@ -12,7 +12,7 @@ use std::alloc::Global;
 use std::marker::Model;
 
 /// The operations to which a loop or a switch sends control: the one behind it, and the one with which a loop goes on.
-#[derive(Clone, Copy, Debug)]
+#[derive(Clone, Copy)]
 pub struct Exits {
     pub breaks: u32,
     pub continues: u32,
@@ -58,7 +58,7 @@ fn aim_all(its: &mut [Placed], exits: Exits)
 }
 
 /// The operations of a function while they are made, at most 1000000. Each one is named by its number, from 0. Contracts see the list.
-#[derive(Debug, Drop)]
+#[derive(Drop)]
 pub struct Ops {
     vec: Vec<Placed>,
 }

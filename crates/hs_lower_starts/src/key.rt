@@ -8,7 +8,7 @@ use hs_scalars::Scalar;
 use hs_tree::Part;
 
 /// What a constant and the scalar that it is for have in common: the byte, and the number of the type.
-#[derive(Clone, Copy, Debug, PartialEq, Eq, Hash)]
+#[derive(Clone, Copy, PartialEq, Eq, Hash)]
 pub(crate) struct Key {
     offset: u32,
     number: u32,

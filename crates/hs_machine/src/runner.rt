@@ -35,7 +35,7 @@ pub(crate) struct Runner<'c, 'i> {
 }
 
 /// Why a run does not go on.
-#[derive(Clone, Copy, Debug, PartialEq, Eq)]
+#[derive(Clone, Copy)]
 pub(crate) enum End {
     /// It has ended.
     Over(Outcome),

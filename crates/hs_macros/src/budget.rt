@@ -1,7 +1,7 @@
 //! What is left of the limits of replacement.
 
 /// What is left of two limits.
-#[derive(Clone, Copy, Debug, PartialEq, Eq)]
+#[derive(Clone, Copy)]
 pub struct Budget {
     /// Replacements that may still be done.
     pub replacements: u64,

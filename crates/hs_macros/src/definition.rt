@@ -15,7 +15,7 @@ use hs_tokens::{Token, is_same_kind};
 use std::alloc::{AllocError, Global};
 
 /// What stands for a macro.
-#[derive(Debug, Drop)]
+#[derive(Drop)]
 pub struct Definition {
     /// The parameters of a function-like macro, in order; nothing for an object-like one.
     pub(crate) parameters: Option<Names>,

@@ -7,7 +7,7 @@ use hs_base::{Limit, Pos};
 use std::alloc::{AllocError, AllocFailed};
 
 /// Why a definition or an expansion is refused.
-#[derive(Clone, Copy, Debug, PartialEq, Eq)]
+#[derive(Clone, Copy, Debug)]
 pub enum MacroError {
     /// The tokens after `define` are no definition, or another one of the name stands.
     BadMacro,

@@ -8,7 +8,7 @@ use hs_tokens::Token;
 use std::marker::Model;
 
 /// A list of names. Contracts see the names alone.
-#[derive(Debug, Drop)]
+#[derive(Drop)]
 pub(crate) struct Names {
     vec: Vec<Bytes>,
 }
@@ -36,7 +36,7 @@ impl Names {
 }
 
 /// A list of tokens. Contracts see the tokens alone.
-#[derive(Debug, Drop)]
+#[derive(Drop)]
 pub(crate) struct Tokens {
     vec: Vec<Token>,
 }

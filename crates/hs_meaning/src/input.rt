@@ -6,7 +6,7 @@ use hs_base::{Bytes, Numbers};
 use std::marker::Model;
 
 /// The low 32 bits of each answer word, as a list. Contracts see the list.
-#[derive(Debug, Drop)]
+#[derive(Drop)]
 pub struct Words {
     vec: Vec<u32>,
 }
@@ -34,7 +34,7 @@ impl Words {
 }
 
 /// What a run is given from outside. It is the same on every heap.
-#[derive(Debug, Drop)]
+#[derive(Drop)]
 pub struct Input {
     /// What `getchar` reads.
     pub bytes: Bytes,

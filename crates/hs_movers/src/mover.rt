@@ -14,7 +14,7 @@ use std::alloc::Global;
 pub(crate) const MOST_DECISIONS: u32 = 4_000_001;
 
 /// A call of a routine that moves or purges, as a mover sees it.
-#[derive(Clone, Copy, Debug, PartialEq, Eq)]
+#[derive(Clone, Copy)]
 pub struct MoverCall {
     /// The number of the decision, from 1.
     pub number: u64,

@@ -6,7 +6,7 @@ use hs_heap::Decision;
 use std::marker::Model;
 
 /// Decisions, one after the other. Contracts see the list.
-#[derive(Debug, Drop)]
+#[derive(Drop)]
 pub struct Decisions {
     vec: Vec<Decision>,
 }
@@ -37,7 +37,7 @@ impl Decisions {
 }
 
 /// What a mover is told to do: decision by decision, or by a seed.
-#[derive(Debug, Drop)]
+#[derive(Drop)]
 pub struct Script {
     /// What a mover that draws its decisions starts from.
     pub seed: u64,

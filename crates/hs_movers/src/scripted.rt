@@ -10,7 +10,7 @@ use std::alloc::Global;
 use std::collections::VecDeque;
 
 /// Gives the decisions of the script that was loaded last, and then no block. Its number is 2.
-#[derive(Debug, Drop)]
+#[derive(Drop)]
 pub struct Scripted {
     /// Those that are still to come.
     decisions: VecDeque<Decision>,

@@ -12,7 +12,7 @@ use hs_heap::{Decision, Which};
 use std::alloc::Global;
 
 /// Moves all blocks, purges all, both or neither, as a generator of numbers says. Its number is 3.
-#[derive(Debug, Drop)]
+#[derive(Drop)]
 pub struct Seeded {
     state: u64,
     /// How many decisions it still tells.

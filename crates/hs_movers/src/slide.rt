@@ -11,7 +11,7 @@ use hs_heap::{Decision, Which};
 use std::alloc::Global;
 
 /// Moves every block that may move, at each call. Its number is 1.
-#[derive(Debug, Drop)]
+#[derive(Drop)]
 pub struct Slide {
     /// How many decisions it still tells.
     left: u32,

@@ -9,7 +9,7 @@ use hs_heap::{Decision, Which};
 use std::alloc::Global;
 
 /// Moves and purges nothing. Its number is 0.
-#[derive(Debug, Drop)]
+#[derive(Drop)]
 pub struct Still;
 
 impl Still {

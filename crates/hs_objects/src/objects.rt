@@ -19,7 +19,7 @@ const MOST_BYTES: usize = 16_777_216;
 const MOST_OBJECTS: usize = 4_294_967_295;
 
 /// The objects of a run, numbered from 0 in the order in which they were made. A number is never used again. Contracts see the list.
-#[derive(Debug, Drop)]
+#[derive(Drop)]
 pub struct Objects {
     alloc: Global,
     items: Vec<Object>,

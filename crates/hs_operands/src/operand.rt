@@ -7,7 +7,7 @@ use hs_base::Bytes;
 use hs_tree::{Head, Lvalue, Rvalue};
 
 /// What a call of a function is bound to.
-#[derive(Clone, Copy, Debug, PartialEq, Eq)]
+#[derive(Clone, Copy, PartialEq, Eq)]
 pub enum Bound {
     /// A function that is defined, by its place among the functions of the program.
     Function(u32),

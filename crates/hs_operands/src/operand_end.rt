@@ -8,7 +8,7 @@ use hs_tokens::Place;
 use std::alloc::AllocFailed;
 
 /// Why operands have no typed expression.
-#[derive(Clone, Copy, Debug, PartialEq, Eq)]
+#[derive(Clone, Copy)]
 pub enum OperandEnd {
     /// An operand has a type that the operator does not take. At the operator.
     Untyped(Place),

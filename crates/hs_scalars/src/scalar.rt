@@ -3,7 +3,7 @@
 use hs_types::{FieldId, TypeId};
 
 /// A number or a pointer inside an object: its byte, its type, and the field that it is, if it is one.
-#[derive(Clone, Copy, Debug, PartialEq, Eq)]
+#[derive(Clone, Copy, PartialEq, Eq)]
 pub struct Scalar {
     /// The byte from the start of the object at which it lies.
     pub offset: u32,

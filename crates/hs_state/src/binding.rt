@@ -8,7 +8,7 @@ use hs_values::Value;
 use std::marker::Model;
 
 /// Where a variable is.
-#[derive(Debug, Drop)]
+#[derive(Drop)]
 enum Home {
     /// In a slot that was given no value yet.
     Empty,
@@ -19,7 +19,7 @@ enum Home {
 }
 
 /// What a variable is: a slot with one value, or an object. Contracts see the binding of the definitions.
-#[derive(Debug, Drop)]
+#[derive(Drop)]
 pub struct Binding {
     home: Home,
 }

@@ -6,7 +6,7 @@ ghost use Rattle.hs_statements.specs.Statements.{looping, switching, in_function
 use hs_types::TypeId;
 
 /// What is around a statement.
-#[derive(Clone, Copy, Debug, PartialEq, Eq)]
+#[derive(Clone, Copy)]
 pub(crate) struct Setting {
     /// The type that the function returns.
     pub(crate) result: TypeId,

@@ -6,7 +6,7 @@ ghost use Rattle.hs_syntax.specs.Operators.{binary_text, precedence_of, assign_t
 use hs_tokens::Place;
 
 /// A binary operator (X3.159-1989 3.3.5 to 3.3.14).
-#[derive(Clone, Copy, Debug, PartialEq, Eq)]
+#[derive(Clone, Copy)]
 pub enum BinaryOperator {
     Multiply,
     Divide,
@@ -80,7 +80,7 @@ impl BinaryOperator {
 }
 
 /// An assignment operator (3.3.16): `=`, or an operation and `=`.
-#[derive(Clone, Copy, Debug, PartialEq, Eq)]
+#[derive(Clone, Copy)]
 pub enum AssignOperator {
     Plain,
     Multiply,
@@ -117,7 +117,7 @@ impl AssignOperator {
 }
 
 /// An operator in front of its operand (3.3.3).
-#[derive(Clone, Copy, Debug, PartialEq, Eq)]
+#[derive(Clone, Copy)]
 pub enum PrefixOperator {
     Increment,
     Decrement,
@@ -148,7 +148,7 @@ impl PrefixOperator {
 }
 
 /// `++` or `--` after its operand (3.3.2.4).
-#[derive(Clone, Copy, Debug, PartialEq, Eq)]
+#[derive(Clone, Copy)]
 pub enum PostfixOperator {
     Increment,
     Decrement,
@@ -186,7 +186,7 @@ impl Access {
 }
 
 /// A storage word that is kept (3.5.1).
-#[derive(Clone, Copy, Debug, PartialEq, Eq)]
+#[derive(Clone, Copy, Debug)]
 pub enum Storage {
     Typedef,
     Extern,
@@ -232,7 +232,7 @@ impl Dropped {
 }
 
 /// A word of a basic type (3.5.2).
-#[derive(Clone, Copy, Debug, PartialEq, Eq)]
+#[derive(Clone, Copy)]
 pub enum Basic {
     Void,
     Char,

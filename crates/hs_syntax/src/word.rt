@@ -4,7 +4,7 @@ use hs_base::Bytes;
 use hs_tokens::Place;
 
 /// An identifier, a constant or a string literal: its text and its place.
-#[derive(Debug, Drop)]
+#[derive(Drop)]
 pub struct Word {
     pub text: Bytes,
     pub place: Place,

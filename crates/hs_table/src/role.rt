@@ -1,7 +1,7 @@
 //! The roles of routines.
 
 /// What a routine does to blocks, input and output.
-#[derive(Clone, Copy, Debug, PartialEq, Eq)]
+#[derive(Clone, Copy, Debug)]
 pub enum Role {
     /// Takes a number of bytes. Makes a relocatable block of that size, and returns its handle or NIL.
     NewHandle,

@@ -4,7 +4,7 @@ use crate::Role;
 use hs_base::Bytes;
 
 /// A routine, and what a call of it may do.
-#[derive(Debug, Drop)]
+#[derive(Drop)]
 pub struct Routine {
     pub name: Bytes,
     pub role: Role,

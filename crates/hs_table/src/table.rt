@@ -6,7 +6,7 @@ use crate::Routine;
 use std::marker::Model;
 
 /// The table of routines, in the order of their names. Contracts see the list. A routine's number is its place, from 0.
-#[derive(Debug, Drop)]
+#[derive(Drop)]
 pub struct Table {
     routines: Vec<Routine>,
 }

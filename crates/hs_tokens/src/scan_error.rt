@@ -7,7 +7,7 @@ use hs_base::{Limit, Pos};
 use std::alloc::{AllocError, AllocFailed};
 
 /// Why a text has no tokens: the first place where, from its start.
-#[derive(Clone, Copy, Debug, PartialEq, Eq)]
+#[derive(Clone, Copy, Debug)]
 pub enum ScanError {
     /// A byte that no token may have there, at that byte; a malformed escape or one that exceeds a byte, at its backslash; a
     /// character constant of more than four bytes, at its opening quote; a counted string of more than 255 bytes, at the

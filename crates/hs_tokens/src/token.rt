@@ -6,7 +6,7 @@ use hs_base::{Bytes, Pos};
 use std::alloc::{AllocError, Global};
 
 /// What a token is (X3.159-1989 3.1). A keyword is an identifier here.
-#[derive(Clone, Copy, Debug, PartialEq, Eq)]
+#[derive(Clone, Copy)]
 pub enum TokenKind {
     /// An identifier or a keyword (3.1.1, 3.1.2).
     Identifier,
@@ -21,7 +21,7 @@ pub enum TokenKind {
 }
 
 /// A token of a text.
-#[derive(Debug, Drop)]
+#[derive(Drop)]
 pub struct Token {
     pub kind: TokenKind,
     /// Its bytes, without splices.
@@ -57,7 +57,7 @@ pub enum Origin {
 }
 
 /// A token of a unit, and where it comes from.
-#[derive(Debug, Drop)]
+#[derive(Drop)]
 pub struct SourceToken {
     pub token: Token,
     pub origin: Origin,

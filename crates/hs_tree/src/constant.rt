@@ -6,7 +6,7 @@ use hs_types::{FieldId, TypeId};
 use std::marker::Model;
 
 /// An object of static storage duration that an address constant points into.
-#[derive(Clone, Copy, Debug, PartialEq, Eq)]
+#[derive(Clone, Copy, PartialEq, Eq)]
 pub enum Base {
     /// A file-scope object or a static local, by its place among those of the program.
     Global(u32),
@@ -15,7 +15,7 @@ pub enum Base {
 }
 
 /// The value of a constant expression (3.4).
-#[derive(Clone, Copy, Debug, PartialEq, Eq)]
+#[derive(Clone, Copy, PartialEq, Eq)]
 pub enum Constant {
     /// A number, as 32 bits.
     Number(u32),
@@ -26,7 +26,7 @@ pub enum Constant {
 }
 
 /// What one scalar of an object starts with.
-#[derive(Clone, Copy, Debug, PartialEq, Eq)]
+#[derive(Clone, Copy)]
 pub struct Part {
     /// The byte of the object at which the scalar lies.
     pub offset: u32,

@@ -8,7 +8,7 @@ use hs_tokens::Place;
 use hs_types::{Row, TypeId, Types};
 
 /// What each expression starts with: its position and origin, and its type.
-#[derive(Clone, Copy, Debug, PartialEq, Eq)]
+#[derive(Clone, Copy)]
 pub struct Head {
     pub at: Place,
     /// Its type.

@@ -76,7 +76,7 @@ pub struct Labelled {
 }
 
 /// A label of a switch.
-#[derive(Clone, Copy, Debug, PartialEq, Eq)]
+#[derive(Clone, Copy)]
 pub enum Label {
     /// The constant, as 32 bits of the type of the controlling expression.
     Case { at: Place, bits: u32 },

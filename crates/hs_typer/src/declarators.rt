@@ -19,7 +19,7 @@ use hs_types::{ListId, Parameters, Row, TypeEnd, TypeId, Types};
 use std::alloc::Global;
 
 /// What a declarator derives from a type.
-#[derive(Clone, Copy, Debug, PartialEq, Eq)]
+#[derive(Clone, Copy)]
 pub enum Derivation {
     Pointer,
     /// An array of so many elements.

@@ -10,7 +10,7 @@ use std::alloc::Global;
 use std::marker::Model;
 
 /// Where a body begins: its `{`, and how many bodies of the unit began there before it. A file that is included twice has two.
-#[derive(Clone, Copy, Debug, PartialEq, Eq, Hash)]
+#[derive(Clone, Copy, PartialEq, Eq, Hash)]
 pub struct Brace {
     /// The number of the file.
     pub file: u16,

@@ -13,7 +13,7 @@ use hs_types::{Integer, TypeId};
 use std::alloc::Global;
 
 /// The words of basic types that a list of specifiers has (3.5.2).
-#[derive(Clone, Copy, Debug, PartialEq, Eq)]
+#[derive(Clone, Copy)]
 pub struct Words {
     pub void: bool,
     pub char: bool,
@@ -27,7 +27,7 @@ pub struct Words {
 }
 
 /// What a list of specifiers says.
-#[derive(Clone, Copy, Debug, PartialEq, Eq)]
+#[derive(Clone, Copy)]
 pub struct Specifiers {
     pub words: Words,
     /// The type of a struct, an enumeration or a typedef name, if there is one.

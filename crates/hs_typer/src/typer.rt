@@ -13,7 +13,7 @@ use hs_types::{FieldId, TypeId, Types};
 use std::alloc::Global;
 
 /// What a name of the space of ordinary names means (X3.159-1989 3.1.2.3).
-#[derive(Clone, Copy, Debug, PartialEq, Eq)]
+#[derive(Clone, Copy, PartialEq, Eq)]
 pub enum Entity {
     /// An enumeration constant, as 32 bits.
     Constant(u32),
@@ -26,21 +26,21 @@ pub enum Entity {
 }
 
 /// What a tag means: a struct or an enumeration, by its number in the table of types.
-#[derive(Clone, Copy, Debug, PartialEq, Eq)]
+#[derive(Clone, Copy)]
 pub enum Tag {
     Struct(u32),
     Enumeration(u32),
 }
 
 /// What the program takes the address of.
-#[derive(Clone, Copy, Debug, PartialEq, Eq)]
+#[derive(Clone, Copy)]
 pub enum Taken {
     Variable(Variable),
     Field(FieldId),
 }
 
 /// A call of a routine: the routine, by its place in the table, and the type of its declaration.
-#[derive(Clone, Copy, Debug, PartialEq, Eq)]
+#[derive(Clone, Copy)]
 pub struct RoutineCall {
     pub routine: u32,
     /// The type of the function.

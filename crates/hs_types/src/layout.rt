@@ -9,7 +9,7 @@ use crate::Integer;
 pub(crate) const MOST_BYTES: u32 = 16_777_216;
 
 /// What an object of a type takes in memory.
-#[derive(Clone, Copy, Debug, PartialEq, Eq, Hash)]
+#[derive(Clone, Copy, PartialEq, Eq, Hash)]
 pub struct Layout {
     /// Its size in bytes.
     pub size: u32,

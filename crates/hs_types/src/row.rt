@@ -12,7 +12,7 @@ pub struct TypeId {
 }
 
 /// Names a list of parameter types: its row in the table of such lists.
-#[derive(Clone, Copy, Debug, PartialEq, Eq, Hash)]
+#[derive(Clone, Copy, PartialEq, Eq, Hash)]
 pub struct ListId {
     pub number: u32,
 }
@@ -25,7 +25,7 @@ pub struct FieldId {
 }
 
 /// A type (X3.159-1989 3.1.2.5), without the qualifiers, which mean nothing here.
-#[derive(Clone, Copy, Debug, PartialEq, Eq, Hash)]
+#[derive(Clone, Copy, PartialEq, Eq, Hash)]
 pub enum Row {
     Void,
     Integer(Integer),
@@ -49,7 +49,7 @@ pub enum Row {
 }
 
 /// The types of the parameters of a function: the first, and the list of the others.
-#[derive(Clone, Copy, Debug, PartialEq, Eq, Hash)]
+#[derive(Clone, Copy, PartialEq, Eq, Hash)]
 pub enum Parameters {
     Empty,
     More { first: TypeId, others: ListId },

@@ -6,7 +6,7 @@ use hs_heap::Cell;
 use std::marker::Model;
 
 /// Cells, one after the other. Contracts see the list.
-#[derive(Debug, Drop)]
+#[derive(Drop)]
 pub struct Cells {
     vec: Vec<Cell>,
 }

@@ -17,7 +17,7 @@ use std::alloc::Global;
 use std::marker::Model;
 
 /// What a value is. A pointer into a block is written out, so that a value takes 24 bytes.
-#[derive(Debug, Drop)]
+#[derive(Drop)]
 pub(crate) enum Held {
     /// A number, as 32 bits.
     Number(u32),
@@ -56,7 +56,7 @@ fn of_kind(kind: Option<Integer>, bits: u32) -> u32
 }
 
 /// A value of the machine: a number, a pointer, a state byte or the cells of a struct. Contracts see the value of the definitions.
-#[derive(Debug, Drop)]
+#[derive(Drop)]
 pub struct Value {
     pub(crate) held: Held,
 }

@@ -3,14 +3,14 @@
 use std::alloc::AllocError;
 
 /// What the words ask for.
-#[derive(Debug, Drop)]
+#[derive(Drop)]
 pub enum Command {
     /// A check of the named files.
     Check(Vec<String>),
 }
 
 /// Why the words ask for nothing.
-#[derive(Clone, Copy, Debug, PartialEq, Eq)]
+#[derive(Clone, Copy)]
 pub enum WordsError {
     /// The first word is no command, or the command refuses the words. A request for help is refused too.
     Usage,

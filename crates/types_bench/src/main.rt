@@ -4,7 +4,7 @@
 ghost use Rattle.std.specs.Prelude.{IfOk, OnOk};
 ghost use Rattle.hs_types.specs.TypeTables.{basic_types, Grows};
 
-use hs_types::{Integer, TypeEnd, TypeId, Types};
+use hs_types::{Integer, Row, TypeEnd, TypeId, Types};
 use std::alloc::Global;
 use std::{env, io};
 
@@ -39,10 +39,15 @@ fn main(rt: HostRuntime) -> io::Result<()> {
         };
         match table_of(rt.alloc(), count) {
             Ok(types) => {
-                let last = types.row(TypeId {
+                let last = TypeId {
                     number: count.saturating_add(11),
-                });
-                println!(rt; "{count} arrays, the last is {last:?}")?;
+                };
+                match types.row(last) {
+                    Some(Row::Array { length, .. }) => {
+                        println!(rt; "{count} arrays, the last has {length} elements")?
+                    }
+                    _ => println!(rt; "{count} arrays, the last is not found")?,
+                }
             }
             Err(end) => println!(rt; "{count} arrays, {end:?}")?,
         }

@@ -6,7 +6,7 @@ use crate::straight::{Step, Variable};
 use std::marker::Model;
 
 /// The declared variables of a straight program, in the order of the text. Contracts see the list.
-#[derive(Debug, Drop)]
+#[derive(Drop)]
 pub struct Variables {
     vec: Vec<Variable>,
 }
@@ -37,7 +37,7 @@ impl Variables {
 }
 
 /// The steps of a straight program, in the order of the text. Contracts see the list.
-#[derive(Debug, Drop)]
+#[derive(Drop)]
 pub struct Steps {
     vec: Vec<Step>,
 }

@@ -7,7 +7,7 @@ use crate::straight::{Steps, Variables};
 use hs_base::{Bytes, Pos};
 
 /// What a variable of a straight program holds.
-#[derive(Clone, Copy, Debug, PartialEq, Eq)]
+#[derive(Clone, Copy, Debug)]
 pub enum Kind {
     /// `char **`: a handle.
     Handle,
@@ -55,7 +55,7 @@ pub enum Step {
 }
 
 /// The tree of a straight program.
-#[derive(Debug, Drop)]
+#[derive(Drop)]
 pub struct Straight {
     pub variables: Variables,
     pub steps: Steps,
