@@ -27,26 +27,29 @@ fn value_of(alloc: Global, text: &str) -> Result<Option<Value>, Refusal> {
     Ok(condition_value(alloc, &tokens)?)
 }
 
-/// The value of the condition that a text is: whether it divides by 0 or is unsigned, if the kind asks for that alone.
-pub fn condition(alloc: Global, kind: &str, text: &str) -> Result<String, Refusal> {
-    let Some(
-        Value {
-            bits,
-            unsigned,
-            fails,
-        },
-    ) = value_of(alloc, text)?
-    else {
-        return Ok("none".to_string(alloc)?);
-    };
+/// A value in words: whether it divides by 0 or is unsigned, if the kind asks for that alone.
+fn described(alloc: Global, kind: &str, value: Value) -> Result<String, AllocError> {
+    let Value {
+        bits,
+        unsigned,
+        fails,
+    } = value;
     let sign = if unsigned { "unsigned" } else { "signed" };
-    let division = if fails { "by 0" } else { "no" };
-    Ok(match kind {
-        "sign" => sign.to_string(alloc)?,
-        "division" => division.to_string(alloc)?,
-        _ if fails => format!(in alloc; "{bits} {sign}, divides by 0")?,
-        _ => format!(in alloc; "{bits} {sign}")?,
-    })
+    match kind {
+        "sign" => sign.to_string(alloc),
+        "division" if fails => "by 0".to_string(alloc),
+        "division" => "no".to_string(alloc),
+        _ if fails => format!(in alloc; "{bits} {sign}, divides by 0"),
+        _ => format!(in alloc; "{bits} {sign}"),
+    }
+}
+
+/// The value of the condition that a text is, in words of that kind.
+pub fn condition(alloc: Global, kind: &str, text: &str) -> Result<String, Refusal> {
+    match value_of(alloc, text)? {
+        Some(value) => Ok(described(alloc, kind, value)?),
+        None => Ok("none".to_string(alloc)?),
+    }
 }
 
 /// The value of an integer constant, its base, and the types that its suffix names.
@@ -68,34 +71,33 @@ fn character(alloc: Global, text: &[u8]) -> Result<String, AllocError> {
     }
 }
 
-/// The bytes of a string literal; or how many they are, and the first four.
-fn string(alloc: Global, kind: &str, text: &[u8]) -> Result<String, Refusal> {
-    let Some(bytes) = string_value(alloc, text)? else {
-        return Ok("none".to_string(alloc)?);
-    };
-    let bytes = bytes.items();
+/// The bytes of a string literal; or how many they are, and the first four, if the kind asks for that.
+fn string(alloc: Global, kind: &str, bytes: &[u8]) -> Result<String, AllocError> {
     let mut words = String::new(alloc);
-    if kind == "front" {
-        write!(words, "{}: ", bytes.len())?;
+    if kind == "string" {
+        push_bytes(&mut words, bytes)?;
+        return Ok(words);
     }
-    let shown = if kind == "front" {
-        bytes.get(..4).unwrap_or(bytes)
-    } else {
-        bytes
-    };
-    push_bytes(&mut words, shown)?;
+    write!(words, "{}: ", bytes.len())?;
+    push_bytes(&mut words, bytes.get(..4).unwrap_or(bytes))?;
     Ok(words)
 }
 
-/// The value of the constant of that kind that a text is. With a string, whether it is said to have a value.
+/// The value of a string literal, and whether it is said to have one.
+fn literal(alloc: Global, kind: &str, text: &[u8]) -> Result<String, Refusal> {
+    let words = match string_value(alloc, text)? {
+        Some(bytes) => string(alloc, kind, bytes.items())?,
+        None => "none".to_string(alloc)?,
+    };
+    Ok(format!(in alloc; "{words}; {}", has_string_value(text))?)
+}
+
+/// The value of the constant of that kind that a text is.
 pub fn constant(alloc: Global, kind: &str, text: &str) -> Result<String, Refusal> {
     let text = bytes_of(alloc, text)?;
     match kind {
         "number" => Ok(number(alloc, &text)?),
         "character" => Ok(character(alloc, &text)?),
-        _ => {
-            let words = string(alloc, kind, &text)?;
-            Ok(format!(in alloc; "{words}; {}", has_string_value(&text))?)
-        }
+        _ => literal(alloc, kind, &text),
     }
 }

@@ -42,13 +42,12 @@ fn listing_of(alloc: Global, text: &str) -> Result<Vec<File>, AllocError> {
     Ok(listing)
 }
 
-/// The numbers of the reads that fail: that of the option `@failing`.
-fn failing_of(alloc: Global, text: &str) -> Result<Vec<u64>, AllocError> {
-    let mut numbers = Vec::new(alloc);
-    if let Some(number) = option(text, "@failing ") {
-        numbers.push(number.parse::<u64>().unwrap_or(0))?;
-    }
-    Ok(numbers)
+/// The files of a text in memory. The read whose number the option `@failing` says fails; without it, none does, as reads
+/// count from 1.
+fn files_of(alloc: Global, text: &str) -> Result<MemFiles, AllocError> {
+    let number = option(text, "@failing ").unwrap_or("").parse().unwrap_or(0);
+    let failing = vec![in alloc; number]?;
+    Ok(MemFiles::new(listing_of(alloc, text)?, failing))
 }
 
 /// The roots that the option `@roots` names, or `m.c`.
@@ -194,13 +193,10 @@ fn described(alloc: Global, kind: &str, source: &Source) -> Result<String, Alloc
 }
 
 /// What the roots of a text are read as, in words of that kind.
-fn read(
-    alloc: Global,
-    kind: &str,
-    files: &mut MemFiles,
-    roots: &[String],
-) -> Result<String, AllocError> {
-    match preprocess(alloc, files, roots) {
+fn read(alloc: Global, kind: &str, text: &str) -> Result<String, AllocError> {
+    let roots = roots_of(alloc, text)?;
+    let mut files = files_of(alloc, text)?;
+    match preprocess(alloc, &mut files, &roots) {
         Ok(source) => described(alloc, kind, &source),
         Err(error) => refusal(alloc, &error),
     }
@@ -210,9 +206,5 @@ fn read(
 pub fn answer(alloc: Global, kind: &str, text: &str) -> Result<String, Refusal> {
     let bytes = bytes_of(alloc, text)?;
     let text = String::from_utf8_lossy(alloc, &bytes)?;
-    let listing = listing_of(alloc, text.as_str())?;
-    let failing = failing_of(alloc, text.as_str())?;
-    let roots = roots_of(alloc, text.as_str())?;
-    let mut files = MemFiles::new(listing, failing);
-    Ok(read(alloc, kind, &mut files, &roots)?)
+    Ok(read(alloc, kind, text.as_str())?)
 }

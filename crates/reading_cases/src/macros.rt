@@ -24,12 +24,13 @@ fn define_all(alloc: Global, macros: &mut Macros, lines: &str) -> Result<(), Ref
 /// Does what the options `@define`, `@refused` and `@undef` of a text say, one after the other.
 fn prepare(alloc: Global, macros: &mut Macros, text: &str) -> Result<(), Refusal> {
     for line in text.split('\n') {
-        if let Some(lines) = line.strip_prefix("@define ") {
-            define_all(alloc, macros, lines)?;
-        } else if let Some(line) = line.strip_prefix("@refused ") {
-            let _ = define(alloc, macros, line);
-        } else if let Some(name) = line.strip_prefix("@undef ") {
-            macros.undef(name.as_bytes());
+        match parted(line, " ") {
+            ("@define", lines) => define_all(alloc, macros, lines)?,
+            ("@undef", name) => macros.undef(name.as_bytes()),
+            ("@refused", line) => {
+                let _ = define(alloc, macros, line);
+            }
+            _ => {}
         }
     }
     Ok(())

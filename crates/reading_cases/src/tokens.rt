@@ -56,17 +56,27 @@ fn places(alloc: Global, tokens: &[Token]) -> Result<String, AllocError> {
     Ok(words)
 }
 
-/// What a text of that kind is answered by. Its option `@room` says for how many tokens there is room.
+/// What tokens are in words of that kind.
+fn described(alloc: Global, kind: &str, tokens: &[Token]) -> Result<String, AllocError> {
+    match kind {
+        "tokens" => spelled(alloc, tokens),
+        "places" => places(alloc, tokens),
+        "count" => format!(in alloc; "{}", tokens.len()),
+        _ => "none".to_string(alloc),
+    }
+}
+
+/// The room that the option `@room` of a text says.
+fn room_of(text: &str) -> usize {
+    option(text, "@room ").unwrap_or("").parse().unwrap_or(100)
+}
+
+/// What a text of that kind is answered by.
 pub fn answer(alloc: Global, kind: &str, text: &str) -> Result<String, Refusal> {
-    let room = option(text, "@room ").and_then(|room| room.parse::<usize>().ok());
-    let text = without_options(alloc, text)?;
-    let found = scanned(alloc, text.as_str(), room.unwrap_or(100));
-    match (kind, found) {
-        ("places", Err(_)) => Ok(String::new(alloc)),
-        (_, Err(refusal)) => Err(refusal),
-        ("tokens", Ok(tokens)) => Ok(spelled(alloc, &tokens)?),
-        ("places", Ok(tokens)) => Ok(places(alloc, &tokens)?),
-        ("count", Ok(tokens)) => Ok(format!(in alloc; "{}", tokens.len())?),
-        (_, Ok(_)) => Ok("none".to_string(alloc)?),
+    let lines = without_options(alloc, text)?;
+    match scanned(alloc, lines.as_str(), room_of(text)) {
+        Ok(tokens) => Ok(described(alloc, kind, &tokens)?),
+        Err(_) if kind == "places" => Ok(String::new(alloc)),
+        Err(refusal) => Err(refusal),
     }
 }
