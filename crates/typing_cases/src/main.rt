@@ -19,8 +19,8 @@ use std::alloc::{AllocError, Global};
 use std::rt::Files;
 use std::{env, fs, io};
 
-/// What is answered to an expression.
-fn of_expression(alloc: Global, it: &Case<'_>) -> Result<String, Refusal> {
+/// What is answered to a case. `README.md` has the kinds.
+fn answer(alloc: Global, it: &Case<'_>) -> Result<String, Refusal> {
     match it.kind {
         "type" => expressions::answer(alloc, Asked::Type, it.text),
         "constant" => expressions::answer(alloc, Asked::Constant, it.text),
@@ -29,13 +29,6 @@ fn of_expression(alloc: Global, it: &Case<'_>) -> Result<String, Refusal> {
         "string" => expressions::answer(alloc, Asked::Text, it.text),
         "routine" => expressions::answer(alloc, Asked::Routine, it.text),
         "null-test" => expressions::answer(alloc, Asked::NullTest, it.text),
-        _ => Err(Why::Unread.into()),
-    }
-}
-
-/// What is answered to a declaration, an initialiser, a statement or functions.
-fn of_declaration(alloc: Global, it: &Case<'_>) -> Result<String, Refusal> {
-    match it.kind {
         "objects" => declarations::objects(alloc, it.text),
         "constants" => initialisers::constants(alloc, it.text),
         "value" => initialisers::value(alloc, it.text),
@@ -44,20 +37,13 @@ fn of_declaration(alloc: Global, it: &Case<'_>) -> Result<String, Refusal> {
         "functions" => functions::count(alloc, it.text),
         "variables" => functions::variables(alloc, it.text),
         "marks" => functions::marks(alloc, it.text),
-        _ => of_expression(alloc, it),
-    }
-}
-
-/// What is answered to a case.
-fn answer(alloc: Global, it: &Case<'_>) -> Result<String, Refusal> {
-    match it.kind {
         "main" => programs::main_of(alloc, it.text),
         "program" => programs::is_one(alloc, it.text),
         "sizes" => programs::sizes(alloc, it.text),
         "fields" => programs::fields(alloc, it.text),
         "structs" => programs::structs(alloc, it.text),
         "routines" => programs::routines(alloc, it.text),
-        _ => of_declaration(alloc, it),
+        _ => Err(Why::Unread.into()),
     }
 }
 
