@@ -1,7 +1,7 @@
 //! Movers and texts of scripts, by hand.
 
 ghost use Rattle.std.specs.Prelude.{◌≡◌, IfOk};
-ghost use Rattle.hs_movers.specs.Movers.{Decides};
+ghost use Rattle.hs_movers.specs.Movers.{Decides, no_block};
 ghost use Rattle.hs_movers.specs.ScriptTexts.{IsPrintable};
 ghost use Rattle.hs_heap.specs.declared.decision.Which.TheVariants.{These};
 
@@ -23,7 +23,9 @@ const CALL: MoverCall = MoverCall {
 };
 
 /// A decision that names no block.
-fn no_block(alloc: Global) -> Decision {
+fn no_block(alloc: Global) -> Decision
+    ensures { result ≡ no_block }
+{
     Decision {
         moves: Which::These(Numbers::from_vec(Vec::new(alloc))),
         purges: Which::These(Numbers::from_vec(Vec::new(alloc))),
