@@ -3,5 +3,6 @@ pub mod Lists
 pub mod Numerals
 pub mod Pieces
 pub mod Printed
+mod Rows
 pub mod ScriptTextLaws
 pub mod Told
