@@ -1,6 +1,6 @@
 use Rattle.std.proofs.Common.{◌≡◌, map, take}
 use Rattle.std.specs.String.{string_bytes}
-use Rattle.hs_words.proofs.words.copies.Given as goal
+use Rattle.hs_words.proofs.values.copies.Given as goal
 
 -- the names so far
 abbrev pub invariant-values : goal.invariant-values

@@ -1,13 +1,11 @@
 -- The command that is built is `check_command`.
-use Rattle.std.proofs.Common.{◌≡◌, ap, ap₂, codes, map, refl, subst, true, ◌∙◌, rules}
+use Rattle.std.proofs.Common.{◌≡◌, ap, ap₂, map, refl, subst, true, ◌∙◌}
 use Rattle.std.specs.Prelude.{IfOk}
 use Rattle.std.specs.String.{string_bytes}
 use Rattle.std.proofs.lemmas.Result.{IfOk-weaker}
-use Rattle.clap.specs.Lexer.{usize_max}
-use Rattle.clap.specs.Words.{App, FailsBy, app_of, fault_of, found_of, matches_of, rows_of, rule_of, is_simple, is_simple_and_free, new_rule, with_rule}
-use Rattle.hs_words.specs.Words.{check_command, file_rule}
-use Rattle.hs_words.proofs.Building.{required_rule}
-use Rattle.hs_words.proofs.words.check_matches.Goals as goal
+use Rattle.clap.specs.Words.{App, FailsBy, app_of, fault_of, found_of, matches_of, rows_of, is_simple, is_simple_and_free, with_rule}
+use Rattle.hs_words.specs.Words.{check_command}
+use Rattle.hs_words.proofs.check.check_matches.Goals as goal
 
 -- the command is simple, and its argument has no rule on another
 is_free : is_simple_and_free check_command ≡ true
@@ -18,12 +16,7 @@ is_plain = refl
 
 -- the command that was built is the one that is stated
 built : (c : goal.After-try_get_matches_from) → app_of c.in_ok-command.command ≡ check_command
-built c =
-    let id_is : rule_of c.new.result ≡ new_rule (codes "FILE") = c.new.ensures.rule in
-    let file_is : rule_of c.num_args-file.result ≡ file_rule =
-    required_rule (codes "FILE") c.new.result c.required.result c.num_args-file.result (record { start_inclusive = 1; end_inclusive = usize_max })
-    id_is c.required.ensures c.num_args-file.ensures.0 c.num_args-file.ensures.1 in
-    c.in_ok-command.ensures.shape (search rules) ∙ ap₂ with_rule c.new-2.ensures.app file_is
+built c = c.in_ok-command.ensures ∙ ap₂ with_rule c.new.ensures.app c.file.ensures.rule
 
 pub returns-clause-faults : goal.returns-clause-faults
 returns-clause-faults c =

@@ -6,7 +6,7 @@ use Rattle.std.specs.Borrow.{Bor}
 use Rattle.std.proofs.lemmas.Result.{IfOk-weaker}
 use Rattle.clap.specs.Words.{all_of, found_of, rows_of}
 use Rattle.hs_words.proofs.Building.{values_are}
-use Rattle.hs_words.proofs.words.names_of.Goals as goal
+use Rattle.hs_words.proofs.values.names_of.Goals as goal
 
 -- the texts after the references
 abbrev texts_of : Bor (List (Bor (List ℕ))) → List (List ℕ)
