@@ -6,10 +6,8 @@ pub mod Fine
 pub mod Marks
 pub mod Names
 pub mod Numbers
-pub mod Programs
 pub mod Rows
 pub mod SpelledSteps
 pub mod Staleness
 pub mod Steps
-pub mod Units
 pub mod Whole

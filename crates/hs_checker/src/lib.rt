@@ -4,5 +4,5 @@
 mod source;
 pub mod straight;
 
-pub use source::{SourceError, read_program};
+pub use source::straight_of;
 pub use straight::check;

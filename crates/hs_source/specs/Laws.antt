@@ -2,7 +2,7 @@
 use Rattle.std.specs.Prelude.{List, [], ◌∷◌}
 use Rattle.hs_tokens.specs.declared.token.SourceToken.{SourceToken}
 use Rattle.hs_syntax.specs.Trees.{TranslationUnit}
-use Rattle.hs_checker.specs.Source.{AreParsed, AreTrees}
+use Rattle.hs_source.specs.Source.{AreParsed, AreTrees}
 
 pub are_parsed : (units : List (List SourceToken)) (trees : List TranslationUnit) → AreTrees units trees → AreParsed units
 are_parsed [] [] are = tt

@@ -7,8 +7,8 @@ use Rattle.hs_syntax.specs.Nesting.{IsShallow}
 use Rattle.hs_syntax.specs.Trees.{TranslationUnit}
 use Rattle.hs_syntax.specs.Views.{view_unit}
 use Rattle.hs_syntax.specs.declared.unit.Unit.{Unit as Tree}
-use Rattle.hs_checker.specs.Laws.{are_parsed}
-use Rattle.hs_checker.specs.Source.{AreTrees, IsFirst}
+use Rattle.hs_source.specs.Laws.{are_parsed}
+use Rattle.hs_source.specs.Source.{AreTrees, IsFirst}
 
 -- after units with their trees, one more
 AreTrees-push : (before : List (List SourceToken)) (trees : List TranslationUnit) (tokens : List SourceToken) (tree : TranslationUnit)

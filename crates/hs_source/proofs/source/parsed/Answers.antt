@@ -5,8 +5,8 @@ use Rattle.hs_syntax.specs.Grammar.{IsUnit}
 use Rattle.hs_syntax.specs.Nesting.{IsShallow}
 use Rattle.hs_syntax.specs.Views.{view_unit}
 use Rattle.hs_decl_parser.specs.Units.{IsRefusedAt}
-use Rattle.hs_checker.proofs.Units.{AreTrees-more, IsFirst-at}
-use Rattle.hs_checker.proofs.source.parsed.Goals as goal
+use Rattle.hs_source.proofs.Units.{AreTrees-more, IsFirst-at}
+use Rattle.hs_source.proofs.source.parsed.Goals as goal
 
 -- it nests too deeply
 pub returns-in-Err-Limit : goal.returns-in-Err-Limit
