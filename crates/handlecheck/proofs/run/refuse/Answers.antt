@@ -1,4 +1,0 @@
-use Rattle.handlecheck.proofs.run.refuse.Goals as goal
-
-pub returns-in-Usage-clause-usage : goal.returns-in-Usage-clause-usage
-returns-in-Usage-clause-usage g c is = rw c.as_bytes.ensures.value at c.put.ensures

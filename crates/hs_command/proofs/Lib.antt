@@ -1,0 +1,12 @@
+pub mod Answering
+pub mod Calls
+pub mod Causes
+pub mod Outcomes
+pub mod RightReads
+pub mod RunCauses
+pub mod RunCounts
+pub mod RunOutcomes
+pub mod Runs
+pub mod Through
+pub mod Units
+pub mod Verdicts

@@ -1,0 +1,195 @@
+-- What the report of a run says, and what a call did. Own to this project.
+--     run_text report, run_status report     the text that is put for it, and its status
+--     IsRan ..                the run of a program, as it is shown
+--     IsGivenUpAs ..          a run that passed a limit
+--     IsRunOfSources ..       what the report says of the sources, once the table, the script and the input are there
+--     IsRunVerdict ..         what it says of all that was read
+--     IsRunAnswer             what a call did that runs a program
+--     IsAnswered              what a call did
+use Rattle.std.specs.Prelude.{◌≡◌, ◌⊎◌, ℕ, List, [], ◌++◌, codes, Option, Some, IfSome, IsSomeAnd, Ok, Err, slice_get}
+use Rattle.std.specs.Fmt.{decimal}
+use Rattle.hs_base.specs.Files.{Read}
+use Rattle.hs_base.specs.Reads.{AreRight}
+use Rattle.hs_directives.specs.Reads.{AreFirstReads, IsReadAs}
+use Rattle.hs_directives.specs.declared.source.Source.{Source}
+use Rattle.hs_heap.specs.declared.decision.Decision.{Decision}
+use Rattle.hs_machine.specs.Recording.{IsTold}
+use Rattle.hs_machine.specs.declared.transcript.MachineEnd.TheVariants as machine
+use Rattle.hs_machine.specs.declared.transcript.Transcript.{Transcript}
+use Rattle.hs_meaning.specs.Runs.{run}
+use Rattle.hs_meaning.specs.declared.input.Input.{Input}
+use Rattle.hs_meaning.specs.declared.outcome.Outcome.{Outcome}
+use Rattle.hs_meaning.specs.declared.outcome.Outcome.TheVariants.{Finished, Stopped, TurnsSpent}
+use Rattle.hs_meaning.specs.declared.outcome.Stop.{Stop}
+use Rattle.hs_meaning.specs.declared.outcome.Stop.TheVariants as stop
+use Rattle.hs_movers.specs.declared.script.Script.{Script}
+use Rattle.hs_run_text.specs.RunTexts as runs
+use Rattle.hs_runner.specs.Runs.{IsGivenUp, PassesOps}
+use Rattle.hs_settings.specs.Settings.{IsSettings}
+use Rattle.hs_settings.specs.declared.settings.Settings.{Settings}
+use Rattle.hs_settings.specs.declared.settings.SettingsError.{SettingsError}
+use Rattle.hs_settings.specs.declared.settings.SettingsError.TheVariants as given
+use Rattle.hs_source.specs.Source.{AreTyped}
+use Rattle.hs_table.specs.declared.routine.Routine.{Routine}
+use Rattle.hs_tree.specs.Trees.{TypedProgram}
+use Rattle.hs_words.specs.Words.{Asked, IsRun}
+use Rattle.hs_command.specs.Movers.{Telling, first_of, told_with}
+use Rattle.hs_command.specs.Names.{Names}
+use Rattle.hs_command.specs.Report.{Call, IsCheckAnswer, IsNoProgram, IsPutAs, Written, line, names_of, status_of, text_of}
+use Rattle.hs_command.specs.declared.report.Report.TheVariants.{Missing, Unread, Limited, NoMemory}
+use Rattle.hs_command.specs.declared.run_report.Ran.{Ran}
+use Rattle.hs_command.specs.declared.run_report.RunReport.{RunReport}
+use Rattle.hs_command.specs.declared.run_report.RunReport.TheVariants.{NotToml, BadVersion, BadEntry, BadScript, BadInput, Plain, Shown}
+use Rattle.hs_command.specs.declared.status.Status.{Status}
+use Rattle.hs_command.specs.declared.status.Status.TheVariants as status
+
+-- ---- the text and the status
+
+-- the text that is put for a report
+abbrev pub run_text : RunReport → List ℕ
+run_text NotToml = line (codes "error 16 NotToml")
+run_text BadVersion = line (codes "error 17 BadVersion")
+run_text (BadEntry name) = line (codes "error 18 BadEntry " ++ name)
+run_text (BadScript number) = line (codes "error 19 BadScript line " ++ decimal number)
+run_text (BadInput number) = line (codes "error 23 BadInput line " ++ decimal number)
+run_text (Plain report) = text_of report
+run_text (Shown ran) = ran.text
+
+-- the status of a stop: a stale pointer and a purged handle have one of their own
+abbrev pub status_of_stop : Stop → Status
+status_of_stop stop.Stale = status.RanStale
+status_of_stop stop.Purged = status.RanStale
+status_of_stop _ = status.RanStopped
+
+-- the status of a run by how it ended
+abbrev pub status_of_outcome : Outcome → Status
+status_of_outcome (Finished number) = status.Done
+status_of_outcome (Stopped why at) = status_of_stop why
+status_of_outcome TurnsSpent = status.RanOut
+
+-- the status of a report that was put whole
+abbrev pub run_status : RunReport → Status
+run_status NotToml = status.Refused
+run_status BadVersion = status.Refused
+run_status (BadEntry name) = status.Refused
+run_status (BadScript number) = status.Refused
+run_status (BadInput number) = status.Refused
+run_status (Plain report) = status_of report
+run_status (Shown ran) = status_of_outcome ran.outcome
+
+-- ---- what is said of the sources
+
+-- the name of the file in which a run was stopped, by its number; a run that was not stopped names none
+abbrev pub IsFileOf : List (List ℕ) → Outcome → List ℕ → Type 0
+IsFileOf names (Finished number) file = file ≡ []
+IsFileOf names (Stopped why at) file = slice_get names at.file ≡ Some file
+IsFileOf names TurnsSpent file = file ≡ []
+
+-- What was shown is the text of the run of that program with that input and so many turns, under the script that it shows. If the mover tells its
+-- decisions, the script is those.
+pub record ShowsRun (program : TypedProgram) (input : Input) (turns : ℕ) (told : Option (List Decision)) (names : List (List ℕ)) (ran : Ran) : Type 0 where
+  pub output : List ℕ
+  pub file : List ℕ
+  pub script : Script
+  pub is_run : run program input script.decisions turns ≡ record { output = output; outcome = ran.outcome }
+  pub is_told : IsTold told script.decisions
+  pub no_seed : script.seed ≡ 0
+  pub is_file : IsFileOf names ran.outcome file
+  pub is_text : ran.text ≡ runs.text_of output file ran.outcome script
+
+-- what a report says of the run of a program
+abbrev pub IsRunOfProgram : TypedProgram → Input → ℕ → Option (List Decision) → List (List ℕ) → RunReport → Type 0
+IsRunOfProgram program input turns told names (Shown ran) = ShowsRun program input turns told names ran
+-- the code, the output or the script passed its limit
+IsRunOfProgram program input turns told names (Plain (Limited limit)) =
+    PassesOps program limit ⊎ IsGivenUp program input turns told (machine.Limit limit)
+IsRunOfProgram program input turns told names (Plain NoMemory) = Unit {0}
+IsRunOfProgram program input turns told names _ = ⊥
+
+-- the same of the names that were noted
+abbrev pub IsFileIn : Names → Outcome → List ℕ → Type 0
+IsFileIn noted (Finished number) file = file ≡ []
+IsFileIn noted (Stopped why at) file = IsSomeAnd noted (λ names. slice_get names at.file ≡ Some file)
+IsFileIn noted TurnsSpent file = file ≡ []
+
+-- a transcript, as it is shown; or that memory ran out
+abbrev pub IsShownAs : Names → Transcript → RunReport → Type 0
+IsShownAs noted its (Shown ran) =
+    (ran.outcome ≡ its.outcome)
+    × ((file : List ℕ) × IsFileIn noted its.outcome file × (ran.text ≡ runs.text_of its.output file its.outcome its.script))
+IsShownAs noted its report = report ≡ Plain NoMemory
+
+-- the report of the run of a program, if the names that were noted are these
+abbrev pub IsReportOfRun : TypedProgram → Input → ℕ → Option (List Decision) → Names → RunReport → Type 0
+IsReportOfRun program input turns told noted report =
+    (names : List (List ℕ)) → IfSome noted (λ its. its ≡ names) → IsRunOfProgram program input turns told names report
+
+-- with that table the sources are a typed program, and the report says this of its run
+abbrev pub HaveRun : List Routine → Input → ℕ → Option (List Decision) → List (List ℕ) → List Read → RunReport → Type 0
+HaveRun table input turns told names reads report =
+    (source : Source) × IsReadAs reads names source
+    × ((program : TypedProgram) × AreTyped table source.units (Ok program) × IsRunOfProgram program input turns told (names_of reads) report)
+
+-- they are none
+abbrev pub HaveNoProgram : List Routine → List (List ℕ) → List Read → RunReport → Type 0
+HaveNoProgram table names reads (Plain report) = IsNoProgram table reads names report
+HaveNoProgram table names reads _ = ⊥
+
+-- what a report says of the sources
+abbrev pub IsRunOfSources : List Routine → Input → ℕ → Option (List Decision) → List (List ℕ) → List Read → RunReport → Type 0
+IsRunOfSources table input turns told names reads report =
+    AreFirstReads names reads × (HaveNoProgram table names reads report ⊎ HaveRun table input turns told names reads report)
+
+-- ---- what is said of all that was read
+
+-- the report of a table, a script or an input that is not there or is wrong
+abbrev pub report_of : SettingsError → RunReport
+report_of (given.Missing name) = Plain (Missing name)
+report_of (given.Unread name) = Plain (Unread name)
+report_of (given.Limit limit) = Plain (Limited limit)
+report_of given.NotToml = NotToml
+report_of given.BadVersion = BadVersion
+report_of (given.BadEntry name) = BadEntry name
+report_of (given.BadScript number) = BadScript number
+report_of (given.BadInput number) = BadInput number
+report_of given.NoMemory = Plain NoMemory
+
+-- the table, the script or the input is not there, or is wrong, and nothing else was read; or memory ran out for the line that says so
+abbrev pub HasNoSettings : Asked → List Read → RunReport → Type 0
+HasNoSettings it reads report =
+    (error : SettingsError) × IsSettings it reads (Err error) × ((report ≡ report_of error) ⊎ (report ≡ Plain NoMemory))
+
+-- they are there, and what follows is said of the reads after theirs
+pub record HasSettings (mover : Telling) (it : Asked) (reads : List Read) (report : RunReport) : Type 0 where
+  pub front : List Read
+  pub rest : List Read
+  pub settings : Settings
+  pub all : reads ≡ front ++ rest
+  pub is_given : IsSettings it front (Ok settings)
+  pub follows : IsRunOfSources settings.table settings.input it.turns (told_with settings.script mover) it.names rest report
+
+-- what a report says of all that was read
+abbrev pub IsRunVerdict : Telling → Asked → List Read → RunReport → Type 0
+IsRunVerdict mover it reads report = HasNoSettings it reads report ⊎ HasSettings mover it reads report
+
+-- ---- calls
+
+-- what a call did that runs a program: it made these reads, whose answers are right, and a report that is right was put
+pub record IsRunAnswer (call : Call) (answer : Status) : Type 0 where
+  pub right : AreRight call.told call.before call.now call.reads
+  pub it : Asked
+  pub is_run : IsRun call.words it
+  pub mover : Telling
+  pub chosen : first_of it.mover call.movers ≡ Some mover
+  pub report : RunReport
+  pub is_report : IsRunVerdict mover it call.reads report
+  pub is_put : IsPutAs (run_text report) (run_status report) call.old call.new answer
+
+-- the text of the report of a run was put, or the line that memory ran out
+abbrev pub IsPutRun : RunReport → Written → Written → Status → Type 0
+IsPutRun report before now answer =
+    IsPutAs (run_text report) (run_status report) before now answer ⊎ IsPutAs (text_of NoMemory) status.NoMemory before now answer
+
+-- what a call did: it ran a program, or it did not
+abbrev pub IsAnswered : Call → Status → Type 0
+IsAnswered call answer = IsCheckAnswer call answer ⊎ IsRunAnswer call answer
