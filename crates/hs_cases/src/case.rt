@@ -1,5 +1,6 @@
 //! The cases of a text.
 
+use crate::text::parted;
 use std::alloc::{AllocError, Global};
 
 /// A text, and what is to be answered to it.
@@ -11,11 +12,6 @@ pub struct Case<'a> {
     pub text: &'a str,
     /// The answer that is wanted: a line, without its `=> `.
     pub wanted: &'a str,
-}
-
-/// Where a text divides into the part up to a mark and the part after it, or all of it and nothing.
-fn parted<'a>(text: &'a str, mark: &str) -> (&'a str, &'a str) {
-    text.split_once(mark).unwrap_or((text, ""))
 }
 
 /// The lines in front of an answer, as the case that they are. If they begin with a heading, its first word is the kind of this

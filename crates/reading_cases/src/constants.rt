@@ -1,8 +1,8 @@
 //! Constants and conditions: their values, and those that are refused.
 
 use crate::refusal::Refusal;
-use crate::text::{bytes_of, push_bytes};
 use crate::tokens::{AMPLE, scanned};
+use hs_cases::{bytes_of, push_bytes};
 use hs_constants::{
     Value, character_value, condition_value, has_string_value, number_value, string_value,
 };

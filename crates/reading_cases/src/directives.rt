@@ -1,62 +1,32 @@
 //! Directives: files as units, their limits and refusals.
 
 use crate::refusal::{Refusal, at, limited};
-use crate::text::{between, bytes_of, option, parted, push_bytes, without_options};
 use hs_base::{Bytes, MemFiles, Pos};
+use hs_cases::{between, bytes_of, listing_of, option, push_bytes, words_of};
 use hs_directives::{MacroKind, ReadError, ScanKind, Source, preprocess};
 use hs_tokens::{Origin, SourceToken};
 use std::alloc::{AllocError, Global};
-
-/// The name of a file, and its bytes.
-type File = (String, Vec<u8>);
-
-/// One item more.
-fn push_next<T: Drop>(list: &mut Vec<T>, next: Result<T, AllocError>) -> Result<(), AllocError> {
-    list.push(next?)?;
-    Ok(())
-}
-
-/// A file with that name and that text.
-fn file_of(alloc: Global, name: &str, text: &str) -> Result<File, AllocError> {
-    Ok((name.to_string(alloc)?, text.as_bytes().to_vec(alloc)?))
-}
-
-/// The file `m.c`: the lines in front of the other files.
-fn main_file(alloc: Global, text: &str) -> Result<File, AllocError> {
-    let lines = without_options(alloc, text)?;
-    file_of(alloc, "m.c", lines.as_str())
-}
-
-/// The files of a text. If it names no roots, it begins with `m.c`.
-fn listing_of(alloc: Global, text: &str) -> Result<Vec<File>, AllocError> {
-    let mut listing = Vec::new(alloc);
-    let mut pieces = text.split("\n@file ");
-    let front = pieces.next().unwrap_or("");
-    if option(front, "@roots").is_none() {
-        push_next(&mut listing, main_file(alloc, front))?;
-    }
-    for piece in pieces {
-        let (name, text) = parted(piece, "\n");
-        push_next(&mut listing, file_of(alloc, name, text))?;
-    }
-    Ok(listing)
-}
 
 /// The files of a text in memory. The read whose number the option `@failing` says fails; without it, none does, as reads
 /// count from 1.
 fn files_of(alloc: Global, text: &str) -> Result<MemFiles, AllocError> {
     let number = option(text, "@failing ").unwrap_or("").parse().unwrap_or(0);
     let failing = vec![in alloc; number]?;
-    Ok(MemFiles::new(listing_of(alloc, text)?, failing))
+    // With roots, no lines are `m.c`.
+    let front = match option(text, "@roots") {
+        Some(_) => None,
+        None => Some("m.c"),
+    };
+    Ok(MemFiles::new(listing_of(alloc, text, front)?, failing))
 }
 
 /// The roots that the option `@roots` names, or `m.c`.
 fn roots_of(alloc: Global, text: &str) -> Result<Vec<String>, AllocError> {
-    let mut roots = Vec::new(alloc);
-    for name in option(text, "@roots").unwrap_or(" m.c").split(' ').skip(1) {
-        push_next(&mut roots, name.to_string(alloc))?;
+    let names = option(text, "@roots").unwrap_or(" m.c");
+    match names.strip_prefix(' ') {
+        Some(names) => words_of(alloc, names, ' '),
+        None => Ok(Vec::new(alloc)),
     }
-    Ok(roots)
 }
 
 /// The refusal of a named file in words.

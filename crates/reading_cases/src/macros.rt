@@ -1,8 +1,8 @@
 //! Macros: definitions, replacement, limits and refusals.
 
 use crate::refusal::Refusal;
-use crate::text::{between, option, parted, push_bytes, without_options};
 use crate::tokens::{AMPLE, scanned};
+use hs_cases::{between, option, parted, push_bytes, without_options};
 use hs_macros::{Budget, Macros};
 use hs_tokens::{Origin, SourceToken};
 use std::alloc::{AllocError, Global};

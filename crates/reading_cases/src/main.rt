@@ -5,7 +5,6 @@ mod constants;
 mod directives;
 mod macros;
 mod refusal;
-mod text;
 mod tokens;
 
 use hs_cases::{Case, cases};

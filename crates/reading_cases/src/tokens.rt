@@ -1,8 +1,8 @@
 //! Tokens: their kinds and places, and the texts that have none.
 
 use crate::refusal::Refusal;
-use crate::text::{between, bytes_of, option, push_bytes, without_options};
 use hs_base::LimitKind;
+use hs_cases::{between, bytes_of, option, push_bytes, without_options};
 use hs_tokens::{ScanError, Token, TokenKind, scan};
 use std::alloc::{AllocError, Global};
 
