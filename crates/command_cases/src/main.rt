@@ -1,80 +1,73 @@
-//! Goes over a file of runs: what the command `run` answers to words, and what it is to answer.
+//! Goes over files of cases: what the command line answers to words and files, and what it is to answer.
 #![tactic(auto)]
 
-use hs_base::MemSink;
-use hs_cases::{Case, cases};
-use hs_command::{HostFiles, Status, run};
-use hs_movers::{Mover, Scripted, Seeded, Slide, Still};
-use std::alloc::{AllocError, Global};
+mod command;
+mod memory;
+mod real;
+
+use hs_base::NoMemory;
+use hs_cases::{Case, File, cases};
+use std::alloc::Global;
 use std::rt::Files;
 use std::{env, fs, io};
 
-/// How many bytes a run may write here.
-const ROOM: usize = 65_536;
+/// The files of the folder that each case in memory has too, unless it has a file of that name itself.
+const SHARED: [&str; 5] = ["table.toml", "mac.h", "prelude.h", "split.c", "macros.c"];
 
-/// The words of a line, which have single spaces between them.
-fn words_of(alloc: Global, line: &str) -> Result<Vec<String>, AllocError> {
-    let mut words = Vec::new(alloc);
-    for word in line.split(' ') {
-        words.push(word.to_string(alloc)?)?;
+/// These files, with their bytes.
+fn shared<R: Files + AllocGlobal>(rt: &R) -> io::Result<Vec<File>> {
+    let mut files = Vec::new(rt.alloc());
+    for name in SHARED {
+        let bytes = fs::read(rt, name)?;
+        files.push((name.to_string(rt.alloc())?, bytes))?;
     }
-    Ok(words)
+    Ok(files)
 }
 
-/// What `run` answers to words, with the movers that the program `handlecheck` hands in.
-fn status_of<R: Files + AllocGlobal>(
-    rt: &R,
-    words: &[String],
-    out: &mut MemSink,
-) -> Result<Status, AllocError> {
-    let alloc = rt.alloc();
-    let still: Box<dyn Mover> = Box::new(alloc, Still::new())?;
-    let slide: Box<dyn Mover> = Box::new(alloc, Slide::new())?;
-    let scripted: Box<dyn Mover> = Box::new(alloc, Scripted::new(alloc))?;
-    let seeded: Box<dyn Mover> = Box::new(alloc, Seeded::new())?;
-    let mut movers = Vec::new(alloc);
-    movers.push(still)?;
-    movers.push(slide)?;
-    movers.push(scripted)?;
-    movers.push(seeded)?;
-    Ok(run(alloc, words, &mut HostFiles::new(rt), out, movers))
-}
-
-/// Whether the words are answered with that status and the bytes of that file.
-fn is_answered<R: Files + AllocGlobal>(
-    rt: &R,
-    line: &str,
-    status: &str,
-    wanted: &str,
-) -> io::Result<bool> {
-    let alloc = rt.alloc();
-    let words = words_of(alloc, line)?;
-    let Ok(mut out) = MemSink::new(alloc, ROOM, Vec::new(alloc)) else {
-        return Err(io::Error::from(io::ErrorKind::OutOfMemory));
-    };
-    let code = status_of(rt, words.as_slice(), &mut out)?.code();
-    let text = fs::read(rt, wanted)?;
-    let is_status = code.to_string(alloc)?.as_str() == status;
-    Ok(is_status && out.written() == text.as_slice())
-}
-
-/// Prints the run if it is answered otherwise than the case wants: with another status, or with another text.
-fn compare<R: Files + Print + AllocGlobal>(rt: &R, case: &Case<'_>) -> io::Result<()> {
-    let (status, wanted) = case.wanted.split_once(" ").unwrap_or((case.wanted, ""));
-    if !is_answered(rt, case.text, status, wanted)? {
-        println!(rt; "{}\n  is not answered by {status} and {wanted}", case.text)?;
+/// An answer, or the words for no memory.
+fn in_words(alloc: Global, answer: Result<String, NoMemory>) -> io::Result<String> {
+    match answer {
+        Ok(words) => Ok(words),
+        Err(NoMemory) => Ok("no memory".to_string(alloc)?),
     }
-    Ok(())
+}
+
+/// What a case is answered by, in words. `README.md` lists the kinds.
+fn answer<R: Files + AllocGlobal>(rt: &R, shared: &[File], case: &Case<'_>) -> io::Result<String> {
+    match case.kind {
+        "files" => real::answer(rt, case.text, case.wanted),
+        kind => in_words(
+            rt.alloc(),
+            memory::answer(rt.alloc(), shared, kind, case.text),
+        ),
+    }
+}
+
+/// Prints each case of a text that is answered by other words than it wants, and then the number of its cases.
+fn compare<R: Files + Print + AllocGlobal>(
+    rt: &R,
+    shared: &[File],
+    name: &str,
+    text: &str,
+) -> io::Result<()> {
+    let all = cases(rt.alloc(), text)?;
+    for case in &all {
+        let answer = answer(rt, shared, case)?;
+        if answer.as_str() != case.wanted {
+            println!(rt;
+                "{name}: {}\n  is answered by {answer}\n  and not by {}",
+                case.text, case.wanted
+            )?;
+        }
+    }
+    println!(rt; "{name}: {} cases", all.len())
 }
 
 fn main(rt: HostRuntime) -> io::Result<()> {
+    let shared = shared(&rt)?;
     for name in env::args(&rt)?.skip(1) {
         let text = fs::read_to_string(&rt, name.as_str())?;
-        let all = cases(rt.alloc(), text.as_str())?;
-        for case in &all {
-            compare(&rt, case)?;
-        }
-        println!(&rt; "{name}: {} cases", all.len())?;
+        compare(&rt, &shared, name.as_str(), text.as_str())?;
     }
     Ok(())
 }

@@ -1,9 +1,9 @@
-//! Tests of `hs_command`: the whole program on files and a sink in memory, and on a few real files. It exports nothing.
+//! Tests of `hs_command`: the files and the standard output of the system, and movers of a caller. It exports nothing.
 #![tactic(auto)]
 
 #[cfg(test)]
-mod command;
+mod host;
 #[cfg(test)]
-mod made;
+mod movers;
 #[cfg(test)]
-mod running;
+mod silent;

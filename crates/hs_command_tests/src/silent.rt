@@ -10,8 +10,6 @@ use std::alloc::Global;
 /// A mover that tells nothing.
 #[derive(Drop)]
 pub(crate) enum Silent {
-    /// Moves and purges every block.
-    Everything,
     /// Names block 1 twice, block 2, a block that is not there, and the number of no block. Block 1 is also named to be purged.
     Careless,
     /// Names what it is asked as if it were blocks: the number of the call plus 1000, whether the routine moves plus 2000, whether it purges plus
@@ -51,10 +49,6 @@ impl Silent {
     /// The decision for a call.
     fn decision(&self, alloc: Global, call: &MoverCall) -> Result<Decision, NoMemory> {
         match self {
-            Silent::Everything => Ok(Decision {
-                moves: Which::All,
-                purges: Which::All,
-            }),
             Silent::Careless => Ok(Decision {
                 moves: these(alloc, &[1, 0, 2, 9, 1])?,
                 purges: these(alloc, &[0, 1])?,

@@ -1,8 +1,6 @@
-//! Tests of the heap of blocks, of movers and of the texts of scripts, over their public functions: a crate that is proved with its tests
-//! is proved twice, so they are above.
+//! Tests of the heap of blocks, over its public functions: a crate that is proved with its tests is proved twice, so they are above. It
+//! exports nothing.
 #![tactic(auto)]
 
 #[cfg(test)]
 mod heap;
-#[cfg(test)]
-mod movers;
