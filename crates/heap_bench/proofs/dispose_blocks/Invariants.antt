@@ -1,5 +1,0 @@
-use Rattle.std.proofs.Common.{◌≡◌, length}
-use Rattle.heap_bench.proofs.dispose_blocks.Given as goal
-
-abbrev pub invariant-each : goal.invariant-each
-invariant-each l = length l.heap.blocks ≡ length l.initial.heap.blocks

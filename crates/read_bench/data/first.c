@@ -1,3 +1,0 @@
-#include "small.h"
-#include <small.h>
-short count = TWICE(1);
