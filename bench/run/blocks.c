@@ -1,4 +1,4 @@
-/* 100,000 blocks, each made and disposed of. blocks.toml is its table; run it with the word `slide`. */
+/* 100,000 blocks, each made and disposed of. */
 typedef char *Ptr, **Handle;
 Handle NewHandle(long size);
 void DisposeHandle(Handle h);
