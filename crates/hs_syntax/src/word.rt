@@ -1,11 +1,10 @@
 //! The leaves of trees: tokens with a text.
 
-use hs_base::Bytes;
-use hs_tokens::Place;
+use hs_tokens::{Place, Text};
 
-/// An identifier, a constant or a string literal: its text and its place.
+/// An identifier, a constant or a string literal: its text, whose bytes it shares with its token, and its place.
 #[derive(Drop)]
 pub struct Word {
-    pub text: Bytes,
+    pub text: Text,
     pub place: Place,
 }

@@ -3,3 +3,4 @@ pub mod Escapes
 pub mod Measures
 pub mod Parts
 mod Rows
+pub mod Shared

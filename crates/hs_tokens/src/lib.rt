@@ -10,10 +10,12 @@ mod marks;
 mod place;
 mod scan_error;
 mod scanner;
+mod text;
 mod token;
 
 pub use marks::{is_identifier, is_mark, is_same_kind};
 pub use place::Place;
 pub use scan_error::ScanError;
 pub use scanner::scan;
+pub use text::Text;
 pub use token::{Origin, SourceToken, Token, TokenKind};

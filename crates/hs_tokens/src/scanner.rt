@@ -8,9 +8,11 @@ ghost use Rattle.hs_tokens.specs.Ahead.{form};
 use crate::cursor::Cursor;
 use crate::forms::{Part, part_ahead};
 use crate::scan_error::ScanError;
+use crate::text::Text;
 use crate::token::Token;
 use hs_base::{Bytes, LimitKind};
 use std::alloc::Global;
+use std::rc::Rc;
 
 /// How many bytes the part has.
 fn part_len(part: Part) -> usize
@@ -33,6 +35,9 @@ pub fn scan(alloc: Global, text: &[u8], file: u16, room: usize) -> Result<Vec<To
 {
     let mut tokens = Vec::new(alloc);
     let mut rest = Cursor::start(text, file);
+    // The tokens share these bytes, and `start` of them are in front of `rest`.
+    let bytes = Rc::new(alloc, Bytes::from_vec(rest.text(alloc)?))?;
+    let mut start: usize = 0;
     let mut first = true;
     let mut spaced = false;
     'parts: while let Some(step) = rest.next() {
@@ -47,7 +52,7 @@ pub fn scan(alloc: Global, text: &[u8], file: u16, room: usize) -> Result<Vec<To
                 if tokens.len() == room {
                     return Err(ScanError::Limit(LimitKind::Scanned.passed()));
                 }
-                let text = Bytes::from_vec(rest.front(len).text(alloc)?);
+                let text = Text::part(&bytes, start, len)?;
                 tokens.push(Token {
                     kind,
                     text,
@@ -61,7 +66,9 @@ pub fn scan(alloc: Global, text: &[u8], file: u16, room: usize) -> Result<Vec<To
             Part::Refused(error) => return Err(error),
         }
         // The step is after the part's first byte already.
-        rest = step.after.behind(part_len(part).saturating_sub(1));
+        let others = part_len(part).saturating_sub(1);
+        rest = step.after.behind(others);
+        start = start.saturating_add(1 + others);
     }
     Ok(tokens)
 }

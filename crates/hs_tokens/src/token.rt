@@ -2,7 +2,8 @@
 
 ghost use Rattle.std.specs.Prelude.{◌≡◌, IfOk};
 
-use hs_base::{Bytes, Pos};
+use crate::text::Text;
+use hs_base::Pos;
 use std::alloc::{AllocError, Global};
 
 /// What a token is (X3.159-1989 3.1). A keyword is an identifier here.
@@ -23,11 +24,11 @@ pub enum TokenKind {
 /// A token of a text.
 #[derive(Drop)]
 pub struct Token {
-    pub kind: TokenKind,
     /// Its bytes, without splices.
-    pub text: Bytes,
+    pub text: Text,
     /// The place of its first byte.
     pub pos: Pos,
+    pub kind: TokenKind,
     /// No token stands before it on its line.
     pub first: bool,
     /// White space, a comment or a line's end stands directly before it.
@@ -35,13 +36,13 @@ pub struct Token {
 }
 
 impl Token {
-    /// A token with the same fields.
-    pub fn copied(&self, alloc: Global) -> Result<Token, AllocError>
+    /// A token with the same fields, whose text shares its bytes.
+    pub fn copied(&self, _alloc: Global) -> Result<Token, AllocError>
         ensures { IfOk result (λ copy. copy ≡ self.now) }
     {
         Ok(Token {
             kind: self.kind,
-            text: Bytes::from_vec(self.text.items().to_vec(alloc)?),
+            text: self.text.copied()?,
             pos: self.pos,
             first: self.first,
             spaced: self.spaced,
