@@ -8,10 +8,10 @@ ghost use Rattle.hs_directives.specs.Ahead.{seen_operand, seen_tokens};
 ghost use Rattle.hs_directives.specs.Outcomes.{Gives, ReadsNone};
 
 use crate::error::{MacroKind, ReadError};
-use hs_base::{Bytes, Pos};
+use hs_base::Pos;
 use hs_constants::condition_value;
 use hs_macros::{Budget, MacroError, Macros};
-use hs_tokens::{Token, TokenKind, is_identifier, is_mark};
+use hs_tokens::{Text, Token, TokenKind, is_identifier, is_mark};
 use std::alloc::{AllocError, Global};
 
 /// The name that `defined` asks for, and how many tokens it takes with its parentheses.
@@ -74,7 +74,7 @@ fn answer(alloc: Global, token: &Token, holds: bool) -> Result<Token, AllocError
     let text = if holds { b"1" } else { b"0" };
     Ok(Token {
         kind: TokenKind::Number,
-        text: Bytes::from_vec(text.as_slice().to_vec(alloc)?),
+        text: Text::from_vec(alloc, text.as_slice().to_vec(alloc)?)?,
         pos: token.pos,
         first: token.first,
         spaced: token.spaced,

@@ -5,9 +5,9 @@ ghost use Rattle.hs_spell.specs.Appends.{Appends};
 ghost use Rattle.hs_syntax.specs.Forms.{token, mark, mark_at, keyword, keyword_at, word};
 ghost use Rattle.hs_syntax.specs.Parts.{identifier, literals, pointers_form, tag_form, comma_form};
 
-use hs_base::{Bytes, NoMemory, Pos};
+use hs_base::{NoMemory, Pos};
 use hs_syntax::{Pointer, Word};
-use hs_tokens::{Origin, Place, Token, TokenKind};
+use hs_tokens::{Origin, Place, Text, Token, TokenKind};
 use std::alloc::Global;
 
 /// No place in any file.
@@ -32,7 +32,7 @@ fn token(
 {
     tokens.push(Token {
         kind,
-        text: Bytes::from_vec(text.to_vec(alloc)?),
+        text: Text::from_vec(alloc, text.to_vec(alloc)?)?,
         pos: place.unwrap_or(NOWHERE).pos,
         first: false,
         spaced: true,
