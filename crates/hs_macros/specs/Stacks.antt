@@ -10,7 +10,8 @@ use Rattle.std.specs.Borrow.{Bor}
 use Rattle.std.specs.declared.alloc.Global.{Global}
 use Rattle.hs_base.specs.declared.pos.Pos.{Pos}
 use Rattle.hs_macros.specs.Arguments.{Hidden, Arguments, Argument}
-use Rattle.hs_macros.specs.Numbers.{Entries, names_in, definitions_in, IsNumber, named}
+use Rattle.std.specs.FinSet as set
+use Rattle.hs_macros.specs.Numbers.{Entries, Numbers, names_in, definitions_in, IsNumber, named}
 use Rattle.hs_macros.specs.Replacement.{Invocation, stays, wrong, invoked, found_form, found}
 use Rattle.hs_macros.specs.Replacement as spec
 use Rattle.hs_macros.specs.declared.pending.Pending.{Pending}
@@ -20,6 +21,7 @@ use Rattle.hs_macros.specs.declared.error.MacroError.{MacroError}
 use Rattle.hs_macros.specs.declared.error.MacroError.TheVariants.{ArgCount, NoMemory}
 use Rattle.hs_macros.specs.declared.call.Call.{Call}
 use Rattle.hs_macros.specs.declared.table.Numbered.{Numbered}
+use Rattle.hs_macros.specs.declared.placing.Joined.{Joined}
 use Rattle.hs_macros.specs.declared.call.Found.{Found}
 use Rattle.hs_macros.specs.declared.call.Found.TheVariants.{Stays, Invoked}
 
@@ -107,3 +109,7 @@ IsReplacing entries token (Some numbered) =
     ((rest : List Hidden) → found (definitions_in entries) (hidden (names_in entries) token) rest
     ≡ found_form (hidden (names_in entries) token) rest numbered.definition.now.body numbered.definition.now.parameters)
     × IsNumber (names_in entries) token.token.now.text numbered.number
+
+-- what the tokens that hid the same hide in place of an invocation that hides these
+abbrev pub IsJoined : Numbers → Joined → Type 0
+IsJoined hides joined = joined.both.value ≡ set.union joined.own.now hides

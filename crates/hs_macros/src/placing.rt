@@ -1,13 +1,13 @@
 //! Puts a macro's tokens in place of an invocation, with its arguments (X3.159-1989 3.8.3.1).
 
-ghost use Rattle.std.specs.Prelude.{◌≡◌, ◌++◌, ℕ, List, IfOk, OnOk, length, map};
+ghost use Rattle.std.specs.Prelude.{◌≡◌, ◌++◌, ℕ, List, IfOk, OnOk, IfSome, length, map};
 ghost use Rattle.std.specs.FinSet as set;
 ghost use Rattle.std.specs.List.{flat_map};
 ghost use Rattle.hs_base.specs.declared.pos.Pos.{Pos};
 ghost use Rattle.hs_macros.specs.HideSets.{HideSet as NameSet};
-ghost use Rattle.hs_macros.specs.Numbers.{named};
+ghost use Rattle.hs_macros.specs.Numbers.{Numbers, named};
 ghost use Rattle.hs_macros.specs.Replacement.{is_named, is_used, argument_of, argument_for, from_body, from_argument, placed_at, placed, spent};
-ghost use Rattle.hs_macros.specs.Stacks.{hidden, done, ahead, ready, invocation, seen_argument, room_after};
+ghost use Rattle.hs_macros.specs.Stacks.{hidden, done, ahead, ready, invocation, seen_argument, room_after, IsJoined};
 
 use crate::arguments::Supplied;
 use crate::budget::Budget;
@@ -83,21 +83,51 @@ fn union_of(alloc: Global, own: &HideSet, hides: &Rc<HideSet>) -> Result<Rc<Hide
     Ok(Rc::new(alloc, own.union(hides)?)?)
 }
 
-/// A token of an argument in place: it goes on hiding what it hid.
-fn from_argument<'a>(
+/// What the tokens of an argument hide in place that hid the same before.
+#[derive(Drop)]
+pub(crate) struct Joined<'b> {
+    /// What they hid before.
+    pub(crate) own: &'b HideSet,
+    /// What they hide in place.
+    pub(crate) both: Rc<HideSet>,
+}
+
+/// What a token that hid `own` before hides in place. The tokens of a run mostly hid the same, so that each takes the set of the
+/// last one.
+fn shared_set<'b>(
     alloc: Global,
-    pos: Pos,
+    own: &'b HideSet,
     hides: &Rc<HideSet>,
+    last: Option<Joined<'b>>,
+) -> Result<Joined<'b>, AllocError>
+    requires { IfSome last (IsJoined hides.now.value) }
+    ensures joined { IfOk result (IsJoined hides.now.value) }
+    ensures own { IfOk result (λ joined. joined.own.now ≡ own.now) }
+{
+    if let Some(joined) = last {
+        if joined.own.is_same(own) {
+            return Ok(joined);
+        }
+    }
+    let both = union_of(alloc, own, hides)?;
+    Ok(Joined { own, both })
+}
+
+/// A token of an argument in place: it goes on hiding what it hid, with what the macro's tokens hide.
+fn from_argument<'a>(
+    pos: Pos,
+    both: &Rc<HideSet>,
     pending: &Pending<'a>,
 ) -> Result<Pending<'a>, AllocError>
-    ensures { (names : List (List ℕ)) → IfOk result (λ placed. hidden names placed
-        ≡ from_argument pos (named names hides.now.value) (hidden names pending.now)) }
+    ensures { (names : List (List ℕ)) (hides : Numbers) → both.now.value ≡ set.union pending.now.hides.value hides
+        → IfOk result (λ placed. hidden names placed
+        ≡ from_argument pos (named names hides) (hidden names pending.now)) }
 {
     Ok(Pending {
         token: pending.token,
         pos,
         origin: Origin::Macro,
-        hides: union_of(alloc, &pending.hides, hides)?,
+        hides: both.clone()?,
     })
 }
 
@@ -113,8 +143,11 @@ fn put_argument<'a>(
         ≡ map (from_argument pos (named names hides.now.value)) (done names argument.now)
         ++ ahead names tokens.old.items) }
 {
+    let mut last = None;
     for pending in argument.iter().rev() {
-        tokens.push(from_argument(alloc, pos, hides, pending)?)?;
+        let shared = shared_set(alloc, &pending.hides, hides, last)?;
+        tokens.push(from_argument(pos, &shared.both, pending)?)?;
+        last = Some(shared);
     }
     Ok(())
 }
