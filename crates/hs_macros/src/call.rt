@@ -99,8 +99,9 @@ fn function_call<'a>(
     let Some(waiting) = bound(alloc, parameters, given)? else {
         return Err(MacroError::ArgCount(name.pos));
     };
-    // What was taken leaves room, which would stay while the arguments are expanded.
-    if behind.len() < behind.capacity() / 2 {
+    // The arguments left room, which would stay allocated while they are expanded. Giving it back moves the tokens that are
+    // left, so it is done only if those fill less than a quarter.
+    if behind.len() < behind.capacity() / 4 {
         behind.shrink_to_fit();
     }
     let hides = name.hides.call_hides(&close.hides, number)?;
