@@ -1,9 +1,13 @@
 -- A list of entries as the finite map that contracts see: both answer a name alike, before and after a change.
-use Rattle.std.proofs.Common.{◌≡◌, ℕ, Bool, true, false, cond, List, [], ◌∷◌, Option, None, Some, Vec, Global, map as map_list, nat_eq, refl, sym, subst, ◌∙◌}
+use Rattle.std.proofs.Common.{◌≡◌, ℕ, ◌+◌, Bool, true, false, not, cond, List, [], ◌∷◌, length, position, Option, None, Some, Vec, Global, map as map_list, nat_eq, nat_lt, refl, sym, ap, subst, ◌∙◌}
+use Rattle.std.specs.List.{position_or_len}
+use Rattle.std.specs.Str.{bytes_eq}
+use Rattle.std.proofs.lemmas.List.{length-map}
 use Rattle.std.specs.Ordering.{nat_cmp, eq_by_cmp}
 use Rattle.std.specs.Cmp.Lexicographic.{slice_cmp, pointwise, bytes_decides, nat_list_cmp_total, nat_list_eq_equiv, texts_ties}
 use Rattle.std.specs.FinMap as map
 use Rattle.std.specs.Map.{lookup, KeepsOthers, IsKeyTest, AreApart}
+use Rattle.hs_macros.specs.Numbers.{number_in}
 
 -- what the map is keyed by
 abbrev pub Key : Type 0
@@ -43,6 +47,23 @@ module _ {X : Type 0} where
   -- what the map has at a name is what a look-up finds
   pub get-as_map : (name : List ℕ) (entries : List (Key × X)) → map.get (as_map entries) name ≡ lookup (has_bytes name) entries
   get-as_map name entries = map.get-from_entries nat_list_cmp_total (by_bytes entries) name ∙ sym (lookup-by_bytes name entries)
+
+  -- the number of a name is the index that a look-up finds
+  pub number_in-entries : (name : List ℕ) (entries : List (Key × X))
+      → number_in (map_list (λ (entry : Key × X). entry.0.items) entries) name ≡ position (has_bytes name) (map_list (λ (entry : Key × X). entry.0) entries)
+  number_in-entries name entries =
+      let texts : List (List ℕ) = map_list (λ (entry : Key × X). entry.0.items) entries in
+      let keys : List Key = map_list (λ (entry : Key × X). entry.0) entries in
+      let lengths : length texts ≡ length keys =
+      length-map entries (λ (entry : Key × X). entry.0.items) ∙ sym (length-map entries (λ (entry : Key × X). entry.0)) in
+      λ i. cond (nat_lt (first_at entries i) (lengths i)) (Some (first_at entries i)) None
+    where
+      -- both tests pass first at the same entry
+      first_at : (entries' : List (Key × X))
+          → position_or_len (bytes_eq name) (map_list (λ (entry : Key × X). entry.0.items) entries')
+          ≡ position_or_len (has_bytes name) (map_list (λ (entry : Key × X). entry.0) entries')
+      first_at [] = refl
+      first_at (entry ∷ entries') = ap (λ (later : ℕ). cond (not (has_bytes name entry.0)) (1 + later) 0) (first_at entries')
 
   -- the other names keep what they had
   kept : (name other : List ℕ) (old new : List (Key × X)) → KeepsOthers are_alike (has_bytes name) old new → pointwise nat_eq name other ≡ false

@@ -1,10 +1,12 @@
 pub mod Bodies
+pub mod Calls
 pub mod Collecting
 pub mod Entries
 pub mod Found
-pub mod Names
+pub mod Naming
 pub mod Pairs
 pub mod ParameterNames
+pub mod Rising
 pub mod Rows
 pub mod Steps
 pub mod Subsets

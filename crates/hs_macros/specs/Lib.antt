@@ -5,6 +5,7 @@ pub mod HideSets
 pub mod Frames
 pub mod Lines
 pub mod Loads
+pub mod Numbers
 pub mod Refusals
 pub mod Replacement
 pub mod Stacks

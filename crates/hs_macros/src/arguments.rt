@@ -1,6 +1,6 @@
 //! Takes the arguments of an invocation (X3.159-1989 3.8.3).
 
-ghost use Rattle.std.specs.Prelude.{◌≡◌, ◌<◌, ◌^◌, [], map, IfOk};
+ghost use Rattle.std.specs.Prelude.{◌≡◌, ◌<◌, ◌^◌, ℕ, List, [], map, IfOk};
 ghost use Rattle.hs_macros.specs.Arguments.{role_of, arguments_from, paired, bound};
 ghost use Rattle.hs_macros.specs.Stacks.{ahead, done, collected, seen, seen_waiting};
 
@@ -62,8 +62,8 @@ pub(crate) fn arguments_ahead<'a>(
     alloc: Global,
     tokens: &mut Vec<Pending<'a>>,
 ) -> Result<Option<Between<'a>>, AllocError>
-    ensures { IfOk result (λ found. seen found (ahead tokens.new.items)
-        ≡ collected [] [] (arguments_from 0 (ahead tokens.old.items))) }
+    ensures { (names : List (List ℕ)) → IfOk result (λ found. seen names found (ahead names tokens.new.items)
+        ≡ collected [] [] (arguments_from 0 (ahead names tokens.old.items))) }
 {
     let mut given = Vec::new(alloc);
     let mut argument = Vec::new(alloc);
@@ -94,8 +94,8 @@ fn paired<'a>(
     names: &'a [Bytes],
     given: Vec<Vec<Pending<'a>>>,
 ) -> Result<Option<Vec<Supplied<'a>>>, AllocError>
-    ensures { IfOk result (λ arguments. seen_waiting arguments
-        ≡ paired names.now (map (λ tokens. done tokens.items) given.entry.items)) }
+    ensures { (table : List (List ℕ)) → IfOk result (λ arguments. seen_waiting table arguments
+        ≡ paired names.now (map (λ tokens. done table tokens.items) given.entry.items)) }
 {
     let mut names = names;
     let mut given = given;
@@ -120,8 +120,8 @@ pub(crate) fn bound<'a>(
     names: &'a Names,
     given: Vec<Vec<Pending<'a>>>,
 ) -> Result<Option<Vec<Supplied<'a>>>, AllocError>
-    ensures { IfOk result (λ arguments. seen_waiting arguments
-        ≡ bound names.now (map (λ tokens. done tokens.items) given.entry.items)) }
+    ensures { (table : List (List ℕ)) → IfOk result (λ arguments. seen_waiting table arguments
+        ≡ bound names.now (map (λ tokens. done table tokens.items) given.entry.items)) }
 {
     if names.items().is_empty() && given.len() == 1 && given[0].is_empty() {
         return Ok(Some(Vec::new(alloc)));

@@ -1,16 +1,18 @@
 //! Invocations of macros.
 
-ghost use Rattle.std.specs.Prelude.{◌≡◌, [], IfOk};
+ghost use Rattle.std.specs.Prelude.{◌≡◌, ℕ, List, [], IfOk, IfErr};
 ghost use Rattle.hs_macros.specs.Replacement.{object, found_call, found_form, found};
 ghost use Rattle.hs_macros.specs.Arguments.{arguments_from};
-ghost use Rattle.hs_macros.specs.Stacks.{hidden, ahead, invocation, IsFound, IsCalled};
+ghost use Rattle.hs_macros.specs.Numbers.{names_in, definitions_in, IsNumber};
+ghost use Rattle.hs_macros.specs.Stacks.{hidden, ahead, invocation, IsReplacing, IsFound, IsCalled};
+ghost use Rattle.hs_macros.specs.declared.error.MacroError.TheVariants.{NoMemory as no_memory};
 
 use crate::arguments::{Between, Supplied, arguments_ahead, bound};
 use crate::error::MacroError;
 use crate::hide_set::HideSet;
 use crate::lists::Names;
-use crate::macros::Macros;
 use crate::pending::Pending;
+use crate::table::{Numbered, Table, look_up};
 use hs_base::Pos;
 use hs_tokens::{Token, is_identifier, is_mark};
 use std::alloc::{AllocError, Global};
@@ -24,7 +26,7 @@ pub(crate) struct Call<'a> {
     /// Where they will stand.
     pub(crate) pos: Pos,
     /// What they will hide.
-    pub(crate) hides: Rc<HideSet<'a>>,
+    pub(crate) hides: Rc<HideSet>,
     /// The arguments that are ready, in order.
     pub(crate) ready: Vec<Supplied<'a>>,
     /// Those that wait, the next one last.
@@ -44,25 +46,27 @@ pub(crate) enum Found<'a> {
 
 /// The bytes of the name.
 fn name_of<'a>(name: &Pending<'a>) -> &'a [u8]
-    ensures { result.now ≡ (hidden name.now).token.text }
+    ensures { result.now ≡ name.now.token.now.text }
 {
     let token: &'a Token = name.token;
     token.text.items()
 }
 
-/// The invocation of an object-like macro (X3.159-1989 3.8.3).
+/// The invocation of an object-like macro of this number (X3.159-1989 3.8.3).
 fn object_call<'a>(
     alloc: Global,
     name: &Pending<'a>,
+    number: u32,
     body: &'a [Token],
     behind: Vec<Pending<'a>>,
 ) -> Result<Call<'a>, AllocError>
-    ensures call { IfOk result (λ call. invocation call
-        ≡ object (hidden name.now) body.now (ahead behind.entry.items)) }
+    ensures call { (names : List (List ℕ)) → IsNumber names name.now.token.now.text number
+        → IfOk result (λ call. invocation names call
+        ≡ object (hidden names name.now) body.now (ahead names behind.entry.items)) }
     ensures ready { IfOk result (λ call. call.ready.items ≡ []) }
     ensures waiting { IfOk result (λ call. call.waiting.items ≡ []) }
 {
-    let hides = name.hides.object_hides(name_of(name))?;
+    let hides = name.hides.object_hides(number)?;
     Ok(Call {
         body,
         pos: name.pos,
@@ -73,16 +77,18 @@ fn object_call<'a>(
     })
 }
 
-/// The invocation of a function-like macro, whose opening parenthesis stands before the tokens (X3.159-1989 3.8.3).
+/// The invocation of a function-like macro of this number, whose opening parenthesis stands before the tokens
+/// (X3.159-1989 3.8.3).
 fn function_call<'a>(
     alloc: Global,
     name: &Pending<'a>,
+    number: u32,
     body: &'a [Token],
     parameters: &'a Names,
     tokens: Vec<Pending<'a>>,
 ) -> Result<Call<'a>, MacroError>
-    ensures { IsCalled
-        (found_call (hidden name.now) body.now parameters.now (arguments_from 0 (ahead tokens.entry.items)))
+    ensures { (names : List (List ℕ)) → IsNumber names name.now.token.now.text number → IsCalled names
+        (found_call (hidden names name.now) body.now parameters.now (arguments_from 0 (ahead names tokens.entry.items)))
         name.now.pos result }
 {
     let mut behind = tokens;
@@ -93,11 +99,12 @@ fn function_call<'a>(
     let Some(waiting) = bound(alloc, parameters, given)? else {
         return Err(MacroError::ArgCount(name.pos));
     };
-    // What was taken leaves room, which would stay while the arguments are expanded.
-    if behind.len() < behind.capacity() / 2 {
+    // The arguments left room, which would stay allocated while they are expanded. Giving it back moves the tokens that are
+    // left, so it is done only if those fill less than a quarter.
+    if behind.len() < behind.capacity() / 4 {
         behind.shrink_to_fit();
     }
-    let hides = name.hides.call_hides(&close.hides, name_of(name))?;
+    let hides = name.hides.call_hides(&close.hides, number)?;
     Ok(Call {
         body,
         pos: name.pos,
@@ -108,34 +115,50 @@ fn function_call<'a>(
     })
 }
 
+/// The definition that may replace the token, with its number: an identifier that has a definition and does not hide its own
+/// name.
+fn replacing<'a>(table: &'a Table, token: &Pending<'a>) -> Result<Option<Numbered<'a>>, MacroError>
+    ensures replaces { IfOk result (IsReplacing table.now.entries token.now) }
+    ensures refused { IfErr result (λ error. error ≡ no_memory) }
+{
+    if !is_identifier(token.token) {
+        return Ok(None);
+    }
+    let Some(found) = look_up(table, name_of(token))? else {
+        return Ok(None);
+    };
+    if token.hides.contains(found.number) {
+        return Ok(None);
+    }
+    Ok(Some(found))
+}
+
 /// What begins at a token with these after it, the next one last (X3.159-1989 3.8.3). A token that hides its own name
 /// stays, and so does the name of a function-like macro that no parenthesis follows.
 pub(crate) fn invocation_at<'a>(
     alloc: Global,
-    macros: &'a Macros,
+    table: &'a Table,
     token: &Pending<'a>,
     tokens: Vec<Pending<'a>>,
 ) -> Result<Found<'a>, MacroError>
-    ensures { IsFound (found macros.now (hidden token.now) (ahead tokens.entry.items)) token.now.pos
-        (ahead tokens.entry.items) result }
+    ensures { let names = names_in table.now.entries in
+        IsFound names (found (definitions_in table.now.entries) (hidden names token.now) (ahead names tokens.entry.items))
+        token.now.pos (ahead names tokens.entry.items) result }
 {
-    let name = name_of(token);
-    if !is_identifier(token.token) || token.hides.contains(name) {
-        return Ok(Found::Stays(tokens));
-    }
-    let Some(definition) = macros.definition(name) else {
+    let Some(found) = replacing(table, token)? else {
         return Ok(Found::Stays(tokens));
     };
+    let Numbered { number, definition } = found;
     let body = definition.body.items();
     let Some(parameters) = &definition.parameters else {
-        return Ok(Found::Invoked(object_call(alloc, token, body, tokens)?));
+        return Ok(Found::Invoked(object_call(alloc, token, number, body, tokens)?));
     };
     let mut behind = tokens;
     let Some(next) = behind.pop() else {
         return Ok(Found::Stays(behind));
     };
     if is_mark(b"(", next.token) {
-        let call = function_call(alloc, token, body, parameters, behind)?;
+        let call = function_call(alloc, token, number, body, parameters, behind)?;
         return Ok(Found::Invoked(call));
     }
     behind.push(next)?;

@@ -1,10 +1,11 @@
 //! Replaces the macros in a list of tokens (X3.159-1989 3.8.3).
 
-ghost use Rattle.std.specs.Prelude.{◌≡◌, ◌≤◌, ◌<◌, ◌+◌, ◌⊎◌, [], ◌∷◌, ◌++◌, length, OnOk, IfOk, IfErr, Ok, Err};
+ghost use Rattle.std.specs.Prelude.{◌≡◌, ◌≤◌, ◌<◌, ◌+◌, ◌⊎◌, ℕ, List, [], ◌∷◌, ◌++◌, length, OnOk, IfOk, IfErr, Ok, Err};
 ghost use Rattle.hs_macros.specs.Definitions.{Definitions};
 ghost use Rattle.hs_macros.specs.Refusals.{IsRefusal};
 ghost use Rattle.hs_macros.specs.Replacement.{with_front, expanded, replaced_by, replaced};
 ghost use Rattle.hs_macros.specs.Loads.{load};
+ghost use Rattle.hs_macros.specs.Numbers.{names_in, definitions_in};
 ghost use Rattle.hs_macros.specs.Stacks.{hidden, done, ahead, waiting};
 ghost use Rattle.hs_macros.specs.Frames.{frame_outcome, call_outcome, after_argument, resumed, IsStep, with_sources, weight_of, weights, weight};
 
@@ -12,9 +13,9 @@ use crate::arguments::Supplied;
 use crate::budget::Budget;
 use crate::call::{Call, Found, invocation_at};
 use crate::error::MacroError;
-use crate::macros::Macros;
 use crate::pending::{Pending, put_sources, tokens_ahead};
 use crate::placing::is_used;
+use crate::table::Table;
 use hs_tokens::{SourceToken, Token};
 use std::alloc::{AllocError, Global};
 
@@ -53,11 +54,11 @@ fn proceed<'a>(
     call: Call<'a>,
     left: Budget,
 ) -> Result<Frame<'a>, MacroError>
-    ensures step { (macros : Definitions)
-        → IsStep (resumed macros calls.old.items (call_outcome macros (done before.entry.items) call.entry left))
-        (λ frame. resumed macros calls.new.items (frame_outcome macros frame)) result }
-    ensures falls { IfOk result (λ frame. weights calls.new.items + weight frame
-        ≤ weights calls.old.items + load (waiting call.entry.waiting.items) + length call.entry.behind.items + left.tokens) }
+    ensures step { (names : List (List ℕ)) (macros : Definitions)
+        → IsStep (resumed names macros calls.old.items (call_outcome names macros (done names before.entry.items) call.entry left))
+        (λ frame. resumed names macros calls.new.items (frame_outcome names macros frame)) result }
+    ensures falls { (names : List (List ℕ)) → IfOk result (λ frame. weights names calls.new.items + weight frame
+        ≤ weights names calls.old.items + load (waiting names call.entry.waiting.items) + length call.entry.behind.items + left.tokens) }
 {
     let mut call = call;
     'arguments: while let Some(argument) = call.waiting.pop() {
@@ -89,24 +90,24 @@ fn proceed<'a>(
 /// Takes the next token, with the frame's tokens after it: it stays, or the invocation that it begins is begun.
 fn take_token<'a>(
     alloc: Global,
-    macros: &'a Macros,
+    table: &'a Table,
     calls: &mut Vec<Suspended<'a>>,
     frame: Frame<'a>,
     token: Pending<'a>,
 ) -> Result<Frame<'a>, MacroError>
-    ensures step { IsStep
-        (resumed macros.now calls.old.items (with_front (done frame.entry.before.items)
-        (expanded macros.now frame.entry.left (hidden token.entry ∷ ahead frame.entry.tokens.items))))
-        (λ frame. resumed macros.now calls.new.items (frame_outcome macros.now frame)) result }
-    ensures falls { IfOk result (λ next. weights calls.new.items + weight next
-        ≤ weights calls.old.items + weight frame.entry) }
+    ensures step { let names = names_in table.now.entries in let macros = definitions_in table.now.entries in
+        IsStep (resumed names macros calls.old.items (with_front (done names frame.entry.before.items)
+        (expanded macros frame.entry.left (hidden names token.entry ∷ ahead names frame.entry.tokens.items))))
+        (λ frame. resumed names macros calls.new.items (frame_outcome names macros frame)) result }
+    ensures falls { let names = names_in table.now.entries in
+        IfOk result (λ next. weights names calls.new.items + weight next ≤ weights names calls.old.items + weight frame.entry) }
 {
     let Frame {
         before,
         tokens,
         left,
     } = frame;
-    match invocation_at(alloc, macros, &token, tokens)? {
+    match invocation_at(alloc, table, &token, tokens)? {
         Found::Stays(tokens) => {
             let mut before = before;
             before.push(token)?;
@@ -128,11 +129,11 @@ fn take_up<'a>(
     frame: Frame<'a>,
 ) -> Result<Frame<'a>, MacroError>
     requires { frame.tokens.items ≡ [] }
-    ensures step { (macros : Definitions)
-        → IsStep (resumed macros (calls.old.items ++ suspended.entry ∷ []) (frame_outcome macros frame.entry))
-        (λ frame. resumed macros calls.new.items (frame_outcome macros frame)) result }
-    ensures falls { IfOk result (λ next. weights calls.new.items + weight next
-        < weights calls.old.items + weight_of suspended.entry + weight frame.entry) }
+    ensures step { (names : List (List ℕ)) (macros : Definitions)
+        → IsStep (resumed names macros (calls.old.items ++ suspended.entry ∷ []) (frame_outcome names macros frame.entry))
+        (λ frame. resumed names macros calls.new.items (frame_outcome names macros frame)) result }
+    ensures falls { (names : List (List ℕ)) → IfOk result (λ next. weights names calls.new.items + weight next
+        < weights names calls.old.items + weight_of names suspended.entry + weight frame.entry) }
 {
     let Suspended {
         before,
@@ -154,9 +155,9 @@ fn give_done<'a>(
     frame: &mut Frame<'a>,
     sources: &mut Vec<SourceToken>,
 ) -> Result<(), AllocError>
-    ensures same { OnOk result ((macros : Definitions)
-        → with_sources sources.new.items (replaced_by (resumed macros calls.now (frame_outcome macros frame.new)))
-        ≡ with_sources sources.old.items (replaced_by (resumed macros calls.now (frame_outcome macros frame.old)))) }
+    ensures same { OnOk result ((names : List (List ℕ)) (macros : Definitions)
+        → with_sources sources.new.items (replaced_by (resumed names macros calls.now (frame_outcome names macros frame.new)))
+        ≡ with_sources sources.old.items (replaced_by (resumed names macros calls.now (frame_outcome names macros frame.old)))) }
     ensures weight { OnOk result (weight frame.new ≡ weight frame.old) }
     ensures given { OnOk result (calls.now ≡ [] → frame.new.before.items ≡ []) }
 {
@@ -171,13 +172,13 @@ fn give_done<'a>(
 /// keep what they hide.
 pub(crate) fn replaced_run(
     alloc: Global,
-    macros: &Macros,
+    table: &Table,
     run: &[Token],
     left: Budget,
 ) -> Result<Replaced, MacroError>
-    ensures replaced { IfOk result (λ done. replaced macros.now left run.now
+    ensures replaced { IfOk result (λ done. replaced (definitions_in table.now.entries) left run.now
         ≡ Ok (record { tokens = done.tokens.items; left = done.left })) }
-    ensures refused { IfErr result (IsRefusal (replaced macros.now left run.now)) }
+    ensures refused { IfErr result (IsRefusal (replaced (definitions_in table.now.entries) left run.now)) }
 {
     let mut calls = Vec::new(alloc);
     let mut sources = Vec::new(alloc);
@@ -189,7 +190,7 @@ pub(crate) fn replaced_run(
     'steps: loop {
         give_done(alloc, &calls, &mut frame, &mut sources)?;
         if let Some(token) = frame.tokens.pop() {
-            frame = take_token(alloc, macros, &mut calls, frame, token)?;
+            frame = take_token(alloc, table, &mut calls, frame, token)?;
         } else if let Some(suspended) = calls.pop() {
             frame = take_up(alloc, &mut calls, suspended, frame)?;
         } else {

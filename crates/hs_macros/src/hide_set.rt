@@ -1,88 +1,93 @@
-//! Hide sets: the names of the macros that may not replace a token.
+//! Hide sets: the numbers of the macros that may not replace a token.
 
-ghost use Rattle.std.specs.Prelude.{◌≡◌, IfOk, OnOk, OnErr};
+ghost use Rattle.std.specs.Prelude.{◌≡◌, true, IfOk, OnOk, OnErr};
 ghost use Rattle.std.specs.FinSet as set;
-ghost use Rattle.hs_macros.specs.HideSets.{object_hides, call_hides};
 
 use smallvec::SmallVec;
 use std::alloc::{AllocError, Global};
 use std::cmp::Ordering;
 use std::marker::Model;
 
-/// The names that a token is not replaced by, each once, in order of their bytes.
+/// The numbers of the macros that a token is not replaced by, each once and rising. The number of a macro is its index in the
+/// table of definitions, which stays the same during one expansion.
 #[derive(Drop)]
-pub(crate) struct HideSet<'a> {
-    names: SmallVec<&'a [u8], 4>,
+pub(crate) struct HideSet {
+    numbers: SmallVec<u32, 4>,
 }
 
-impl<'a> Model for HideSet<'a> {
-    ghost use Rattle.std.specs.Prelude.{map, List, ℕ};
+impl Model for HideSet {
     ghost use Rattle.std.specs.FinSet as set;
     ghost use Rattle.std.specs.Ordering.{nat_cmp};
-    ghost use Rattle.std.specs.Cmp.Lexicographic.{slice_cmp};
     ghost use Rattle.std.specs.List.Sorted.{IsStrictlySortedBy};
-    ghost use Rattle.std.specs.Coded.{coded_list, coded_ℕ};
+    ghost use Rattle.std.specs.Coded.{coded_ℕ};
 
-    ghost Value = { set.FinSet (slice_cmp nat_cmp) };
+    ghost Value = { set.FinSet nat_cmp };
 
-    ghost coded = { set.code (coded_list coded_ℕ) };
+    ghost coded = { set.code coded_ℕ };
 
-    ghost view = { λ s. set.from_list (map (λ name. name.now) s.names.items) };
+    ghost view = { λ s. set.from_list s.numbers.items };
 
-    ghost invariant = { λ s. IsStrictlySortedBy (slice_cmp nat_cmp) (map (λ name. name.now) s.names.items) };
+    ghost invariant = { λ s. IsStrictlySortedBy nat_cmp s.numbers.items };
 }
 
-impl<'a> HideSet<'a> {
-    /// No names.
-    pub(crate) fn new(alloc: Global) -> HideSet<'a>
+impl HideSet {
+    /// No numbers.
+    pub(crate) fn new(alloc: Global) -> HideSet
         ensures { result ≡ set.empty }
     {
         HideSet {
-            names: SmallVec::new(alloc),
+            numbers: SmallVec::new(alloc),
         }
     }
 
-    /// Whether the name is hidden.
-    pub(crate) fn contains(&self, name: &'a [u8]) -> bool
-        ensures { result ≡ set.contains self.now name.now }
+    /// Whether the number is hidden.
+    pub(crate) fn contains(&self, number: u32) -> bool
+        ensures { result ≡ set.contains self.now number }
     {
-        self.names.as_slice().binary_search(&name).is_ok()
+        self.numbers.as_slice().binary_search(&number).is_ok()
     }
 
-    /// Hides the name too.
-    pub(crate) fn insert(&mut self, name: &'a [u8]) -> Result<(), AllocError>
-        ensures inserted { OnOk result (self.new ≡ set.insert self.old name.now) }
+    /// Hides the number too.
+    pub(crate) fn insert(&mut self, number: u32) -> Result<(), AllocError>
+        ensures inserted { OnOk result (self.new ≡ set.insert self.old number) }
         ensures unchanged { OnErr result (self.new ≡ self.old) }
     {
-        match self.names.as_slice().binary_search(&name) {
+        match self.numbers.as_slice().binary_search(&number) {
             Ok(_) => Ok(()),
             Err(index) => {
-                self.names.insert(index, name)?;
+                self.numbers.insert(index, number)?;
                 Ok(())
             }
         }
     }
 
-    /// The same names.
-    pub(crate) fn copy(&self) -> Result<HideSet<'a>, AllocError>
+    /// The same numbers.
+    pub(crate) fn copy(&self) -> Result<HideSet, AllocError>
         ensures { IfOk result (λ copy. copy ≡ self.now) }
     {
-        let names = SmallVec::from_slice(*self.names.allocator(), self.names.as_slice())?;
-        Ok(HideSet { names })
+        let numbers = SmallVec::from_slice(*self.numbers.allocator(), self.numbers.as_slice())?;
+        Ok(HideSet { numbers })
     }
 
-    /// Whether the other hides each name that this one hides.
-    pub(crate) fn is_subset(&self, other: &HideSet<'a>) -> bool
+    /// Whether both have the same numbers. Most sets that meet have.
+    pub(crate) fn is_same(&self, other: &HideSet) -> bool
+        ensures { result ≡ true → self.now ≡ other.now }
+    {
+        self.numbers.as_slice() == other.numbers.as_slice()
+    }
+
+    /// Whether the other hides each number that this one hides.
+    pub(crate) fn is_subset(&self, other: &HideSet) -> bool
         ensures { result ≡ set.is_subset self.now other.now }
     {
-        // Both rows rise: a name that is less than the next one of the other row is not in it.
-        let mut own = self.names.as_slice();
-        let mut others = other.names.as_slice();
-        'rows: while let [name, own_rest @ ..] = own {
+        // Both rows rise: a number that is less than the next one of the other row is not in it.
+        let mut own = self.numbers.as_slice();
+        let mut others = other.numbers.as_slice();
+        'rows: while let [number, own_rest @ ..] = own {
             let [next, others_rest @ ..] = others else {
                 return false;
             };
-            match name.cmp(next) {
+            match number.cmp(next) {
                 Ordering::Less => return false,
                 Ordering::Equal => own = own_rest,
                 Ordering::Greater => {}
@@ -92,82 +97,98 @@ impl<'a> HideSet<'a> {
         true
     }
 
-    /// The names that both hide.
-    pub(crate) fn intersection(&self, other: &HideSet<'a>) -> Result<HideSet<'a>, AllocError>
+    /// The numbers that both hide.
+    pub(crate) fn intersection(&self, other: &HideSet) -> Result<HideSet, AllocError>
         ensures { IfOk result (λ both. both ≡ set.intersection self.now other.now) }
     {
-        let mut names = SmallVec::new(*self.names.allocator());
-        let mut own = self.names.as_slice();
-        let mut others = other.names.as_slice();
-        'rows: while let [name, own_rest @ ..] = own {
+        if self.is_same(other) {
+            return self.copy();
+        }
+        self.common(other)
+    }
+
+    /// The numbers that one of them hides.
+    pub(crate) fn union(&self, other: &HideSet) -> Result<HideSet, AllocError>
+        ensures { IfOk result (λ either. either ≡ set.union self.now other.now) }
+    {
+        if self.is_same(other) {
+            return self.copy();
+        }
+        self.merged(other)
+    }
+
+    /// The numbers that both hide, found by a walk over both rows.
+    fn common(&self, other: &HideSet) -> Result<HideSet, AllocError>
+        ensures { IfOk result (λ both. both ≡ set.intersection self.now other.now) }
+    {
+        let mut numbers = SmallVec::new(*self.numbers.allocator());
+        let mut own = self.numbers.as_slice();
+        let mut others = other.numbers.as_slice();
+        'rows: while let [number, own_rest @ ..] = own {
             let [next, others_rest @ ..] = others else {
                 break;
             };
-            match name.cmp(next) {
+            match number.cmp(next) {
                 Ordering::Less => own = own_rest,
                 Ordering::Greater => others = others_rest,
                 Ordering::Equal => {
-                    names.push(*name)?;
+                    numbers.push(*number)?;
                     own = own_rest;
                     others = others_rest;
                 }
             }
         }
-        Ok(HideSet { names })
+        Ok(HideSet { numbers })
     }
 
-    /// The names that one of them hides.
-    pub(crate) fn union(&self, other: &HideSet<'a>) -> Result<HideSet<'a>, AllocError>
+    /// The numbers that one of them hides, found by a walk over both rows.
+    fn merged(&self, other: &HideSet) -> Result<HideSet, AllocError>
         ensures { IfOk result (λ either. either ≡ set.union self.now other.now) }
     {
-        let mut names = SmallVec::new(*self.names.allocator());
-        let mut own = self.names.as_slice();
-        let mut others = other.names.as_slice();
-        'rows: while let [name, own_rest @ ..] = own {
+        let mut numbers = SmallVec::new(*self.numbers.allocator());
+        let mut own = self.numbers.as_slice();
+        let mut others = other.numbers.as_slice();
+        'rows: while let [number, own_rest @ ..] = own {
             let [next, others_rest @ ..] = others else {
                 break;
             };
-            match name.cmp(next) {
+            match number.cmp(next) {
                 Ordering::Less => {
-                    names.push(*name)?;
+                    numbers.push(*number)?;
                     own = own_rest;
                 }
                 Ordering::Greater => {
-                    names.push(*next)?;
+                    numbers.push(*next)?;
                     others = others_rest;
                 }
                 Ordering::Equal => {
-                    names.push(*name)?;
+                    numbers.push(*number)?;
                     own = own_rest;
                     others = others_rest;
                 }
             }
         }
-        names.extend_from_slice(own)?;
-        names.extend_from_slice(others)?;
-        Ok(HideSet { names })
+        numbers.extend_from_slice(own)?;
+        numbers.extend_from_slice(others)?;
+        Ok(HideSet { numbers })
     }
 
-    /// What the tokens of an object-like replacement of the name hide, if the name hid this.
-    pub(crate) fn object_hides(&self, name: &'a [u8]) -> Result<HideSet<'a>, AllocError>
-        ensures { IfOk result (λ hides. hides ≡ object_hides self.now name.now) }
+    /// What the tokens of an object-like replacement of a macro hide, if its name hid this.
+    pub(crate) fn object_hides(&self, number: u32) -> Result<HideSet, AllocError>
+        ensures { IfOk result (λ hides. hides ≡ set.insert self.now number) }
     {
         let mut hides = self.copy()?;
-        hides.insert(name)?;
+        hides.insert(number)?;
         Ok(hides)
     }
 
-    /// What the tokens of a function-like replacement of the name hide, if the name hid this and the closing
-    /// parenthesis that.
-    pub(crate) fn call_hides(
-        &self,
-        close: &HideSet<'a>,
-        name: &'a [u8],
-    ) -> Result<HideSet<'a>, AllocError>
-        ensures { IfOk result (λ hides. hides ≡ call_hides self.now close.now name.now) }
+    /// What the tokens of a function-like replacement of a macro hide, if its name hid this and the closing parenthesis
+    /// that.
+    pub(crate) fn call_hides(&self, close: &HideSet, number: u32) -> Result<HideSet, AllocError>
+        ensures { IfOk result (λ hides. hides ≡ set.insert (set.intersection self.now close.now) number) }
     {
         let mut hides = self.intersection(close)?;
-        hides.insert(name)?;
+        hides.insert(number)?;
         Ok(hides)
     }
 }

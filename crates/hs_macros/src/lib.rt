@@ -14,6 +14,7 @@ mod lists;
 mod macros;
 mod pending;
 mod placing;
+mod table;
 mod tokens;
 
 pub use budget::Budget;

@@ -12,6 +12,7 @@ use crate::definition::Definition;
 use crate::error::MacroError;
 use crate::expansion::replaced_run;
 use crate::line::{Line, definition_of};
+use crate::table::Table;
 use hs_base::NoMemory;
 use hs_tokens::{SourceToken, Token};
 use indexmap::IndexMap;
@@ -21,7 +22,7 @@ use std::marker::Model;
 /// The macros that are defined.
 #[derive(Drop)]
 pub struct Macros {
-    definitions: IndexMap<Vec<u8>, Definition>,
+    definitions: Table,
 }
 
 impl Model for Macros {
@@ -107,7 +108,7 @@ impl Macros {
         ensures unchanged { OnErr result (left.new ≡ left.old) }
     {
         let alloc = *self.definitions.allocator();
-        let done = replaced_run(alloc, self, run, *left)?;
+        let done = replaced_run(alloc, &self.definitions, run, *left)?;
         *left = done.left;
         Ok(done.tokens)
     }

@@ -1,6 +1,6 @@
 //! Tokens on their way through replacement.
 
-ghost use Rattle.std.specs.Prelude.{◌≡◌, ◌++◌, IfOk, OnOk, map};
+ghost use Rattle.std.specs.Prelude.{◌≡◌, ◌++◌, ℕ, List, IfOk, OnOk, map};
 ghost use Rattle.hs_macros.specs.Replacement.{plain, source_of};
 ghost use Rattle.hs_macros.specs.Stacks.{done, ahead};
 
@@ -18,20 +18,18 @@ pub(crate) struct Pending<'a> {
     /// Where it counts as standing.
     pub(crate) pos: Pos,
     pub(crate) origin: Origin,
-    /// The names that it is not replaced by.
-    pub(crate) hides: Rc<HideSet<'a>>,
+    /// The numbers of the macros that may not replace it.
+    pub(crate) hides: Rc<HideSet>,
 }
 
 impl<'a> Pending<'a> {
+    ghost use Rattle.hs_macros.specs.Numbers.{named};
     ghost use Rattle.hs_macros.specs.Stacks.{hidden};
 
-    /// A token of a source, which hides the given set: that of no names.
-    pub(crate) fn plain(
-        token: &'a Token,
-        hides: &Rc<HideSet<'a>>,
-    ) -> Result<Pending<'a>, AllocError>
-        ensures { IfOk result (λ pending. hidden pending
-            ≡ record (plain token.now) { hides = hides.now.value }) }
+    /// A token of a source, which hides the given set: that of no numbers.
+    pub(crate) fn plain(token: &'a Token, hides: &Rc<HideSet>) -> Result<Pending<'a>, AllocError>
+        ensures { (names : List (List ℕ)) → IfOk result (λ pending. hidden names pending
+            ≡ record (plain token.now) { hides = named names hides.now.value }) }
     {
         Ok(Pending {
             token,
@@ -43,7 +41,7 @@ impl<'a> Pending<'a> {
 
     /// The token without what it hides.
     pub(crate) fn source(&self, alloc: Global) -> Result<SourceToken, AllocError>
-        ensures { IfOk result (λ source. source ≡ source_of (hidden self.now)) }
+        ensures { (names : List (List ℕ)) → IfOk result (λ source. source ≡ source_of (hidden names self.now)) }
     {
         let mut token = self.token.copied(alloc)?;
         token.pos = self.pos;
@@ -54,12 +52,12 @@ impl<'a> Pending<'a> {
     }
 }
 
-/// The tokens of a run of a source, the next one last. They hide nothing, and share the set of no names.
+/// The tokens of a run of a source, the next one last. They hide nothing, and share the set of no numbers.
 pub(crate) fn tokens_ahead<'a>(
     alloc: Global,
     run: &'a [Token],
 ) -> Result<Vec<Pending<'a>>, AllocError>
-    ensures { IfOk result (λ tokens. ahead tokens.items ≡ map plain run.now) }
+    ensures { (names : List (List ℕ)) → IfOk result (λ tokens. ahead names tokens.items ≡ map plain run.now) }
 {
     let none = Rc::new(alloc, HideSet::new(alloc))?;
     let mut tokens = Vec::with_capacity(alloc, run.len())?;
@@ -75,8 +73,8 @@ pub(crate) fn put_sources(
     tokens: &[Pending<'_>],
     sources: &mut Vec<SourceToken>,
 ) -> Result<(), AllocError>
-    ensures { OnOk result (sources.new.items
-        ≡ sources.old.items ++ map source_of (done tokens.now)) }
+    ensures { (names : List (List ℕ)) → OnOk result (sources.new.items
+        ≡ sources.old.items ++ map source_of (done names tokens.now)) }
 {
     for pending in tokens {
         sources.push(pending.source(alloc)?)?;

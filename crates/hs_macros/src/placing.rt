@@ -1,12 +1,13 @@
 //! Puts a macro's tokens in place of an invocation, with its arguments (X3.159-1989 3.8.3.1).
 
-ghost use Rattle.std.specs.Prelude.{◌≡◌, ◌++◌, IfOk, OnOk, length, map};
+ghost use Rattle.std.specs.Prelude.{◌≡◌, ◌++◌, ℕ, List, IfOk, OnOk, IfSome, length, map};
 ghost use Rattle.std.specs.FinSet as set;
 ghost use Rattle.std.specs.List.{flat_map};
 ghost use Rattle.hs_base.specs.declared.pos.Pos.{Pos};
-ghost use Rattle.hs_macros.specs.HideSets.{HideSet};
+ghost use Rattle.hs_macros.specs.HideSets.{HideSet as NameSet};
+ghost use Rattle.hs_macros.specs.Numbers.{Numbers, named};
 ghost use Rattle.hs_macros.specs.Replacement.{is_named, is_used, argument_of, argument_for, from_body, from_argument, placed_at, placed, spent};
-ghost use Rattle.hs_macros.specs.Stacks.{hidden, done, ahead, ready, invocation, seen_argument, room_after};
+ghost use Rattle.hs_macros.specs.Stacks.{hidden, done, ahead, ready, invocation, seen_argument, room_after, IsJoined};
 
 use crate::arguments::Supplied;
 use crate::budget::Budget;
@@ -35,7 +36,8 @@ pub(crate) fn is_used(parameter: &[u8], body: &[Token]) -> bool
 
 /// The argument of this parameter.
 fn argument_of<'b, 'a>(name: &[u8], arguments: &'b [Supplied<'a>]) -> Option<&'b [Pending<'a>]>
-    ensures { seen_argument result ≡ argument_of name.now (ready arguments.now) }
+    ensures { (names : List (List ℕ)) → seen_argument names result
+        ≡ argument_of name.now (ready names arguments.now) }
 {
     for supplied in arguments {
         if name == supplied.parameter {
@@ -47,7 +49,8 @@ fn argument_of<'b, 'a>(name: &[u8], arguments: &'b [Supplied<'a>]) -> Option<&'b
 
 /// The argument that a token of the macro stands for, if it is a parameter.
 fn argument_for<'b, 'a>(token: &Token, arguments: &'b [Supplied<'a>]) -> Option<&'b [Pending<'a>]>
-    ensures { seen_argument result ≡ argument_for token.now (ready arguments.now) }
+    ensures { (names : List (List ℕ)) → seen_argument names result
+        ≡ argument_for token.now (ready names arguments.now) }
 {
     if is_identifier(token) {
         argument_of(token.text.items(), arguments)
@@ -57,12 +60,9 @@ fn argument_for<'b, 'a>(token: &Token, arguments: &'b [Supplied<'a>]) -> Option<
 }
 
 /// A token of the macro in place.
-fn from_body<'a>(
-    pos: Pos,
-    hides: &Rc<HideSet<'a>>,
-    token: &'a Token,
-) -> Result<Pending<'a>, AllocError>
-    ensures { IfOk result (λ pending. hidden pending ≡ from_body pos hides.now.value token.now) }
+fn from_body<'a>(pos: Pos, hides: &Rc<HideSet>, token: &'a Token) -> Result<Pending<'a>, AllocError>
+    ensures { (names : List (List ℕ)) → IfOk result (λ pending. hidden names pending
+        ≡ from_body pos (named names hides.now.value) token.now) }
 {
     Ok(Pending {
         token,
@@ -73,12 +73,8 @@ fn from_body<'a>(
 }
 
 /// What a token of an argument hides in place. A set that adds nothing is not copied.
-#[tactic(auto, using(crate::proofs::Names::union_within))]
-fn union_of<'a>(
-    alloc: Global,
-    own: &HideSet<'a>,
-    hides: &Rc<HideSet<'a>>,
-) -> Result<Rc<HideSet<'a>>, AllocError>
+#[tactic(auto, using(crate::proofs::Rising::union_within))]
+fn union_of(alloc: Global, own: &HideSet, hides: &Rc<HideSet>) -> Result<Rc<HideSet>, AllocError>
     ensures { IfOk result (λ both. both.value ≡ set.union own.now hides.now.value) }
 {
     if own.is_subset(hides) {
@@ -87,21 +83,51 @@ fn union_of<'a>(
     Ok(Rc::new(alloc, own.union(hides)?)?)
 }
 
-/// A token of an argument in place: it goes on hiding what it hid.
-fn from_argument<'a>(
+/// What the tokens of an argument hide in place that hid the same before.
+#[derive(Drop)]
+pub(crate) struct Joined<'b> {
+    /// What they hid before.
+    pub(crate) own: &'b HideSet,
+    /// What they hide in place.
+    pub(crate) both: Rc<HideSet>,
+}
+
+/// What a token that hid `own` before hides in place. The tokens of a run mostly hid the same, so that each takes the set of the
+/// last one.
+fn shared_set<'b>(
     alloc: Global,
+    own: &'b HideSet,
+    hides: &Rc<HideSet>,
+    last: Option<Joined<'b>>,
+) -> Result<Joined<'b>, AllocError>
+    requires { IfSome last (IsJoined hides.now.value) }
+    ensures joined { IfOk result (IsJoined hides.now.value) }
+    ensures own { IfOk result (λ joined. joined.own.now ≡ own.now) }
+{
+    if let Some(joined) = last {
+        if joined.own.is_same(own) {
+            return Ok(joined);
+        }
+    }
+    let both = union_of(alloc, own, hides)?;
+    Ok(Joined { own, both })
+}
+
+/// A token of an argument in place: it goes on hiding what it hid, with what the macro's tokens hide.
+fn from_argument<'a>(
     pos: Pos,
-    hides: &Rc<HideSet<'a>>,
+    both: &Rc<HideSet>,
     pending: &Pending<'a>,
 ) -> Result<Pending<'a>, AllocError>
-    ensures { IfOk result (λ placed. hidden placed
-        ≡ from_argument pos hides.now.value (hidden pending.now)) }
+    ensures { (names : List (List ℕ)) (hides : Numbers) → both.now.value ≡ set.union pending.now.hides.value hides
+        → IfOk result (λ placed. hidden names placed
+        ≡ from_argument pos (named names hides) (hidden names pending.now)) }
 {
     Ok(Pending {
         token: pending.token,
         pos,
         origin: Origin::Macro,
-        hides: union_of(alloc, &pending.hides, hides)?,
+        hides: both.clone()?,
     })
 }
 
@@ -109,23 +135,27 @@ fn from_argument<'a>(
 fn put_argument<'a>(
     alloc: Global,
     pos: Pos,
-    hides: &Rc<HideSet<'a>>,
+    hides: &Rc<HideSet>,
     argument: &[Pending<'a>],
     tokens: &mut Vec<Pending<'a>>,
 ) -> Result<(), AllocError>
-    ensures { OnOk result (ahead tokens.new.items
-        ≡ map (from_argument pos hides.now.value) (done argument.now) ++ ahead tokens.old.items) }
+    ensures { (names : List (List ℕ)) → OnOk result (ahead names tokens.new.items
+        ≡ map (from_argument pos (named names hides.now.value)) (done names argument.now)
+        ++ ahead names tokens.old.items) }
 {
+    let mut last = None;
     for pending in argument.iter().rev() {
-        tokens.push(from_argument(alloc, pos, hides, pending)?)?;
+        let shared = shared_set(alloc, &pending.hides, hides, last)?;
+        tokens.push(from_argument(pos, &shared.both, pending)?)?;
+        last = Some(shared);
     }
     Ok(())
 }
 
 /// How many tokens stand for a token of the macro.
 fn placed_len(token: &Token, arguments: &[Supplied]) -> usize
-    ensures { (pos : Pos) (hides : HideSet)
-        → result ≡ length (placed_at pos hides (ready arguments.now) token.now) }
+    ensures { (names : List (List ℕ)) (pos : Pos) (hides : NameSet)
+        → result ≡ length (placed_at pos hides (ready names arguments.now) token.now) }
 {
     match argument_for(token, arguments) {
         None => 1,
@@ -136,8 +166,8 @@ fn placed_len(token: &Token, arguments: &[Supplied]) -> usize
 /// What is left of the room for tokens after those that the macro puts in place, or nothing if they pass it. Counting
 /// stops there, so no sum grows past the room.
 fn room_left(room: u64, body: &[Token], arguments: &[Supplied]) -> Option<u64>
-    ensures { (pos : Pos) (hides : HideSet)
-        → result ≡ room_after room (length (flat_map (placed_at pos hides (ready arguments.now)) body.now)) }
+    ensures { (names : List (List ℕ)) (pos : Pos) (hides : NameSet)
+        → result ≡ room_after room (length (flat_map (placed_at pos hides (ready names arguments.now)) body.now)) }
 {
     let mut room = room;
     for token in body {
@@ -149,8 +179,8 @@ fn room_left(room: u64, body: &[Token], arguments: &[Supplied]) -> Option<u64>
 impl<'a> Call<'a> {
     /// What is left after the replacement, or the limit that it passes.
     pub(crate) fn spent(&self, left: Budget) -> Result<Budget, MacroError>
-        ensures { result
-            ≡ spent left (length (placed (invocation self.now) (ready self.now.ready.items))) }
+        ensures { (names : List (List ℕ)) → result
+            ≡ spent left (length (placed (invocation names self.now) (ready names self.now.ready.items))) }
     {
         if left.replacements == 0 {
             return Err(MacroError::Limit(LimitKind::Replacements.passed()));
@@ -166,8 +196,9 @@ impl<'a> Call<'a> {
 
     /// Puts the macro's tokens in place, before those after the invocation.
     pub(crate) fn place(self, alloc: Global) -> Result<Vec<Pending<'a>>, AllocError>
-        ensures { IfOk result (λ tokens. ahead tokens.items
-            ≡ placed (invocation self.entry) (ready self.entry.ready.items) ++ ahead self.entry.behind.items) }
+        ensures { (names : List (List ℕ)) → IfOk result (λ tokens. ahead names tokens.items
+            ≡ placed (invocation names self.entry) (ready names self.entry.ready.items)
+            ++ ahead names self.entry.behind.items) }
     {
         let Call {
             body,

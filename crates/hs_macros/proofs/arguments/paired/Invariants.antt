@@ -1,4 +1,4 @@
-use Rattle.std.proofs.Common.{◌≡◌, map, length}
+use Rattle.std.proofs.Common.{◌≡◌, ℕ, List, map, length}
 use Rattle.hs_macros.specs.Arguments.{paired}
 use Rattle.hs_macros.specs.Stacks.{waiting, with_later}
 use Rattle.hs_macros.proofs.Collecting.{row}
@@ -6,7 +6,8 @@ use Rattle.hs_macros.proofs.arguments.paired.Given as goal
 
 -- those that are paired come after those that are left
 abbrev pub invariant-names : goal.invariant-names
-invariant-names l = with_later (paired l.names (map row l.given.items)) (waiting l.waiting.items) ≡ paired l.fn.names (map row l.fn.given.items)
+invariant-names l = (table : List (List ℕ))
+    → with_later (paired l.names (map (row table) l.given.items)) (waiting table l.waiting.items) ≡ paired l.fn.names (map (row table) l.fn.given.items)
 
 -- each turn takes a name
 abbrev pub decreases-names : goal.decreases-names

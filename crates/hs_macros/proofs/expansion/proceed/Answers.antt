@@ -10,58 +10,58 @@ use Rattle.hs_macros.proofs.expansion.proceed.Goals as goal
 
 -- the next argument is begun
 pub returns-then-is_used-clause-step : goal.returns-then-is_used-clause-step
-returns-then-is_used-clause-step c macros =
-    begins macros c.arguments.calls.items c.push.new.self.items c.args.before c.reverse.new.self c.new.result c.arguments.call c.pop.new.self
+returns-then-is_used-clause-step c names macros =
+    begins names macros c.arguments.calls.items c.push.new.self.items c.args.before c.reverse.new.self c.new.result c.arguments.call c.pop.new.self
     c.in-Some.argument c.args.left c.in-Some.ensures.items (sym c.is_used.ensures ∙ c.if-is_used.true) c.new.ensures.items c.reverse.ensures.items
     c.in_ok-push.ensures.items
-    ∙ ap (λ (calls : List Suspended). resumed macros calls (call_outcome macros (done c.args.before.items) c.arguments.call c.args.left))
+    ∙ ap (λ (calls : List Suspended). resumed names macros calls (call_outcome names macros (done names c.args.before.items) c.arguments.call c.args.left))
     c.arguments.invariant.waits
-    ∙ ap (resumed macros c.args.calls.now.items) (c.arguments.invariant.same macros)
+    ∙ ap (resumed names macros c.args.calls.now.items) (c.arguments.invariant.same names macros)
 
 -- with fewer arguments that wait
 pub returns-then-is_used-clause-falls : goal.returns-then-is_used-clause-falls
-returns-then-is_used-clause-falls c =
+returns-then-is_used-clause-falls c names =
     omega (
       arith,
-      begins_falls c.arguments.calls.items c.push.new.self.items c.args.before c.reverse.new.self c.new.result c.arguments.call c.pop.new.self
+      begins_falls names c.arguments.calls.items c.push.new.self.items c.args.before c.reverse.new.self c.new.result c.arguments.call c.pop.new.self
           c.in-Some.argument c.args.left c.in-Some.ensures.items c.reverse.ensures.items c.in_ok-push.ensures.items,
-      ap weights c.arguments.invariant.waits,
-      c.arguments.invariant.fewer,
+      ap (weights names) c.arguments.invariant.waits,
+      c.arguments.invariant.fewer names,
       ap length c.arguments.invariant.behind,
     )
 
 -- the tokens pass a limit
 pub returns-in_err-left-clause-step : goal.returns-in_err-left-clause-step
-returns-in_err-left-clause-step c macros =
+returns-in_err-left-clause-step c names macros =
     let exit = err_from_is_err_and c.from_residual-in_err-left.result c.from_residual-in_err-left.ensures.1 in
     let last : Call = record c.arguments.call { waiting = c.pop.new.self } in
     let none : c.pop.new.self.items ≡ [] = nil_from_length _ (omega (arith, c.pop.new.self.ok.0, c.in_default.ensures.cases.1)) in
     let same : c.pop.new.self.items ≡ c.arguments.call.waiting.items =
     none ∙ sym (nil_from_length _ (omega (arith, c.arguments.call.waiting.ok.0, c.in_default.ensures.cases.0))) in
     rw (exit.1, exit.2) (inr (
-    ap (resumed macros c.args.calls.now.items) (sym (same_waiting macros (done c.args.before.items) c.arguments.call c.pop.new.self c.args.left same
-    ∙ c.arguments.invariant.same macros))
-    ∙ refuses macros c.args.calls.now.items (done c.args.before.items) last c.args.left _ none c.in_err-left.ensures))
+    ap (resumed names macros c.args.calls.now.items) (sym (same_waiting names macros (done names c.args.before.items) c.arguments.call c.pop.new.self c.args.left same
+    ∙ c.arguments.invariant.same names macros))
+    ∙ refuses names macros c.args.calls.now.items (done names c.args.before.items) last c.args.left _ none (c.in_err-left.ensures names)))
 
 -- or they are put in place
 pub returns-clause-step : goal.returns-clause-step
-returns-clause-step c macros =
+returns-clause-step c names macros =
     let last : Call = record c.arguments.call { waiting = c.pop.new.self } in
     let none : c.pop.new.self.items ≡ [] = nil_from_length _ (omega (arith, c.pop.new.self.ok.0, c.in_default.ensures.cases.1)) in
     let same : c.pop.new.self.items ≡ c.arguments.call.waiting.items =
     none ∙ sym (nil_from_length _ (omega (arith, c.arguments.call.waiting.ok.0, c.in_default.ensures.cases.0))) in
-    places macros c.arguments.calls.items c.args.before c.in_ok-place.field-0 last c.args.left c.in_ok-left.left none c.in_ok-left.ensures c.in_ok-place.ensures
-    ∙ ap (λ (calls : List Suspended). resumed macros calls (call_outcome macros (done c.args.before.items) last c.args.left)) c.arguments.invariant.waits
-    ∙ ap (resumed macros c.args.calls.now.items) (same_waiting macros (done c.args.before.items) c.arguments.call c.pop.new.self c.args.left same
-    ∙ c.arguments.invariant.same macros)
+    places names macros c.arguments.calls.items c.args.before c.in_ok-place.field-0 last c.args.left c.in_ok-left.left none (c.in_ok-left.ensures names) (c.in_ok-place.ensures names)
+    ∙ ap (λ (calls : List Suspended). resumed names macros calls (call_outcome names macros (done names c.args.before.items) last c.args.left)) c.arguments.invariant.waits
+    ∙ ap (resumed names macros c.args.calls.now.items) (same_waiting names macros (done names c.args.before.items) c.arguments.call c.pop.new.self c.args.left same
+    ∙ c.arguments.invariant.same names macros)
 
 -- with so much less that may be put in place
 pub returns-clause-falls : goal.returns-clause-falls
-returns-clause-falls c =
+returns-clause-falls c names =
     let last : Call = record c.arguments.call { waiting = c.pop.new.self } in
     omega (
       arith,
-      places_falls c.in_ok-place.field-0 last c.args.left c.in_ok-left.left c.in_ok-left.ensures c.in_ok-place.ensures,
-      ap weights c.arguments.invariant.waits,
+      places_falls names c.in_ok-place.field-0 last c.args.left c.in_ok-left.left (c.in_ok-left.ensures names) (c.in_ok-place.ensures names),
+      ap (weights names) c.arguments.invariant.waits,
       ap length c.arguments.invariant.behind,
     )

@@ -1,4 +1,4 @@
-use Rattle.std.proofs.Common.{◌≡◌, ◌≤◌, length}
+use Rattle.std.proofs.Common.{◌≡◌, ◌≤◌, ℕ, List, length}
 use Rattle.hs_macros.specs.Definitions.{Definitions}
 use Rattle.hs_macros.specs.Loads.{load}
 use Rattle.hs_macros.specs.Stacks.{done, waiting}
@@ -8,8 +8,9 @@ use Rattle.hs_macros.proofs.expansion.proceed.Given as goal
 -- arguments that are not used change nothing of what comes of the invocation
 abbrev pub invariant-arguments : goal.invariant-arguments
 invariant-arguments l = record {
-  same : (macros : Definitions) → call_outcome macros (done l.before.items) l.call l.left ≡ call_outcome macros (done l.before.items) l.fn.call l.left;
-  fewer : load (waiting l.call.waiting.items) ≤ load (waiting l.fn.call.waiting.items);
+  same : (names : List (List ℕ)) (macros : Definitions)
+      → call_outcome names macros (done names l.before.items) l.call l.left ≡ call_outcome names macros (done names l.before.items) l.fn.call l.left;
+  fewer : (names : List (List ℕ)) → load (waiting names l.call.waiting.items) ≤ load (waiting names l.fn.call.waiting.items);
   behind : l.call.behind.items ≡ l.fn.call.behind.items;
   waits : l.calls.items ≡ l.initial.calls.items;
 }

@@ -1,4 +1,4 @@
-use Rattle.std.proofs.Common.{◌≡◌, ◌+◌, length, take}
+use Rattle.std.proofs.Common.{◌≡◌, ◌+◌, ℕ, List, length, take}
 use Rattle.std.specs.List.{flat_map}
 use Rattle.hs_base.specs.declared.pos.Pos.{Pos}
 use Rattle.hs_macros.specs.HideSets.{HideSet}
@@ -8,5 +8,5 @@ use Rattle.hs_macros.proofs.placing.room_left.Given as goal
 
 -- the tokens so far took what is gone
 abbrev pub invariant-loop-token : goal.invariant-loop-token
-invariant-loop-token l = (pos : Pos) (hides : HideSet)
-    → l.room + length (flat_map (placed_at pos hides (ready l.arguments)) (take l.token-index l.body)) ≡ l.initial.room
+invariant-loop-token l = (names : List (List ℕ)) (pos : Pos) (hides : HideSet)
+    → l.room + length (flat_map (placed_at pos hides (ready names l.arguments)) (take l.token-index l.body)) ≡ l.initial.room

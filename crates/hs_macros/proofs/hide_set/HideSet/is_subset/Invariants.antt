@@ -6,6 +6,6 @@ use Rattle.hs_macros.proofs.hide_set.HideSet.is_subset.Given as goal
 abbrev pub invariant-rows : goal.invariant-rows
 invariant-rows l = Decides l.own l.others l.self l.other
 
--- each turn takes a name from the row of the others
+-- each turn takes a number from the row of the others
 abbrev pub decreases-rows : goal.decreases-rows
 decreases-rows l = length l.own + length l.others
