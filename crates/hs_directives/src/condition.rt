@@ -99,7 +99,7 @@ fn resolved(
             tokens.push(answer(alloc, token, macros.is_defined(asked.name))?)?;
             rest = behind.split_at(asked.len).1;
         } else {
-            tokens.push(token.copied(alloc)?)?;
+            tokens.push(token.copied()?)?;
             rest = behind;
         }
     }

@@ -100,7 +100,7 @@ fn tokens_of(alloc: Global, sources: Vec<SourceToken>) -> Result<Vec<Token>, All
 {
     let mut tokens = Vec::with_capacity(alloc, sources.len())?;
     'sources: for source in &sources {
-        tokens.push(source.token.copied(alloc)?)?;
+        tokens.push(source.token.copied()?)?;
     }
     Ok(tokens)
 }

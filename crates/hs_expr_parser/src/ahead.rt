@@ -8,7 +8,7 @@ ghost use Rattle.hs_expr_parser.specs.Reading.{begins_list, void_alone, tag_at, 
 use crate::operators::dropped_of;
 use crate::words::{begins_specifier, is_name};
 use crate::{ParseEnd, TypeNames};
-use hs_base::{Bytes, NoMemory};
+use hs_base::NoMemory;
 use hs_constants::has_string_value;
 use hs_syntax::{Pointer, Word};
 use hs_tokens::{Place, SourceToken, TokenKind, is_identifier, is_mark, is_same_kind};
@@ -24,12 +24,12 @@ pub fn place_of(source: &SourceToken) -> Place
     }
 }
 
-/// The token as a word.
-pub(crate) fn word_of(alloc: Global, source: &SourceToken) -> Result<Word, NoMemory>
+/// The token as a word, which shares its text.
+pub(crate) fn word_of(source: &SourceToken) -> Result<Word, NoMemory>
     ensures { IfOk result (λ it. it ≡ word_of source.now) }
 {
     Ok(Word {
-        text: Bytes::from_vec(source.token.text.items().to_vec(alloc)?),
+        text: source.token.text.copied()?,
         place: place_of(source),
     })
 }
@@ -125,10 +125,7 @@ pub fn mark<'a>(
 }
 
 /// The identifier that the first token is, and the others (X3.159-1989 3.1.2).
-pub(crate) fn name<'a>(
-    alloc: Global,
-    tokens: &'a [SourceToken],
-) -> Result<(Word, &'a [SourceToken]), ParseEnd>
+pub(crate) fn name(tokens: &[SourceToken]) -> Result<(Word, &[SourceToken]), ParseEnd>
     ensures read { Gives (λ x. (x.0, x.1.now)) result (name_at tokens.now) }
     ensures shorter { IfOk result (λ x. suc (length x.1.now) ≡ length tokens.now) }
 {
@@ -136,7 +133,7 @@ pub(crate) fn name<'a>(
         return Err(ParseEnd::NotExpr);
     };
     if is_identifier(&source.token) && is_name(source.token.text.items()) {
-        Ok((word_of(alloc, source)?, rest))
+        Ok((word_of(source)?, rest))
     } else {
         Err(ParseEnd::NotExpr)
     }
@@ -165,21 +162,18 @@ pub(crate) fn literals<'a>(
         if !is_literal(source) {
             return Ok((literals, rest));
         }
-        literals.push(word_of(alloc, source)?)?;
+        literals.push(word_of(source)?)?;
         rest = others;
     }
     Ok((literals, rest))
 }
 
 /// A tag, if one stands there, and the tokens after it (X3.159-1989 3.5.2.3).
-pub(crate) fn tag<'a>(
-    alloc: Global,
-    tokens: &'a [SourceToken],
-) -> Result<(Option<Word>, &'a [SourceToken]), NoMemory>
+pub(crate) fn tag(tokens: &[SourceToken]) -> Result<(Option<Word>, &[SourceToken]), NoMemory>
     ensures read { IfOk result (λ x. (x.0 ≡ (tag_at tokens.now).0) × (x.1.now ≡ (tag_at tokens.now).1)) }
     ensures shorter { IfOk result (λ x. length x.1.now ≤ length tokens.now) }
 {
-    match name(alloc, tokens) {
+    match name(tokens) {
         Ok((word, rest)) => Ok((Some(word), rest)),
         Err(ParseEnd::NotExpr) => Ok((None, tokens)),
         Err(ParseEnd::NoMemory) => Err(NoMemory),

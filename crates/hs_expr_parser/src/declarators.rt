@@ -66,7 +66,7 @@ fn base<'a, F: Fn(&[SourceToken]) -> Result<(Expr, usize), ParseEnd>>(
 {
     if let Some((source, rest)) = first(tokens) {
         if is_identifier(&source.token) && is_name(source.token.text.items()) {
-            return Ok((Direct::Name(word_of(alloc, source)?), rest));
+            return Ok((Direct::Name(word_of(source)?), rest));
         }
         if is_punctuator(source, b"(") && !(inner && begins_list(known, rest)) {
             return inside(alloc, known, conditional, inner, rest);

@@ -128,7 +128,7 @@ fn next_suffix<'a>(
         return Ok((Suffix::Call(arguments), rest));
     }
     if let Some(access) = access_of(source) {
-        let (name, rest) = name(alloc, behind)?;
+        let (name, rest) = name(behind)?;
         return Ok((Suffix::Member { access, at, name }, rest));
     }
     let Some(operator) = postfix_of(source) else {
@@ -157,17 +157,17 @@ fn primary<'a>(
     let text = source.token.text.items();
     match source.token.kind {
         TokenKind::Identifier if is_name(text) && !known.is_known(text) => {
-            Ok((Expr::Name(word_of(alloc, source)?), rest))
+            Ok((Expr::Name(word_of(source)?), rest))
         }
         TokenKind::Number if number_value(text).is_some() => {
-            Ok((Expr::Number(word_of(alloc, source)?), rest))
+            Ok((Expr::Number(word_of(source)?), rest))
         }
         TokenKind::Character if character_value(text).is_some() => {
-            Ok((Expr::Character(word_of(alloc, source)?), rest))
+            Ok((Expr::Character(word_of(source)?), rest))
         }
         TokenKind::Literal if has_string_value(text) => {
             let (others, left) = literals(alloc, rest)?;
-            Ok((Expr::Strings(word_of(alloc, source)?, others), left))
+            Ok((Expr::Strings(word_of(source)?, others), left))
         }
         TokenKind::Punctuator if is_punctuator(source, b"(") => {
             parens(alloc, known, place_of(source), rest)

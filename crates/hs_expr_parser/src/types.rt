@@ -130,17 +130,17 @@ fn specifier<'a, F: Fn(&[SourceToken]) -> Result<(Expr, usize), ParseEnd>>(
         return Ok((Specifier::Basic(it, at), rest));
     }
     if is_keyword(source, b"struct") {
-        let (tag, behind) = tag(alloc, rest)?;
+        let (tag, behind) = tag(rest)?;
         return struct_specifier(alloc, known, conditional, at, tag, behind);
     }
     if is_keyword(source, b"enum") {
-        let (tag, behind) = tag(alloc, rest)?;
+        let (tag, behind) = tag(rest)?;
         return enum_specifier(alloc, known, conditional, at, tag, behind);
     }
     if !is_type_name(known, source.token.text.items()) {
         return Err(ParseEnd::NotExpr);
     }
-    Ok((Specifier::Named(word_of(alloc, source)?), rest))
+    Ok((Specifier::Named(word_of(source)?), rest))
 }
 
 /// Reads the rest of a struct after its tag, if it has one: its members, or nothing (X3.159-1989 3.5.2.1, 3.5.2.3).
@@ -323,7 +323,7 @@ fn constant<'a, F: Fn(&[SourceToken]) -> Result<(Expr, usize), ParseEnd>>(
     ensures read { Gives (λ x. (view_constant x.0, x.1.now)) result (constant_at known.now tokens.now) }
     ensures shorter { IfOk result (λ x. length x.1.now < length tokens.now) }
 {
-    let (name, behind) = name(alloc, tokens)?;
+    let (name, behind) = name(tokens)?;
     let Some((_, next)) = mark_ahead(behind, b"=") else {
         return Ok((Constant::Plain(name), behind));
     };

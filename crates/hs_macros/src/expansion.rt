@@ -150,7 +150,6 @@ fn take_up<'a>(
 
 /// If no invocation waits, gives the frame's tokens that are done to the sources: what they hide is of no use any more.
 fn give_done<'a>(
-    alloc: Global,
     calls: &[Suspended<'a>],
     frame: &mut Frame<'a>,
     sources: &mut Vec<SourceToken>,
@@ -162,7 +161,7 @@ fn give_done<'a>(
     ensures given { OnOk result (calls.now ≡ [] → frame.new.before.items ≡ []) }
 {
     if calls.is_empty() {
-        put_sources(alloc, frame.before.as_slice(), sources)?;
+        put_sources(frame.before.as_slice(), sources)?;
         frame.before.clear();
     }
     Ok(())
@@ -188,7 +187,7 @@ pub(crate) fn replaced_run(
         left,
     };
     'steps: loop {
-        give_done(alloc, &calls, &mut frame, &mut sources)?;
+        give_done(&calls, &mut frame, &mut sources)?;
         if let Some(token) = frame.tokens.pop() {
             frame = take_token(alloc, table, &mut calls, frame, token)?;
         } else if let Some(suspended) = calls.pop() {

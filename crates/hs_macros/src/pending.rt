@@ -40,10 +40,10 @@ impl<'a> Pending<'a> {
     }
 
     /// The token without what it hides.
-    pub(crate) fn source(&self, alloc: Global) -> Result<SourceToken, AllocError>
+    pub(crate) fn source(&self) -> Result<SourceToken, AllocError>
         ensures { (names : List (List ℕ)) → IfOk result (λ source. source ≡ source_of (hidden names self.now)) }
     {
-        let mut token = self.token.copied(alloc)?;
+        let mut token = self.token.copied()?;
         token.pos = self.pos;
         Ok(SourceToken {
             token,
@@ -69,7 +69,6 @@ pub(crate) fn tokens_ahead<'a>(
 
 /// Puts the tokens after the sources, without what they hide.
 pub(crate) fn put_sources(
-    alloc: Global,
     tokens: &[Pending<'_>],
     sources: &mut Vec<SourceToken>,
 ) -> Result<(), AllocError>
@@ -77,7 +76,7 @@ pub(crate) fn put_sources(
         ≡ sources.old.items ++ map source_of (done names tokens.now)) }
 {
     for pending in tokens {
-        sources.push(pending.source(alloc)?)?;
+        sources.push(pending.source()?)?;
     }
     Ok(())
 }

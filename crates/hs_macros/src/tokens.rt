@@ -12,7 +12,7 @@ pub(crate) fn all_copied(alloc: Global, tokens: &[Token]) -> Result<Tokens, Allo
 {
     let mut copies = Vec::with_capacity(alloc, tokens.len())?;
     'tokens: for token in tokens {
-        copies.push(token.copied(alloc)?)?;
+        copies.push(token.copied()?)?;
     }
     Ok(Tokens::from_vec(copies))
 }

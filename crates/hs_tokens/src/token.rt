@@ -4,7 +4,7 @@ ghost use Rattle.std.specs.Prelude.{◌≡◌, IfOk};
 
 use crate::text::Text;
 use hs_base::Pos;
-use std::alloc::{AllocError, Global};
+use std::alloc::AllocError;
 
 /// What a token is (X3.159-1989 3.1). A keyword is an identifier here.
 #[derive(Clone, Copy)]
@@ -37,7 +37,7 @@ pub struct Token {
 
 impl Token {
     /// A token with the same fields, whose text shares its bytes.
-    pub fn copied(&self, _alloc: Global) -> Result<Token, AllocError>
+    pub fn copied(&self) -> Result<Token, AllocError>
         ensures { IfOk result (λ copy. copy ≡ self.now) }
     {
         Ok(Token {

@@ -1,7 +1,7 @@
 //! Texts of cases, their tokens, and the words of answers.
 
-use hs_base::{Bytes, NoMemory, Pos};
-use hs_tokens::{Origin, SourceToken, Token, TokenKind, scan};
+use hs_base::{NoMemory, Pos};
+use hs_tokens::{Origin, SourceToken, Text, Token, TokenKind, scan};
 use std::alloc::{AllocError, Global};
 use std::fmt::Display;
 
@@ -81,7 +81,7 @@ fn constant_of(alloc: Global, written: &str) -> Result<SourceToken, NoMemory> {
     };
     let token = Token {
         kind,
-        text: Bytes::from_vec(text),
+        text: Text::from_vec(alloc, text)?,
         pos: Pos {
             file: 0,
             line: 1,

@@ -3,11 +3,11 @@
 use crate::expressions::designated_type;
 use crate::refusal::Refusal;
 use crate::texts::boxed;
-use hs_base::{Bytes, NoMemory, Pos};
+use hs_base::{NoMemory, Pos};
 use hs_operands::Bound;
 use hs_syntax::Word;
 use hs_table::{Table, built_in};
-use hs_tokens::{Origin, Place};
+use hs_tokens::{Origin, Place, Text};
 use hs_tree::Variable;
 use hs_typer::{Entity, Typer, declare};
 use hs_types::{Integer, ListId, Parameters, Row, TypeId};
@@ -21,7 +21,7 @@ fn named(alloc: Global, name: &str) -> Result<Word, Refusal> {
         col: 1,
     };
     Ok(Word {
-        text: Bytes::from_vec(name.as_bytes().to_vec(alloc)?),
+        text: Text::from_vec(alloc, name.as_bytes().to_vec(alloc)?)?,
         place: Place {
             pos,
             origin: Origin::Plain,
