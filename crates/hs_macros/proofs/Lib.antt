@@ -6,6 +6,7 @@ pub mod Found
 pub mod Naming
 pub mod Pairs
 pub mod ParameterNames
+pub mod Places
 pub mod Rising
 pub mod Rows
 pub mod Steps
