@@ -9,5 +9,6 @@ pub mod ParameterNames
 pub mod Places
 pub mod Rising
 pub mod Rows
+pub mod Slotted
 pub mod Steps
 pub mod Subsets

@@ -2,10 +2,14 @@
 --     names_of parameters, tokens_of body     the names, and the tokens
 --     place_in names token                    the parameter that the token names, by its index
 --     is_in name tokens                       some token names the parameter
+--     HasPlaces names places, HasTexts tokens texts     what a map and a set know of them
 --     Fits parameters body                    each token knows its parameter, and each parameter whether it is named
 use Rattle.std.specs.Prelude.{◌≡◌, ℕ, suc, Bool, ◌&&◌, List, [], ◌∷◌, map, Option, Some, None, Vec, if◌then◌else◌}
 use Rattle.std.specs.List.{list_any}
 use Rattle.std.specs.Option.{option_map}
+use Rattle.std.specs.Borrow.{Bor}
+use Rattle.std.specs.HashMap.{HashMap, get_by}
+use Rattle.std.specs.HashSet.{HashSet, contains_by}
 use Rattle.std.specs.Str.{bytes_eq}
 use Rattle.std.specs.declared.alloc.Global.{Global}
 use Rattle.hs_tokens.specs.declared.token.Token.{Token}
@@ -34,6 +38,14 @@ place_in names token = if is_identifier token then place_of token.text names els
 -- some token names the parameter
 abbrev pub is_in : List ℕ → List Token → Bool
 is_in name tokens = list_any (λ token. is_identifier token && bytes_eq token.text name) tokens
+
+-- the map has the index of each name
+abbrev pub HasPlaces : {S : Type 0} → List (List ℕ) → HashMap (Bor (List ℕ)) ℕ S → Type 0
+HasPlaces names places = (name : List ℕ) → get_by (λ other. bytes_eq name other.now) places ≡ place_of name names
+
+-- the set has the texts of the identifiers among the tokens
+abbrev pub HasTexts : {S : Type 0} → List Token → HashSet (Bor (List ℕ)) S → Type 0
+HasTexts tokens texts = (name : List ℕ) → contains_by (λ other. bytes_eq name other.now) texts ≡ is_in name tokens
 
 -- each token knows which parameter it names
 abbrev pub ArePlaced : List (List ℕ) → List Slot → Type 0

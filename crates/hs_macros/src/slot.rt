@@ -1,14 +1,13 @@
 //! What a definition knows of its parameters and its tokens, so that no use of the macro looks for a name.
 
-ghost use Rattle.std.specs.Prelude.{◌≡◌, ◌&&◌, IfOk};
-ghost use Rattle.std.specs.Str.{bytes_eq};
-ghost use Rattle.hs_tokens.specs.Marks.{is_identifier};
+ghost use Rattle.std.specs.Prelude.{◌≡◌, ℕ, List, IfOk};
 ghost use Rattle.hs_macros.specs.Lines.{names_of as names_in_line};
-ghost use Rattle.hs_macros.specs.Slots.{names_of, tokens_of, place_of, place_in, is_in, ArePlaced, AreMarked};
+ghost use Rattle.hs_macros.specs.Slots.{names_of, tokens_of, place_in, HasPlaces, HasTexts, ArePlaced, AreMarked};
 
 use hs_base::Bytes;
 use hs_tokens::{Token, is_identifier};
 use std::alloc::{AllocError, Global};
+use std::collections::{HashMap, HashSet};
 
 /// A parameter of a function-like macro.
 #[derive(Drop)]
@@ -26,43 +25,41 @@ pub(crate) struct Slot {
     pub(crate) parameter: Option<usize>,
 }
 
-/// The index of the first such name.
-fn place_of(name: &[u8], names: &[&[u8]]) -> Option<usize>
-    ensures { result ≡ place_of name.now (names_in_line names.now) }
+/// The index of each name, of the first one if it stands twice.
+fn places_of<'a>(alloc: Global, names: &[&'a [u8]]) -> Result<HashMap<&'a [u8], usize>, AllocError>
+    ensures { IfOk result (HasPlaces (names_in_line names.now)) }
 {
-    let mut place = 0;
-    for other in names {
-        if name == *other {
-            return Some(place);
-        }
-        place += 1;
+    let mut places = HashMap::new(alloc);
+    let mut place = names.len();
+    for name in names.iter().rev() {
+        place -= 1;
+        places.insert(*name, place)?;
     }
-    None
+    Ok(places)
 }
 
 /// The index of the parameter that the token names, if it names one.
-fn place_in(names: &[&[u8]], token: &Token) -> Option<usize>
-    ensures { result ≡ place_in (names_in_line names.now) token.now }
+fn place_in(places: &HashMap<&[u8], usize>, token: &Token) -> Option<usize>
+    ensures { (names : List (List ℕ)) → HasPlaces names places.now → result ≡ place_in names token.now }
 {
     if is_identifier(token) {
-        place_of(token.text.items(), names)
+        places.get(token.text.items()).copied()
     } else {
         None
     }
 }
 
-/// Whether the token names the parameter.
-fn is_named(name: &[u8], token: &Token) -> bool
-    ensures { result ≡ (is_identifier token.now && bytes_eq token.now.text name.now) }
+/// The texts of the tokens that are identifiers.
+fn texts_of(alloc: Global, tokens: &[Token]) -> Result<HashSet<&[u8]>, AllocError>
+    ensures { IfOk result (HasTexts tokens.now) }
 {
-    is_identifier(token) && token.text.items() == name
-}
-
-/// Whether some token names the parameter.
-fn is_in(name: &[u8], tokens: &[Token]) -> bool
-    ensures { result ≡ is_in name.now tokens.now }
-{
-    tokens.iter().any(|token| is_named(name, token))
+    let mut texts = HashSet::new(alloc);
+    'tokens: for token in tokens {
+        if is_identifier(token) {
+            texts.insert(token.text.items())?;
+        }
+    }
+    Ok(texts)
 }
 
 /// The tokens, each copied, with the parameter that it names.
@@ -74,11 +71,12 @@ pub(crate) fn slots_of(
     ensures tokens { IfOk result (λ body. tokens_of body.items ≡ tokens.now) }
     ensures placed { IfOk result (λ body. ArePlaced (names_in_line names.now) body.items) }
 {
+    let places = places_of(alloc, names)?;
     let mut body = Vec::with_capacity(alloc, tokens.len())?;
     'tokens: for token in tokens {
         body.push(Slot {
             token: token.copied(alloc)?,
-            parameter: place_in(names, token),
+            parameter: place_in(&places, token),
         })?;
     }
     Ok(body)
@@ -93,11 +91,12 @@ pub(crate) fn parameters_of(
     ensures names { IfOk result (λ parameters. names_of parameters.items ≡ names_in_line names.now) }
     ensures marked { IfOk result (λ parameters. AreMarked parameters.items tokens.now) }
 {
+    let texts = texts_of(alloc, tokens)?;
     let mut parameters = Vec::with_capacity(alloc, names.len())?;
     'names: for name in names {
         parameters.push(Parameter {
             name: Bytes::from_vec(name.to_vec(alloc)?),
-            used: is_in(name, tokens),
+            used: texts.contains(*name),
         })?;
     }
     Ok(parameters)
