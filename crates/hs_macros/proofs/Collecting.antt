@@ -1,7 +1,7 @@
 -- The arguments so far: what is left of the tokens decides the rest.
 --     collected_token, collected_comma     a token, and a comma, at the front
 --     ahead-push, done-push                the next token ahead, and the last that is done
---     put_next, put_one                    tokens that are put from the last one on
+--     put_next, put_one, put_many          tokens that are put from the last one on
 --     paired_step, none_left               the last parameter with the last argument, or without one
 -- `table` has the names of all macros, in the order of their numbers.
 use Rattle.std.proofs.Common.{◌≡◌, ℕ, ◌+◌, ◌-◌, ◌≤◌, Bool, true, false, List, [], ◌∷◌, ◌++◌, map, Option, Some, None, Vec, Global, refl, sym, ap, ◌∙◌, append_assoc, if◌then◌else◌, arith}
@@ -12,9 +12,10 @@ use Rattle.std.proofs.lemmas.List.{append-nil, map-append, reverse-append}
 use Rattle.hs_tokens.specs.Marks.{is_mark}
 use Rattle.hs_tokens.specs.declared.token.Token.{Token}
 use Rattle.hs_macros.specs.Arguments.{Hidden, Arguments, with_token, with_comma, role_of, arguments_at, arguments_from, Argument, with_argument, paired}
-use Rattle.hs_macros.specs.Stacks.{Collected, collected, hidden, ahead, done, argument, waiting, with_later}
+use Rattle.hs_macros.specs.Stacks.{parameters_in, parameters_ahead, Collected, collected, hidden, ahead, done, argument, waiting, with_later}
 use Rattle.hs_macros.specs.declared.pending.Pending.{Pending}
 use Rattle.hs_macros.specs.declared.arguments.Supplied.{Supplied}
+use Rattle.hs_macros.specs.declared.slot.Parameter.{Parameter}
 use Rattle.hs_macros.specs.declared.arguments.Role.TheVariants.{Ends, Separates, Inside}
 
 -- a token goes into the next argument
@@ -77,6 +78,18 @@ paired_short : (others : List (List ℕ)) (name : List ℕ) → paired (others +
 paired_short [] name = refl
 paired_short (first ∷ others) name = refl
 
+-- the last parameter goes in front of those that have an argument
+pub parameters_step : (left others : List Parameter) (parameter : Parameter) (later more : List Supplied) (supplied : Supplied) (all : List Parameter)
+    → left ≡ others ++ parameter ∷ [] → more ≡ later ++ supplied ∷ [] → supplied.parameter.now ≡ parameter
+    → left ++ parameters_ahead later ≡ all → others ++ parameters_ahead more ≡ all
+parameters_step left others parameter later more supplied all split pushed named same =
+    ap (λ (arguments : List Supplied). others ++ parameters_ahead arguments) pushed
+    ∙ ap (λ (arguments : List Supplied). others ++ parameters_in arguments) (reverse-append later (supplied ∷ []))
+    ∙ ap (λ (first : Parameter). others ++ first ∷ parameters_ahead later) named
+    ∙ sym (append_assoc others (parameter ∷ []) (parameters_ahead later))
+    ∙ ap (λ (front : List Parameter). front ++ parameters_ahead later) (sym split)
+    ∙ same
+
 module _ (table : List (List ℕ)) where
   -- the last token of the list is the next one ahead
   pub ahead-push : (tokens : List Pending) (token : Pending) → ahead table (tokens ++ token ∷ []) ≡ hidden table token ∷ ahead table tokens
@@ -108,6 +121,17 @@ module _ (table : List (List ℕ)) where
       ∙ sym (append_assoc (flat_map view rest) (hidden table token ∷ []) (ahead table tokens))
       ∙ ap (λ (front : List Hidden). (flat_map view rest ++ (front ++ [])) ++ ahead table tokens) (sym is)
       ∙ ap (λ (front : List Hidden). front ++ ahead table tokens) (sym (ap (flat_map view) taken ∙ flat_map-append view rest (item ∷ [])))
+      ∙ same
+
+  -- the same if it stands for these
+  pub put_many : {X : Type 0} (view : X → List Hidden) (left rest : List X) (item : X) (tokens more : List Pending) (front : List Hidden) (all : List Hidden)
+      → left ≡ rest ++ item ∷ [] → ahead table more ≡ front ++ ahead table tokens → view item ≡ front
+      → flat_map view left ++ ahead table tokens ≡ all → flat_map view rest ++ ahead table more ≡ all
+  put_many view left rest item tokens more front all taken put is same =
+      ap (λ (pending : List Hidden). flat_map view rest ++ pending) put
+      ∙ sym (append_assoc (flat_map view rest) front (ahead table tokens))
+      ∙ ap (λ (front' : List Hidden). (flat_map view rest ++ front') ++ ahead table tokens) (sym is ∙ sym (append-nil (view item)))
+      ∙ ap (λ (front' : List Hidden). front' ++ ahead table tokens) (sym (ap (flat_map view) taken ∙ flat_map-append view rest (item ∷ [])))
       ∙ same
 
   -- an argument in the definition's words
@@ -153,7 +177,7 @@ module _ (table : List (List ℕ)) where
   pub paired_step : (names others : List (List ℕ)) (name : List ℕ) (given rest : List (Vec Pending Global)) (tokens : Vec Pending Global)
       (later more : List Supplied) (supplied : Supplied) (all : Option (List Argument))
       → names ≡ others ++ name ∷ [] → given ≡ rest ++ tokens ∷ [] → more ≡ later ++ supplied ∷ []
-      → supplied.parameter.now ≡ name → supplied.tokens ≡ tokens
+      → supplied.parameter.now.name ≡ name → supplied.tokens ≡ tokens
       → with_later (paired names (map row given)) (waiting table later) ≡ all → with_later (paired others (map row rest)) (waiting table more) ≡ all
   paired_step names others name given rest tokens later more supplied all split popped pushed named taken same =
       let pair : argument table supplied ≡ record { parameter = name; tokens = row tokens } =

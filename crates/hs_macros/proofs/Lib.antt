@@ -6,7 +6,9 @@ pub mod Found
 pub mod Naming
 pub mod Pairs
 pub mod ParameterNames
+pub mod Places
 pub mod Rising
 pub mod Rows
+pub mod Slotted
 pub mod Steps
 pub mod Subsets

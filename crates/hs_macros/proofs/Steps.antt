@@ -4,7 +4,7 @@
 --     ends                            an argument is expanded
 --     next_ahead, refused_all         the next token;  what refuses what is left
 --     all_done                        nothing is left
-use Rattle.std.proofs.Common.{◌≡◌, ℕ, ◌+◌, ◌≤◌, Bool, true, List, [], ◌∷◌, ◌++◌, map, reverse, length, Result, Ok, Err, Vec, Global, Bor, refl, sym, ap, subst, ◌∙◌, inl, inr, ◌⊎◌, append_assoc, arith, length-append, if◌then◌else◌}
+use Rattle.std.proofs.Common.{◌≡◌, ℕ, ◌+◌, ◌≤◌, Bool, true, false, List, [], ◌∷◌, ◌++◌, map, reverse, length, Result, Ok, Err, Vec, Global, Bor, refl, sym, ap, subst, ◌∙◌, inl, inr, ◌⊎◌, append_assoc, arith, length-append, if◌then◌else◌}
 use Rattle.std.proofs.lemmas.List.{append-nil, map-append, reverse-append, reverse-reverse, length-map, length-reverse}
 use Rattle.hs_tokens.specs.declared.token.SourceToken.{SourceToken}
 use Rattle.hs_macros.specs.Arguments.{Hidden, Argument}
@@ -13,16 +13,18 @@ use Rattle.hs_macros.specs.Refusals.{IsRefusal}
 use Rattle.hs_macros.specs.Replacement.{Invocation, Found, stays, wrong, invoked, found, is_used, placed, spent, Expansion, Outcome, with_front, and_then, placed_again, called, expanded_at, expanded, Replaced, replaced_by}
 use Rattle.hs_macros.specs.Loads.{load, held_of_found}
 use Rattle.hs_macros.specs.ExpandedLaws.{spent_tokens, expanded-none, expanded-token}
-use Rattle.hs_macros.specs.Stacks.{hidden, done, ahead, argument, ready, waiting, invocation}
+use Rattle.hs_macros.specs.Slots.{names_of, tokens_of, ArePlaced, AreMarked}
+use Rattle.hs_macros.specs.Stacks.{parameters_around, hidden, done, ahead, argument, ready, waiting, invocation}
 use Rattle.hs_macros.specs.Frames.{frame_outcome, call_outcome, after_argument, resumed, with_sources, IsStep, weight_of, weights, weight}
 use Rattle.hs_macros.specs.declared.arguments.Supplied.{Supplied}
 use Rattle.hs_macros.specs.declared.budget.Budget.{Budget}
 use Rattle.hs_macros.specs.declared.call.Call.{Call}
 use Rattle.hs_macros.specs.declared.error.MacroError.{MacroError}
 use Rattle.hs_macros.specs.declared.error.MacroError.TheVariants.{ArgCount, NoMemory}
-use Rattle.hs_macros.specs.declared.expansion.Frame.{Frame}
-use Rattle.hs_macros.specs.declared.expansion.Suspended.{Suspended}
+use Rattle.hs_macros.specs.declared.frame.Frame.{Frame}
+use Rattle.hs_macros.specs.declared.frame.Suspended.{Suspended}
 use Rattle.hs_macros.specs.declared.pending.Pending.{Pending}
+use Rattle.hs_macros.specs.declared.slot.Parameter.{Parameter}
 
 -- no tokens in front change nothing
 front_none : (outcome : Outcome) → with_front [] outcome ≡ outcome
@@ -52,6 +54,16 @@ used_first macros call ready' later first left used =
     (λ done'. called (expanded macros) call (ready' ++ record { parameter = first.parameter; tokens = done'.tokens } ∷ []) later done'.left) in
     let skips : Outcome = called (expanded macros) call (ready' ++ first ∷ []) later left in
     ap (λ (answer : Bool). if answer then expands else skips) used
+
+-- an argument that the macro does not use is ready as it is
+unused_first : (macros : Definitions) (call : Invocation) (ready' later : List Argument) (first : Argument) (left : Budget)
+    → is_used first.parameter call.body ≡ false
+    → called (expanded macros) call ready' (first ∷ later) left ≡ called (expanded macros) call (ready' ++ first ∷ []) later left
+unused_first macros call ready' later first left unused =
+    let expands : Outcome = and_then (expanded macros left first.tokens)
+    (λ done'. called (expanded macros) call (ready' ++ record { parameter = first.parameter; tokens = done'.tokens } ∷ []) later done'.left) in
+    let skips : Outcome = called (expanded macros) call (ready' ++ first ∷ []) later left in
+    ap (λ (answer : Bool). if answer then expands else skips) unused
 
 -- no tokens are ahead: those that are done are all
 pub whole_done : (macros : Definitions) (before : List Hidden) (left : Budget)
@@ -99,13 +111,16 @@ module _ (names : List (List ℕ)) where
 
   -- the next argument is begun
   pub begins : (macros : Definitions) (calls more : List Suspended) (before tokens blank : Vec Pending Global) (call : Call) (rest : Vec Supplied Global)
-      (next : Supplied) (left : Budget) → call.waiting.items ≡ rest.items ++ next ∷ [] → is_used next.parameter.now call.body.now ≡ true
+      (next : Supplied) (left : Budget)
+      (placed : ArePlaced (names_of (parameters_around (record call { waiting = rest }) next.parameter)) call.body.now)
+      (marked : AreMarked (parameters_around (record call { waiting = rest }) next.parameter) (tokens_of call.body.now))
+      → call.waiting.items ≡ rest.items ++ next ∷ [] → is_used next.parameter.now.name (tokens_of call.body.now) ≡ true
       → blank.items ≡ [] → tokens.items ≡ reverse next.tokens.items
-      → more ≡ calls ++ record { before = before; call = record call { waiting = rest }; parameter = next.parameter } ∷ []
+      → more ≡ calls ++ record { before = before; call = record call { waiting = rest }; parameter = next.parameter; placed = placed; marked = marked } ∷ []
       → resumed names macros more (frame_outcome names macros (record { before = blank; tokens = tokens; left = left }))
       ≡ resumed names macros calls (call_outcome names macros (done names before.items) call left)
-  begins macros calls more before tokens blank call rest next left popped used empty turned pushed =
-      let last : Suspended = record { before = before; call = record call { waiting = rest }; parameter = next.parameter } in
+  begins macros calls more before tokens blank call rest next left placed marked popped used empty turned pushed =
+      let last : Suspended = record { before = before; call = record call { waiting = rest }; parameter = next.parameter; placed = placed; marked = marked } in
       let tokens_ahead : ahead names tokens.items ≡ done names next.tokens.items =
       ap (ahead names) turned ∙ ap (done names) (reverse-reverse next.tokens.items) in
       let begun : frame_outcome names macros (record { before = blank; tokens = tokens; left = left }) ≡ expanded macros left (done names next.tokens.items) =
@@ -113,7 +128,7 @@ module _ (names : List (List ℕ)) where
       ∙ front_none (expanded macros left (ahead names tokens.items))
       ∙ ap (expanded macros left) tokens_ahead in
       let later : Expansion → Outcome = λ done'. called (expanded macros) (invocation names call)
-      (ready names call.ready.items ++ record { parameter = next.parameter.now; tokens = done'.tokens } ∷ []) (waiting names rest.items) done'.left in
+      (ready names call.ready.items ++ record { parameter = next.parameter.now.name; tokens = done'.tokens } ∷ []) (waiting names rest.items) done'.left in
       let whole : call_outcome names macros (done names before.items) call left ≡ and_then (expanded macros left (done names next.tokens.items)) (after_argument names macros last) =
       ap (λ (arguments : List Argument). with_front (done names before.items) (called (expanded macros) (invocation names call) (ready names call.ready.items) arguments left))
       (ap (waiting names) popped ∙ waiting-push rest.items next)
@@ -123,14 +138,33 @@ module _ (names : List (List ℕ)) where
       ∙ resumed-push macros calls last (frame_outcome names macros (record { before = blank; tokens = tokens; left = left }))
       ∙ ap (resumed names macros calls) (ap (λ (outcome : Outcome). and_then outcome (after_argument names macros last)) begun ∙ sym whole)
 
+  -- an argument that the macro does not use changes nothing of what comes of the invocation
+  pub skips : (macros : Definitions) (before : List Hidden) (call : Call) (rest ready' : Vec Supplied Global) (next : Supplied) (left : Budget)
+      → call.waiting.items ≡ rest.items ++ next ∷ [] → ready'.items ≡ call.ready.items ++ next ∷ []
+      → is_used next.parameter.now.name (tokens_of call.body.now) ≡ false
+      → call_outcome names macros before (record call { waiting = rest; ready = ready' }) left ≡ call_outcome names macros before call left
+  skips macros before call rest ready' next left popped pushed unused =
+      ap (λ (arguments : List Argument). with_front before (called (expanded macros) (invocation names call) arguments (waiting names rest.items) left))
+      (ap (ready names) pushed ∙ map-append (argument names) call.ready.items (next ∷ []))
+      ∙ ap (with_front before) (sym (unused_first macros (invocation names call) (ready names call.ready.items) (waiting names rest.items) (argument names next) left unused))
+      ∙ ap (λ (arguments : List Argument). with_front before (called (expanded macros) (invocation names call) (ready names call.ready.items) arguments left))
+      (sym (ap (waiting names) popped ∙ waiting-push rest.items next))
+
+  -- and is less to do
+  pub skips_falls : (waits rest : List Supplied) (next : Supplied) → waits ≡ rest ++ next ∷ [] → load (waiting names rest) ≤ load (waiting names waits)
+  skips_falls waits rest next popped = omega (arith, ap load (ap (waiting names) popped ∙ waiting-push rest next))
+
   -- what an argument that is begun leaves to do
   pub begins_falls : (calls more : List Suspended) (before tokens blank : Vec Pending Global) (call : Call) (rest : Vec Supplied Global)
-      (next : Supplied) (left : Budget) → call.waiting.items ≡ rest.items ++ next ∷ [] → tokens.items ≡ reverse next.tokens.items
-      → more ≡ calls ++ record { before = before; call = record call { waiting = rest }; parameter = next.parameter } ∷ []
+      (next : Supplied) (left : Budget)
+      (placed : ArePlaced (names_of (parameters_around (record call { waiting = rest }) next.parameter)) call.body.now)
+      (marked : AreMarked (parameters_around (record call { waiting = rest }) next.parameter) (tokens_of call.body.now))
+      → call.waiting.items ≡ rest.items ++ next ∷ [] → tokens.items ≡ reverse next.tokens.items
+      → more ≡ calls ++ record { before = before; call = record call { waiting = rest }; parameter = next.parameter; placed = placed; marked = marked } ∷ []
       → weights names more + weight (record { before = blank; tokens = tokens; left = left })
       ≤ weights names calls + load (waiting names call.waiting.items) + length call.behind.items + left.tokens
-  begins_falls calls more before tokens blank call rest next left popped turned pushed =
-      let last : Suspended = record { before = before; call = record call { waiting = rest }; parameter = next.parameter } in
+  begins_falls calls more before tokens blank call rest next left placed marked popped turned pushed =
+      let last : Suspended = record { before = before; call = record call { waiting = rest }; parameter = next.parameter; placed = placed; marked = marked } in
       let heavier : weights names more ≡ weights names calls + weight_of names last = ap (weights names) pushed ∙ weights-push calls last in
       let held : load (waiting names call.waiting.items) ≡ length (done names next.tokens.items) + 1 + load (waiting names rest.items) =
       ap load (ap (waiting names) popped ∙ waiting-push rest.items next) in
@@ -204,14 +238,16 @@ module _ (names : List (List ℕ)) where
 
   -- an argument that is expanded is ready
   pub ends : (macros : Definitions) (calls all : List Suspended) (before argument' : Vec Pending Global) (call : Call) (ready' : Vec Supplied Global)
-      (parameter : Bor (List ℕ)) (left : Budget)
-      → all ≡ calls ++ record { before = before; call = call; parameter = parameter } ∷ []
+      (parameter : Bor Parameter) (left : Budget)
+      (placed : ArePlaced (names_of (parameters_around call parameter)) call.body.now)
+      (marked : AreMarked (parameters_around call parameter) (tokens_of call.body.now))
+      → all ≡ calls ++ record { before = before; call = call; parameter = parameter; placed = placed; marked = marked } ∷ []
       → ready'.items ≡ call.ready.items ++ record { parameter = parameter; tokens = argument' } ∷ []
       → resumed names macros calls (call_outcome names macros (done names before.items) (record call { ready = ready' }) left)
       ≡ resumed names macros all (with_front (done names argument'.items) (expanded macros left []))
-  ends macros calls all before argument' call ready' parameter left popped pushed =
-      let waits : Suspended = record { before = before; call = call; parameter = parameter } in
-      let arguments : ready names ready'.items ≡ ready names call.ready.items ++ record { parameter = parameter.now; tokens = done names argument'.items } ∷ [] =
+  ends macros calls all before argument' call ready' parameter left placed marked popped pushed =
+      let waits : Suspended = record { before = before; call = call; parameter = parameter; placed = placed; marked = marked } in
+      let arguments : ready names ready'.items ≡ ready names call.ready.items ++ record { parameter = parameter.now.name; tokens = done names argument'.items } ∷ [] =
       ap (ready names) pushed ∙ map-append (argument names) call.ready.items (record { parameter = parameter; tokens = argument' } ∷ []) in
       sym (
       ap (λ (calls' : List Suspended). resumed names macros calls' (with_front (done names argument'.items) (expanded macros left []))) popped

@@ -17,8 +17,8 @@ use Rattle.hs_macros.specs.Stacks.{done, ahead, ready, waiting, invocation}
 use Rattle.hs_macros.specs.declared.budget.Budget.{Budget}
 use Rattle.hs_macros.specs.declared.call.Call.{Call}
 use Rattle.hs_macros.specs.declared.error.MacroError.{MacroError}
-use Rattle.hs_macros.specs.declared.expansion.Frame.{Frame}
-use Rattle.hs_macros.specs.declared.expansion.Suspended.{Suspended}
+use Rattle.hs_macros.specs.declared.frame.Frame.{Frame}
+use Rattle.hs_macros.specs.declared.frame.Suspended.{Suspended}
 
 -- the tokens that all gave already come first
 abbrev pub with_sources : List SourceToken → Result Replaced MacroError → Result Replaced MacroError
@@ -48,7 +48,7 @@ module _ (names : List (List ℕ)) where
   abbrev pub after_argument : Definitions → Suspended → Expansion → Outcome
   after_argument macros suspended argument =
       with_front (done names suspended.before.items) (called (expanded macros) (invocation names suspended.call)
-      (ready names suspended.call.ready.items ++ record { parameter = suspended.parameter.now; tokens = argument.tokens } ∷ [])
+      (ready names suspended.call.ready.items ++ record { parameter = suspended.parameter.now.name; tokens = argument.tokens } ∷ [])
       (waiting names suspended.call.waiting.items) argument.left)
 
   -- the invocations that wait, the innermost last

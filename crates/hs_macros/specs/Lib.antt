@@ -1,11 +1,14 @@
 pub mod Arguments
 pub mod Definitions
 pub mod ExpandedLaws
+pub mod Forms
 pub mod HideSets
 pub mod Frames
 pub mod Lines
 pub mod Loads
 pub mod Numbers
+pub mod Parts
 pub mod Refusals
 pub mod Replacement
+pub mod Slots
 pub mod Stacks

@@ -20,7 +20,9 @@ use Rattle.hs_macros.specs.declared.arguments.Supplied.{Supplied}
 use Rattle.hs_macros.specs.declared.error.MacroError.{MacroError}
 use Rattle.hs_macros.specs.declared.error.MacroError.TheVariants.{ArgCount, NoMemory}
 use Rattle.hs_macros.specs.declared.call.Call.{Call}
+use Rattle.hs_macros.specs.declared.slot.Parameter.{Parameter}
 use Rattle.hs_macros.specs.declared.table.Numbered.{Numbered}
+use Rattle.hs_macros.specs.Slots.{tokens_of, Fits}
 use Rattle.hs_macros.specs.declared.placing.Joined.{Joined}
 use Rattle.hs_macros.specs.declared.call.Found.{Found}
 use Rattle.hs_macros.specs.declared.call.Found.TheVariants.{Stays, Invoked}
@@ -66,7 +68,7 @@ module _ (names : List (List ℕ)) where
 
   -- an argument with its parameter
   abbrev pub argument : Supplied → Argument
-  argument supplied = record { parameter = supplied.parameter.now; tokens = done supplied.tokens.items }
+  argument supplied = record { parameter = supplied.parameter.now.name; tokens = done supplied.tokens.items }
 
   -- arguments in order
   abbrev pub ready : List Supplied → List Argument
@@ -83,7 +85,7 @@ module _ (names : List (List ℕ)) where
 
   -- the invocation of a call
   abbrev pub invocation : Call → Invocation
-  invocation call = record { body = call.body.now; pos = call.pos; hides = named names call.hides.value; behind = ahead call.behind.items }
+  invocation call = record { body = tokens_of call.body.now; pos = call.pos; hides = named names call.hides.value; behind = ahead call.behind.items }
 
   -- What is said of what begins at a token at that place, with the tokens after it.
   abbrev pub IsFound : spec.Found → Pos → List Hidden → Result Found MacroError → Type 0
@@ -100,6 +102,27 @@ module _ (names : List (List ℕ)) where
   abbrev pub seen_argument : Option (Bor (List Pending)) → Option (List Hidden)
   seen_argument None = None
   seen_argument (Some tokens) = Some (done tokens.now)
+
+-- the parameters of the arguments, in order
+abbrev pub parameters_in : List Supplied → List Parameter
+parameters_in arguments = map (λ argument. argument.parameter.now) arguments
+
+-- the same if the next argument is last
+abbrev pub parameters_ahead : List Supplied → List Parameter
+parameters_ahead arguments = map (λ argument. argument.parameter.now) (reverse arguments)
+
+-- the tokens of a call's macro and its parameters fit each other
+abbrev pub IsKnown : Call → Type 0
+IsKnown call = Fits (parameters_in call.ready.items ++ parameters_ahead call.waiting.items) call.body.now
+
+-- the same of what begins at a token
+abbrev pub IsFit : Found → Type 0
+IsFit (Stays tokens) = Unit {0}
+IsFit (Invoked call) = IsKnown call
+
+-- the parameters of a call, if the argument of this one is neither ready nor waiting
+abbrev pub parameters_around : Call → Bor Parameter → List Parameter
+parameters_around call parameter = parameters_in call.ready.items ++ parameter.now ∷ parameters_ahead call.waiting.items
 
 -- What is said of the definition that may replace a token: the form of the macro decides what begins at the token, whatever
 -- follows it, and its number is that of the name. If there is none, the token stays.

@@ -1,12 +1,12 @@
 //! Takes the arguments of an invocation (X3.159-1989 3.8.3).
 
-ghost use Rattle.std.specs.Prelude.{◌≡◌, ◌<◌, ◌^◌, ℕ, List, [], map, IfOk};
+ghost use Rattle.std.specs.Prelude.{◌≡◌, ◌<◌, ◌^◌, ℕ, List, [], map, IfOk, IfSome};
 ghost use Rattle.hs_macros.specs.Arguments.{role_of, arguments_from, paired, bound};
-ghost use Rattle.hs_macros.specs.Stacks.{ahead, done, collected, seen, seen_waiting};
+ghost use Rattle.hs_macros.specs.Slots.{names_of};
+ghost use Rattle.hs_macros.specs.Stacks.{ahead, done, collected, seen, seen_waiting, parameters_ahead};
 
-use crate::lists::Names;
 use crate::pending::Pending;
-use hs_base::Bytes;
+use crate::slot::Parameter;
 use hs_tokens::{Token, is_mark};
 use std::alloc::{AllocError, Global};
 use std::mem;
@@ -21,7 +21,7 @@ pub(crate) struct Between<'a> {
 /// An argument, and the parameter that it is for.
 #[derive(Drop)]
 pub(crate) struct Supplied<'a> {
-    pub(crate) parameter: &'a [u8],
+    pub(crate) parameter: &'a Parameter,
     pub(crate) tokens: Vec<Pending<'a>>,
 }
 
@@ -91,24 +91,22 @@ pub(crate) fn arguments_ahead<'a>(
 /// As many arguments as parameters, the first one last; or nothing.
 fn paired<'a>(
     alloc: Global,
-    names: &'a [Bytes],
+    parameters: &'a [Parameter],
     given: Vec<Vec<Pending<'a>>>,
 ) -> Result<Option<Vec<Supplied<'a>>>, AllocError>
-    ensures { (table : List (List ℕ)) → IfOk result (λ arguments. seen_waiting table arguments
-        ≡ paired names.now (map (λ tokens. done table tokens.items) given.entry.items)) }
+    ensures waiting { (names : List (List ℕ)) → IfOk result (λ arguments. seen_waiting names arguments
+        ≡ paired (names_of parameters.now) (map (λ tokens. done names tokens.items) given.entry.items)) }
+    ensures parameters { IfOk result (λ found. IfSome found (λ arguments. parameters_ahead arguments.items ≡ parameters.now)) }
 {
-    let mut names = names;
+    let mut left = parameters;
     let mut given = given;
     let mut waiting = Vec::new(alloc);
-    'names: while let Some((name, others)) = names.split_last() {
+    'parameters: while let Some((parameter, others)) = left.split_last() {
         let Some(tokens) = given.pop() else {
             return Ok(None);
         };
-        waiting.push(Supplied {
-            parameter: name.items(),
-            tokens,
-        })?;
-        names = others;
+        waiting.push(Supplied { parameter, tokens })?;
+        left = others;
     }
     Ok(given.is_empty().then_some(waiting))
 }
@@ -117,14 +115,15 @@ fn paired<'a>(
 /// (X3.159-1989 3.8.3).
 pub(crate) fn bound<'a>(
     alloc: Global,
-    names: &'a Names,
+    parameters: &'a [Parameter],
     given: Vec<Vec<Pending<'a>>>,
 ) -> Result<Option<Vec<Supplied<'a>>>, AllocError>
-    ensures { (table : List (List ℕ)) → IfOk result (λ arguments. seen_waiting table arguments
-        ≡ bound names.now (map (λ tokens. done table tokens.items) given.entry.items)) }
+    ensures waiting { (names : List (List ℕ)) → IfOk result (λ arguments. seen_waiting names arguments
+        ≡ bound (names_of parameters.now) (map (λ tokens. done names tokens.items) given.entry.items)) }
+    ensures parameters { IfOk result (λ found. IfSome found (λ arguments. parameters_ahead arguments.items ≡ parameters.now)) }
 {
-    if names.items().is_empty() && given.len() == 1 && given[0].is_empty() {
+    if parameters.is_empty() && given.len() == 1 && given[0].is_empty() {
         return Ok(Some(Vec::new(alloc)));
     }
-    paired(alloc, names.items(), given)
+    paired(alloc, parameters, given)
 }

@@ -4,14 +4,16 @@ ghost use Rattle.std.specs.Prelude.{◌≡◌, ℕ, List, [], IfOk, IfErr};
 ghost use Rattle.hs_macros.specs.Replacement.{object, found_call, found_form, found};
 ghost use Rattle.hs_macros.specs.Arguments.{arguments_from};
 ghost use Rattle.hs_macros.specs.Numbers.{names_in, definitions_in, IsNumber};
-ghost use Rattle.hs_macros.specs.Stacks.{hidden, ahead, invocation, IsReplacing, IsFound, IsCalled};
+ghost use Rattle.hs_macros.specs.Slots.{names_of, tokens_of, Fits};
+ghost use Rattle.hs_macros.specs.Stacks.{hidden, ahead, invocation, IsReplacing, IsFound, IsCalled, IsKnown, IsFit};
 ghost use Rattle.hs_macros.specs.declared.error.MacroError.TheVariants.{NoMemory as no_memory};
 
 use crate::arguments::{Between, Supplied, arguments_ahead, bound};
+use crate::definition::Parts;
 use crate::error::MacroError;
 use crate::hide_set::HideSet;
-use crate::lists::Names;
 use crate::pending::Pending;
+use crate::slot::{Parameter, Slot};
 use crate::table::{Numbered, Table, look_up};
 use hs_base::Pos;
 use hs_tokens::{Token, is_identifier, is_mark};
@@ -22,7 +24,7 @@ use std::rc::Rc;
 #[derive(Drop)]
 pub(crate) struct Call<'a> {
     /// The macro's tokens.
-    pub(crate) body: &'a [Token],
+    pub(crate) body: &'a [Slot],
     /// Where they will stand.
     pub(crate) pos: Pos,
     /// What they will hide.
@@ -57,14 +59,15 @@ fn object_call<'a>(
     alloc: Global,
     name: &Pending<'a>,
     number: u32,
-    body: &'a [Token],
+    body: &'a [Slot],
     behind: Vec<Pending<'a>>,
 ) -> Result<Call<'a>, AllocError>
     ensures call { (names : List (List ℕ)) → IsNumber names name.now.token.now.text number
         → IfOk result (λ call. invocation names call
-        ≡ object (hidden names name.now) body.now (ahead names behind.entry.items)) }
+        ≡ object (hidden names name.now) (tokens_of body.now) (ahead names behind.entry.items)) }
     ensures ready { IfOk result (λ call. call.ready.items ≡ []) }
     ensures waiting { IfOk result (λ call. call.waiting.items ≡ []) }
+    ensures fits { Fits [] body.now → IfOk result IsKnown }
 {
     let hides = name.hides.object_hides(number)?;
     Ok(Call {
@@ -83,13 +86,15 @@ fn function_call<'a>(
     alloc: Global,
     name: &Pending<'a>,
     number: u32,
-    body: &'a [Token],
-    parameters: &'a Names,
+    body: &'a [Slot],
+    parameters: &'a [Parameter],
     tokens: Vec<Pending<'a>>,
 ) -> Result<Call<'a>, MacroError>
-    ensures { (names : List (List ℕ)) → IsNumber names name.now.token.now.text number → IsCalled names
-        (found_call (hidden names name.now) body.now parameters.now (arguments_from 0 (ahead names tokens.entry.items)))
+    ensures called { (names : List (List ℕ)) → IsNumber names name.now.token.now.text number → IsCalled names
+        (found_call (hidden names name.now) (tokens_of body.now) (names_of parameters.now)
+        (arguments_from 0 (ahead names tokens.entry.items)))
         name.now.pos result }
+    ensures fits { Fits parameters.now body.now → IfOk result IsKnown }
 {
     let mut behind = tokens;
     let Some(between) = arguments_ahead(alloc, &mut behind)? else {
@@ -141,16 +146,17 @@ pub(crate) fn invocation_at<'a>(
     token: &Pending<'a>,
     tokens: Vec<Pending<'a>>,
 ) -> Result<Found<'a>, MacroError>
-    ensures { let names = names_in table.now.entries in
+    ensures found { let names = names_in table.now.entries in
         IsFound names (found (definitions_in table.now.entries) (hidden names token.now) (ahead names tokens.entry.items))
         token.now.pos (ahead names tokens.entry.items) result }
+    ensures fits { IfOk result IsFit }
 {
     let Some(found) = replacing(table, token)? else {
         return Ok(Found::Stays(tokens));
     };
     let Numbered { number, definition } = found;
-    let body = definition.body.items();
-    let Some(parameters) = &definition.parameters else {
+    let Parts { parameters, body } = definition.parts();
+    let Some(parameters) = parameters else {
         return Ok(Found::Invoked(object_call(alloc, token, number, body, tokens)?));
     };
     let mut behind = tokens;

@@ -6,38 +6,18 @@ ghost use Rattle.hs_macros.specs.Refusals.{IsRefusal};
 ghost use Rattle.hs_macros.specs.Replacement.{with_front, expanded, replaced_by, replaced};
 ghost use Rattle.hs_macros.specs.Loads.{load};
 ghost use Rattle.hs_macros.specs.Numbers.{names_in, definitions_in};
-ghost use Rattle.hs_macros.specs.Stacks.{hidden, done, ahead, waiting};
+ghost use Rattle.hs_macros.specs.Stacks.{hidden, done, ahead, waiting, IsKnown};
 ghost use Rattle.hs_macros.specs.Frames.{frame_outcome, call_outcome, after_argument, resumed, IsStep, with_sources, weight_of, weights, weight};
 
 use crate::arguments::Supplied;
 use crate::budget::Budget;
 use crate::call::{Call, Found, invocation_at};
 use crate::error::MacroError;
+use crate::frame::{Frame, Suspended};
 use crate::pending::{Pending, put_sources, tokens_ahead};
-use crate::placing::is_used;
 use crate::table::Table;
 use hs_tokens::{SourceToken, Token};
 use std::alloc::{AllocError, Global};
-
-/// How far the expansion of a list of tokens has come.
-#[derive(Drop)]
-pub(crate) struct Frame<'a> {
-    /// The tokens that are done, in order; at the outermost frame those that the sources do not have yet.
-    pub(crate) before: Vec<Pending<'a>>,
-    /// Those ahead, the next one last.
-    pub(crate) tokens: Vec<Pending<'a>>,
-    pub(crate) left: Budget,
-}
-
-/// An invocation that waits for one of its arguments to be expanded.
-#[derive(Drop)]
-pub(crate) struct Suspended<'a> {
-    /// The tokens before the invocation, done.
-    pub(crate) before: Vec<Pending<'a>>,
-    pub(crate) call: Call<'a>,
-    /// The parameter whose argument is expanded.
-    pub(crate) parameter: &'a [u8],
-}
 
 /// The tokens of a run, replaced, and what is left.
 #[derive(Drop)]
@@ -54,6 +34,7 @@ fn proceed<'a>(
     call: Call<'a>,
     left: Budget,
 ) -> Result<Frame<'a>, MacroError>
+    requires { IsKnown call }
     ensures step { (names : List (List ℕ)) (macros : Definitions)
         → IsStep (resumed names macros calls.old.items (call_outcome names macros (done names before.entry.items) call.entry left))
         (λ frame. resumed names macros calls.new.items (frame_outcome names macros frame)) result }
@@ -62,7 +43,7 @@ fn proceed<'a>(
 {
     let mut call = call;
     'arguments: while let Some(argument) = call.waiting.pop() {
-        if is_used(argument.parameter, call.body) {
+        if argument.parameter.used {
             let Supplied { parameter, tokens } = argument;
             let mut tokens = tokens;
             tokens.reverse();

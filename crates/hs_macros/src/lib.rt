@@ -8,14 +8,14 @@ mod call;
 mod definition;
 mod error;
 mod expansion;
+mod frame;
 mod hide_set;
 mod line;
-mod lists;
 mod macros;
 mod pending;
 mod placing;
+mod slot;
 mod table;
-mod tokens;
 
 pub use budget::Budget;
 pub use error::MacroError;

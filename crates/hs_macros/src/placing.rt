@@ -6,8 +6,10 @@ ghost use Rattle.std.specs.List.{flat_map};
 ghost use Rattle.hs_base.specs.declared.pos.Pos.{Pos};
 ghost use Rattle.hs_macros.specs.HideSets.{HideSet as NameSet};
 ghost use Rattle.hs_macros.specs.Numbers.{Numbers, named};
-ghost use Rattle.hs_macros.specs.Replacement.{is_named, is_used, argument_of, argument_for, from_body, from_argument, placed_at, placed, spent};
-ghost use Rattle.hs_macros.specs.Stacks.{hidden, done, ahead, ready, invocation, seen_argument, room_after, IsJoined};
+ghost use Rattle.hs_tokens.specs.declared.token.Token.{Token as TokenValue};
+ghost use Rattle.hs_macros.specs.Slots.{names_of, place_in, ArePlaced};
+ghost use Rattle.hs_macros.specs.Replacement.{argument_for, from_body, from_argument, placed_at, placed, spent};
+ghost use Rattle.hs_macros.specs.Stacks.{hidden, done, ahead, ready, invocation, seen_argument, room_after, parameters_in, IsJoined};
 
 use crate::arguments::Supplied;
 use crate::budget::Budget;
@@ -15,48 +17,23 @@ use crate::call::Call;
 use crate::error::MacroError;
 use crate::hide_set::HideSet;
 use crate::pending::Pending;
+use crate::slot::Slot;
 use hs_base::{LimitKind, Pos};
-use hs_tokens::{Origin, Token, is_identifier};
+use hs_tokens::{Origin, Token};
 use std::alloc::{AllocError, Global};
 use std::rc::Rc;
 
-/// Whether the token names the parameter.
-fn is_named(parameter: &[u8], token: &Token) -> bool
-    ensures { result ≡ is_named parameter.now token.now }
+/// The argument of the parameter of this index, if a token names one.
+fn argument_at<'b, 'a>(
+    place: Option<usize>,
+    arguments: &'b [Supplied<'a>],
+) -> Option<&'b [Pending<'a>]>
+    ensures { (names : List (List ℕ)) (token : TokenValue) → place ≡ place_in (names_of (parameters_in arguments.now)) token
+        → seen_argument names result ≡ argument_for token (ready names arguments.now) }
 {
-    is_identifier(token) && token.text.items() == parameter
-}
-
-/// Whether some token of the macro names the parameter.
-pub(crate) fn is_used(parameter: &[u8], body: &[Token]) -> bool
-    ensures { result ≡ is_used parameter.now body.now }
-{
-    body.iter().any(|token| is_named(parameter, token))
-}
-
-/// The argument of this parameter.
-fn argument_of<'b, 'a>(name: &[u8], arguments: &'b [Supplied<'a>]) -> Option<&'b [Pending<'a>]>
-    ensures { (names : List (List ℕ)) → seen_argument names result
-        ≡ argument_of name.now (ready names arguments.now) }
-{
-    for supplied in arguments {
-        if name == supplied.parameter {
-            return Some(supplied.tokens.as_slice());
-        }
-    }
-    None
-}
-
-/// The argument that a token of the macro stands for, if it is a parameter.
-fn argument_for<'b, 'a>(token: &Token, arguments: &'b [Supplied<'a>]) -> Option<&'b [Pending<'a>]>
-    ensures { (names : List (List ℕ)) → seen_argument names result
-        ≡ argument_for token.now (ready names arguments.now) }
-{
-    if is_identifier(token) {
-        argument_of(token.text.items(), arguments)
-    } else {
-        None
-    }
+    let index = place?;
+    let supplied = arguments.get(index)?;
+    Some(supplied.tokens.as_slice())
 }
 
 /// A token of the macro in place.
@@ -153,11 +130,12 @@ fn put_argument<'a>(
 }
 
 /// How many tokens stand for a token of the macro.
-fn placed_len(token: &Token, arguments: &[Supplied]) -> usize
+fn placed_len(slot: &Slot, arguments: &[Supplied]) -> usize
     ensures { (names : List (List ℕ)) (pos : Pos) (hides : NameSet)
-        → result ≡ length (placed_at pos hides (ready names arguments.now) token.now) }
+        → slot.now.parameter ≡ place_in (names_of (parameters_in arguments.now)) slot.now.token
+        → result ≡ length (placed_at pos hides (ready names arguments.now) slot.now.token) }
 {
-    match argument_for(token, arguments) {
+    match argument_at(slot.parameter, arguments) {
         None => 1,
         Some(argument) => argument.len(),
     }
@@ -165,13 +143,14 @@ fn placed_len(token: &Token, arguments: &[Supplied]) -> usize
 
 /// What is left of the room for tokens after those that the macro puts in place, or nothing if they pass it. Counting
 /// stops there, so no sum grows past the room.
-fn room_left(room: u64, body: &[Token], arguments: &[Supplied]) -> Option<u64>
+fn room_left(room: u64, body: &[Slot], arguments: &[Supplied]) -> Option<u64>
+    requires { ArePlaced (names_of (parameters_in arguments.now)) body.now }
     ensures { (names : List (List ℕ)) (pos : Pos) (hides : NameSet)
-        → result ≡ room_after room (length (flat_map (placed_at pos hides (ready names arguments.now)) body.now)) }
+        → result ≡ room_after room (length (flat_map (λ slot. placed_at pos hides (ready names arguments.now) slot.token) body.now)) }
 {
     let mut room = room;
-    for token in body {
-        room = room.checked_sub(placed_len(token, arguments) as u64)?;
+    for slot in body {
+        room = room.checked_sub(placed_len(slot, arguments) as u64)?;
     }
     Some(room)
 }
@@ -179,6 +158,7 @@ fn room_left(room: u64, body: &[Token], arguments: &[Supplied]) -> Option<u64>
 impl<'a> Call<'a> {
     /// What is left after the replacement, or the limit that it passes.
     pub(crate) fn spent(&self, left: Budget) -> Result<Budget, MacroError>
+        requires { ArePlaced (names_of (parameters_in self.now.ready.items)) self.now.body.now }
         ensures { (names : List (List ℕ)) → result
             ≡ spent left (length (placed (invocation names self.now) (ready names self.now.ready.items))) }
     {
@@ -196,6 +176,7 @@ impl<'a> Call<'a> {
 
     /// Puts the macro's tokens in place, before those after the invocation.
     pub(crate) fn place(self, alloc: Global) -> Result<Vec<Pending<'a>>, AllocError>
+        requires { ArePlaced (names_of (parameters_in self.ready.items)) self.body.now }
         ensures { (names : List (List ℕ)) → IfOk result (λ tokens. ahead names tokens.items
             ≡ placed (invocation names self.entry) (ready names self.entry.ready.items)
             ++ ahead names self.entry.behind.items) }
@@ -209,10 +190,10 @@ impl<'a> Call<'a> {
             behind,
         } = self;
         let mut tokens = behind;
-        for token in body.iter().rev() {
-            match argument_for(token, ready.as_slice()) {
+        for slot in body.iter().rev() {
+            match argument_at(slot.parameter, ready.as_slice()) {
                 Some(argument) => put_argument(alloc, pos, &hides, argument, &mut tokens)?,
-                None => tokens.push(from_body(pos, &hides, token)?)?,
+                None => tokens.push(from_body(pos, &hides, &slot.token)?)?,
             }
         }
         Ok(tokens)

@@ -1,19 +1,27 @@
-use Rattle.std.proofs.Common.{◌≡◌, [], refl, arith}
-use Rattle.std.proofs.lemmas.List.{nil_from_length}
+use Rattle.std.proofs.Common.{◌≡◌, [], ◌∷◌, refl, ap, ◌∙◌, arith}
+use Rattle.std.proofs.lemmas.List.{nil_from_length, map-append}
+use Rattle.hs_macros.specs.Slots.{names_of}
 use Rattle.hs_macros.specs.Stacks.{waiting}
-use Rattle.hs_macros.proofs.Collecting.{paired_step, none_left}
+use Rattle.hs_macros.specs.declared.slot.Parameter.{Parameter}
+use Rattle.hs_macros.proofs.Collecting.{paired_step, none_left, parameters_step}
 use Rattle.hs_macros.proofs.arguments.paired.Goals as goal
 
--- a name without an argument
-pub returns-in_default-pop : goal.returns-in_default-pop
-returns-in_default-pop c table =
-    let none : c.names.given.items ≡ [] = nil_from_length _ (omega (arith, c.names.given.ok.0, c.in_default-pop.ensures.cases.0)) in
-    none_left table c.names.names.now c.in-Some.others.now c.in-Some.name.now c.names.given.items (waiting table c.names.waiting.items) _
-    c.in-Some.ensures.cases.0 none (c.names.invariant table)
+-- a parameter without an argument
+pub returns-in_default-pop-clause-waiting : goal.returns-in_default-pop-clause-waiting
+returns-in_default-pop-clause-waiting c names =
+    let none : c.parameters.given.items ≡ [] = nil_from_length _ (omega (arith, c.parameters.given.ok.0, c.in_default-pop.ensures.cases.0)) in
+    let split = ap names_of c.in-Some.ensures.cases.0 ∙ map-append (λ (parameter : Parameter). parameter.name) c.in-Some.others.now (c.in-Some.parameter.now ∷ []) in
+    none_left names (names_of c.parameters.left.now) (names_of c.in-Some.others.now) c.in-Some.parameter.now.name c.parameters.given.items
+    (waiting names c.parameters.waiting.items) _ split none (c.parameters.invariant.same names)
 
--- the last name with the last argument
-pub names-preserved : goal.names-preserved
-names-preserved c table =
-    paired_step table c.names.names.now c.in-Some.others.now c.in-Some.name.now c.names.given.items c.pop.new.self.items c.in-Some-pop.tokens
-    c.names.waiting.items c.push.new.self.items _ _ c.in-Some.ensures.cases.0 c.in-Some-pop.ensures.items c.in_ok-push.ensures.items
-    c.items.ensures refl (c.names.invariant table)
+-- the last parameter with the last argument
+pub parameters-preserved : goal.parameters-preserved
+parameters-preserved c =
+    let split = ap names_of c.in-Some.ensures.cases.0 ∙ map-append (λ (parameter : Parameter). parameter.name) c.in-Some.others.now (c.in-Some.parameter.now ∷ []) in
+    record {
+      same = λ names. paired_step names (names_of c.parameters.left.now) (names_of c.in-Some.others.now) c.in-Some.parameter.now.name c.parameters.given.items
+          c.pop.new.self.items c.in-Some-pop.tokens c.parameters.waiting.items c.push.new.self.items _ _ split c.in-Some-pop.ensures.items
+          c.in_ok-push.ensures.items refl refl (c.parameters.invariant.same names);
+      all = parameters_step c.parameters.left.now c.in-Some.others.now c.in-Some.parameter.now c.parameters.waiting.items c.push.new.self.items _ c.args.parameters.now
+          c.in-Some.ensures.cases.0 c.in_ok-push.ensures.items refl c.parameters.invariant.all;
+    }

@@ -1,7 +1,7 @@
 use Rattle.std.proofs.Common.{◌≡◌, ◌≤◌, ℕ, List, length}
 use Rattle.hs_macros.specs.Definitions.{Definitions}
 use Rattle.hs_macros.specs.Loads.{load}
-use Rattle.hs_macros.specs.Stacks.{done, waiting}
+use Rattle.hs_macros.specs.Stacks.{done, waiting, IsKnown}
 use Rattle.hs_macros.specs.Frames.{call_outcome}
 use Rattle.hs_macros.proofs.expansion.proceed.Given as goal
 
@@ -13,6 +13,7 @@ invariant-arguments l = record {
   fewer : (names : List (List ℕ)) → load (waiting names l.call.waiting.items) ≤ load (waiting names l.fn.call.waiting.items);
   behind : l.call.behind.items ≡ l.fn.call.behind.items;
   waits : l.calls.items ≡ l.initial.calls.items;
+  known : IsKnown l.call;
 }
 
 -- each turn takes one of the arguments that wait

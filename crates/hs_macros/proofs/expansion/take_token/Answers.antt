@@ -13,14 +13,14 @@ returns-in_err-tokens-clause-step c =
     let macros = definitions_in c.args.table.now.entries in
     let exit = err_from_is_err_and c.from_residual.result c.from_residual.ensures.1 in
     rw (exit.1, exit.2) (whole_refused names macros c.args.calls.now.items (done names c.args.frame.before.items) c.args.token (ahead names c.args.frame.tokens.items)
-    c.args.frame.left _ c.in_err-tokens.ensures)
+    c.args.frame.left _ c.in_err-tokens.ensures.found)
 
 -- the token stays
 pub returns-in-Stays-clause-step : goal.returns-in-Stays-clause-step
 returns-in-Stays-clause-step c =
     let names = names_in c.args.table.now.entries in
     let macros = definitions_in c.args.table.now.entries in
-    let found' = rw c.in-Stays.is at c.in_ok-tokens.ensures in
+    let found' = rw c.in-Stays.is at c.in_ok-tokens.ensures.found in
     ap (resumed names macros c.args.calls.now.items) (
     stays_done names macros c.args.frame.before.items c.push.new.self.items c.args.token (ahead names c.in-Stays.tokens.items) c.args.frame.left
     c.in_ok-push-in-Stays.ensures.items
@@ -32,7 +32,7 @@ pub returns-clause-step : goal.returns-clause-step
 returns-clause-step c =
     let names = names_in c.args.table.now.entries in
     let macros = definitions_in c.args.table.now.entries in
-    let found' = rw c.in-Invoked.is at c.in_ok-tokens.ensures in
+    let found' = rw c.in-Invoked.is at c.in_ok-tokens.ensures.found in
     step_of _ _ _ _ (whole_invoked names macros c.args.calls.now.items (done names c.args.frame.before.items) c.args.token (ahead names c.args.frame.tokens.items)
     c.args.frame.left c.in-Invoked.call found') (c.proceed.ensures.step names macros)
 
@@ -41,7 +41,7 @@ pub returns-clause-falls : goal.returns-clause-falls
 returns-clause-falls c =
     let names = names_in c.args.table.now.entries in
     let macros = definitions_in c.args.table.now.entries in
-    let found' = rw c.in-Invoked.is at c.in_ok-tokens.ensures in
+    let found' = rw c.in-Invoked.is at c.in_ok-tokens.ensures.found in
     IfOk-weaker c.proceed.result _ _ (λ next falls. omega (
       arith,
       falls,

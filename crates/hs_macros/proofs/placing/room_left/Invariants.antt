@@ -7,6 +7,6 @@ use Rattle.hs_macros.specs.Stacks.{ready}
 use Rattle.hs_macros.proofs.placing.room_left.Given as goal
 
 -- the tokens so far took what is gone
-abbrev pub invariant-loop-token : goal.invariant-loop-token
-invariant-loop-token l = (names : List (List ℕ)) (pos : Pos) (hides : HideSet)
-    → l.room + length (flat_map (placed_at pos hides (ready names l.arguments)) (take l.token-index l.body)) ≡ l.initial.room
+abbrev pub invariant-loop-slot : goal.invariant-loop-slot
+invariant-loop-slot l = (names : List (List ℕ)) (pos : Pos) (hides : HideSet)
+    → l.room + length (flat_map (λ slot. placed_at pos hides (ready names l.arguments) slot.token) (take l.slot-index l.body)) ≡ l.initial.room
