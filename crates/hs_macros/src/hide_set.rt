@@ -69,7 +69,7 @@ impl HideSet {
         Ok(HideSet { numbers })
     }
 
-    /// Whether both have the same numbers. Most sets that meet have.
+    /// Whether both rows have the same numbers. Most sets that meet are equal, so this saves the walks over two rows.
     pub(crate) fn is_same(&self, other: &HideSet) -> bool
         ensures { result ≡ true → self.now ≡ other.now }
     {

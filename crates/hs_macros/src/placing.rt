@@ -23,7 +23,7 @@ use hs_tokens::{Origin, Token};
 use std::alloc::{AllocError, Global};
 use std::rc::Rc;
 
-/// The argument of the parameter of this index, if a token names one.
+/// The argument of the parameter with this index, if the token names one.
 fn argument_at<'b, 'a>(
     place: Option<usize>,
     arguments: &'b [Supplied<'a>],
@@ -60,7 +60,7 @@ fn union_of(alloc: Global, own: &HideSet, hides: &Rc<HideSet>) -> Result<Rc<Hide
     Ok(Rc::new(alloc, own.union(hides)?)?)
 }
 
-/// What the tokens of an argument hide in place that hid the same before.
+/// What tokens of an argument hide in place, if they hid the same before.
 #[derive(Drop)]
 pub(crate) struct Joined<'b> {
     /// What they hid before.
@@ -69,8 +69,8 @@ pub(crate) struct Joined<'b> {
     pub(crate) both: Rc<HideSet>,
 }
 
-/// What a token that hid `own` before hides in place. The tokens of a run mostly hid the same, so that each takes the set of the
-/// last one.
+/// What a token that hid `own` before hides in place. The tokens of a run mostly hid the same, so each takes the set of the last
+/// one if it can.
 fn shared_set<'b>(
     alloc: Global,
     own: &'b HideSet,
