@@ -310,6 +310,18 @@ if_otherwise known at test taken rest word others is =
     (Some (tree.if_ at test taken, rest))
     word others is
 
+-- an `if` with an `else`, by what its parts read
+pub if_whole : (known : Known) (at : Place) (rest behind left others end : List SourceToken) (test : Expression) (taken otherwise : Statement) (word : Place)
+    → test_at known rest ≡ Some (test, behind) → statement_at known behind ≡ Some (taken, left) → keyword_at (codes "else") left ≡ Some (word, others)
+    → statement_at known others ≡ Some (otherwise, end) → if_at known at rest ≡ Some (tree.if_else at test taken otherwise, end)
+if_whole known at rest behind left others end test taken otherwise word tested took ahead after =
+    let step : Expression × List SourceToken → Read Statement =
+    λ it. statement_at known it.1 >>= (λ first. if_on known at it.0 first.0 first.1) in
+    let later : Statement × List SourceToken → Read Statement = λ first. if_on known at test first.0 first.1 in
+    let last : Statement × List SourceToken → Read Statement = λ it. Some (tree.if_else at test taken it.0, it.1) in
+    if_step known at rest ∙ ap (λ (it : Read Expression). it >>= step) tested ∙ ap (λ (it : Read Statement). it >>= later) took
+    ∙ if_otherwise known at test taken left word others ahead ∙ ap (λ (it : Read Statement). it >>= last) after
+
 pub while_step : (known : Known) (at : Place) (rest : List SourceToken)
     → while_at known at rest ≡ (test_at known rest >>= (λ test. statement_at known test.1 >>= (λ body. Some (tree.while_ at test.0 body.0, body.1))))
 unfolding while_at test_at statement_at
