@@ -23,20 +23,7 @@ pub found_by : (macros : Definitions) (token : Hidden) (rest : List Hidden) (ide
 found_by macros token rest identifier hides definition first second third =
     λ i. if first i && not (second i) then found_defined token rest (third i) else stays
 
--- a token that is no identifier stays
-pub no_identifier : (macros : Definitions) (token : Hidden) (rest : List Hidden) → is_identifier token.token ≡ false → found macros token rest ≡ stays
-no_identifier macros token rest first = found_by macros token rest false _ _ first refl refl
-
--- so does one without a definition
-pub undefined : (macros : Definitions) (token : Hidden) (rest : List Hidden) → finite.get macros token.token.text ≡ None → found macros token rest ≡ stays
-undefined macros token rest third = found_by macros token rest _ _ None refl refl third ∙ either _
-  where
-    -- both ways it stays
-    either : (open_to : Bool) → (if open_to then found_defined token rest None else stays) ≡ stays
-    either true = refl
-    either false = refl
-
--- and one that hides its name
+-- a token that hides its name stays
 pub hides_itself : (macros : Definitions) (token : Hidden) (rest : List Hidden) → set.contains token.hides token.token.text ≡ true → found macros token rest ≡ stays
 hides_itself macros token rest second = found_by macros token rest _ true _ refl second refl ∙ never (is_identifier token.token)
   where
