@@ -1,7 +1,11 @@
 pub mod Count
+pub mod Entries
 pub mod Files
+pub mod Keys
 pub mod Limit
 pub mod Memory
+pub mod Options
 pub mod Reads
 pub mod Sink
+pub mod Tests
 pub mod Text

@@ -1,12 +1,13 @@
 -- Reads that were made one after another, and what they tell of files. Own to this project.
 --     Makes leads listing counts old read new    the read made `new` of the files `old`, and its answer is right
---     Leads leads first reads last               reads, one after another, made `last` of `first`
+--     Leads leads first reads last               reads, one after another, made `last` of `first`; Leads_append: and then others
 --     MadeReads leads first last Holds           such reads, of which this holds
 --     OnLast reads Holds                         there is a last read, and this holds of it
 --     AreRight told before now reads             the answers of the reads are right, and their counts follow one another
 --     given reads                                the files whose bytes the reads gave
 --     Fits files reads                           the reads gave what these files have
-use Rattle.std.specs.Prelude.{◌≡◌, ℕ, ◌<◌, List, [], ◌∷◌, length, Option, Some, None, Result, Ok, Err}
+use Rattle.std.proofs.Common.{subst}
+use Rattle.std.specs.Prelude.{◌≡◌, ℕ, ◌<◌, List, [], ◌∷◌, ◌++◌, length, Option, Some, None, Result, Ok, Err}
 use Rattle.hs_base.specs.Files.{Listing, Counts, NeverFall, Read, IsRead, file_of}
 use Rattle.hs_base.specs.declared.errors.FileEnd.{FileEnd}
 use Rattle.hs_base.specs.declared.errors.FileEnd.TheVariants.{Missing, Failed, TooLong, NoMemory}
@@ -25,6 +26,12 @@ pub record Makes {F : Type 0} (leads : F → Read → F → Type 0) (listing : F
 abbrev pub Leads : {F : Type 0} → (F → Read → F → Type 0) → F → List Read → F → Type 0
 Leads leads first [] last = last ≡ first
 Leads leads first (read ∷ reads) last = (next : _) × leads first read next × Leads leads next reads last
+
+-- reads after reads
+pub Leads_append : {F : Type 0} (leads : F → Read → F → Type 0) (first mid last : F) (reads later : List Read) → Leads leads first reads mid
+    → Leads leads mid later last → Leads leads first (reads ++ later) last
+Leads_append leads first mid last [] later led on = subst (λ it. Leads leads it later last) led on
+Leads_append leads first mid last (read ∷ reads) later led on = (led.0, led.1, Leads_append leads led.0 mid last reads later led.2 on)
 
 -- there are reads that led from the first files to the last, of which this holds
 abbrev pub MadeReads : {F : Type 0} → (F → Read → F → Type 0) → F → F → (List Read → Type 0) → Type 0

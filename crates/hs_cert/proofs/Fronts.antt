@@ -4,7 +4,8 @@ use Rattle.std.specs.Option.{MatchOption, is_some}
 use Rattle.std.specs.Cmp.Lexicographic.{pointwise, same_text, other_text}
 use Rattle.std.specs.Bool.{IsTrue}
 use Rattle.std.proofs.lemmas.List.{same_from_push}
-use Rattle.hs_cert.specs.Reading.{Seen, after}
+use Rattle.hs_base.specs.Options.{Seen}
+use Rattle.hs_cert.specs.Reading.{after}
 
 both : {A : Type 0} (one other : Bool) (x : Option A) → (if one then cond other x None else None) ≡ cond (one && other) x None
 both true other x = refl

@@ -1,11 +1,12 @@
 -- Reading gives back the numbers and the lines that were written.
-use Rattle.std.proofs.Common.{◌≡◌, ℕ, suc, ◌+◌, ◌*◌, ◌-◌, ◌/◌, ◌%◌, ◌^◌, ◌<◌, ◌≤◌, ◌==◌, min, ℤ, pos, negsuc, neg_ℤ, Bool, true, false, List, [], ◌∷◌, ◌++◌, length, Option, Some, None, if◌then◌else◌, codes, nat_eq, refl, ap, ◌∙◌, append_assoc, arith}
+use Rattle.std.proofs.Common.{◌≡◌, ℕ, suc, ◌+◌, ◌*◌, ◌-◌, ◌/◌, ◌%◌, ◌^◌, ◌<◌, ◌≤◌, ◌==◌, min, ℤ, pos, negsuc, neg_ℤ, Bool, true, false, List, [], ◌∷◌, ◌++◌, length, Some, None, if◌then◌else◌, codes, nat_eq, refl, ap, ◌∙◌, append_assoc, arith}
 use Rattle.std.specs.Prelude.{nat_abs}
 use Rattle.std.specs.Fmt.{decimal, signed_decimal}
 use Rattle.std.proofs.lemmas.Bool.Decides.{nat_tests}
 use Rattle.std.proofs.lemmas.Fmt.{decimal_by_steps}
 use Rattle.hs_base.specs.Text.{is_digit}
-use Rattle.hs_cert.specs.Reading.{after, number_at, signed_at, line_at, most_size, most_edge, ◌>>=◌}
+use Rattle.hs_base.specs.Options.{bind_some}
+use Rattle.hs_cert.specs.Reading.{after, number_at, signed_at, line_at, most_size, most_edge}
 use Rattle.hs_cert.specs.Texts.{flow_line}
 
 -- the digits are digits
@@ -123,19 +124,13 @@ after_shorter (byte ∷ word) (other ∷ text) rest is = by_test (other == byte)
     by_test true is shorter = let here = shorter is in omega arith
     by_test false is shorter = absurd (cc)
 
--- what is read by two steps
-then_some : {A B : Type 0} (read : Option A) (next : A → Option B) (y : B) → (read >>= next) ≡ Some y
-    → (x : A) × (read ≡ Some x) × (next x ≡ Some y)
-then_some None next y is = absurd (cc)
-then_some (Some x) next y is = (x, refl, is)
-
 -- what follows a line is shorter
 pub line_shorter : (text : List ℕ) (line : ℕ × ℤ × List ℕ) → line_at text ≡ Some line → length line.2 < length text
 unfolding line_at
 line_shorter text line is =
-    let edge = then_some (after (codes "flow ") text) _ line is in
-    let amount = then_some (after (32 ∷ []) (number_at most_edge 0 edge.0).1) _ line edge.2 in
-    let rest = then_some (after (10 ∷ []) (signed_at amount.0).1) _ line amount.2 in
+    let edge = bind_some (after (codes "flow ") text) _ line is in
+    let amount = bind_some (after (32 ∷ []) (number_at most_edge 0 edge.0).1) _ line edge.2 in
+    let rest = bind_some (after (10 ∷ []) (signed_at amount.0).1) _ line amount.2 in
     let same : (((number_at most_edge 0 edge.0).0, (signed_at amount.0).0, rest.0)) ≡ line = cc in
     let last : rest.0 ≡ line.2 = ap (λ (line : ℕ × ℤ × List ℕ). line.2) same in
     omega (

@@ -1,6 +1,5 @@
 -- Reading what stands in front of a text, from left to right. Each function gives what it read and the text after it; what
 -- is no text of a certificate may be read as anything.
---     Seen view result read    what a function returned is what reading gives
 --     after word text           what follows the word, if the text begins with it
 --     number_at most value text     the number whose first digits have this value; one above the most is cut
 --     signed_at text            the same with a sign
@@ -10,18 +9,8 @@ use Rattle.std.specs.Prelude.{◌≡◌, ℕ, ◌+◌, ◌*◌, ◌-◌, ◌^◌
 use Rattle.std.specs.Fmt.{decimal}
 use Rattle.std.specs.List.{All, flat_map}
 use Rattle.hs_base.specs.Text.{is_digit}
+use Rattle.hs_base.specs.Options.{◌>>=◌}
 use Rattle.hs_cert.specs.Texts.{flow_lines}
-
--- what a function returned, seen by view, is what reading gives
-abbrev pub Seen : {X Y : Type 0} → (X → Y) → Option X → Option Y → Type 0
-Seen view None read = read ≡ None
-Seen view (Some x) read = read ≡ Some (view x)
-
-infixl 10 ◌>>=◌
--- nothing, or what follows from what was read
-abbrev pub ◌>>=◌ : {A B : Type 0} → Option A → (A → Option B) → Option B
-None >>= f = None
-(Some x) >>= f = f x
 
 -- the most that the size of an amount is cut to
 abbrev pub most_size : ℕ

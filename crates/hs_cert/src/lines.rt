@@ -1,7 +1,8 @@
 //! Reads words, numbers and the line of an edge from the front of a certificate's text.
 
 ghost use Rattle.std.specs.Prelude.{◌≡◌, ◌<◌, ◌≤◌, ◌+◌, ◌-◌, ◌*◌, min};
-ghost use Rattle.hs_cert.specs.Reading.{Seen, after, line_at, number_at, signed_at};
+ghost use Rattle.hs_base.specs.Options.{Seen};
+ghost use Rattle.hs_cert.specs.Reading.{after, line_at, number_at, signed_at};
 
 use hs_base::is_digit;
 

@@ -3,6 +3,7 @@ use Rattle.std.proofs.Common.{◌≡◌, ℕ, true, false, not, cond, List, [], 
 use Rattle.std.specs.Prelude.{codes}
 use Rattle.std.proofs.lemmas.Bool.{and_parts}
 use Rattle.std.proofs.lemmas.Option.{cond_some}
+use Rattle.hs_base.specs.Options.{◌>>=◌, bind_some}
 use Rattle.hs_tokens.specs.declared.token.SourceToken.{SourceToken}
 use Rattle.hs_tree.specs.declared.straight.tree.Kind.{Kind}
 use Rattle.hs_tree.specs.declared.straight.tree.Kind.TheVariants.{Handle, Pointer, Letter}
@@ -10,8 +11,8 @@ use Rattle.hs_tree.specs.declared.straight.tree.Variable.{Variable}
 use Rattle.hs_tree.specs.Straight.Names.{is_name}
 use Rattle.hs_tree.specs.Straight.Fine.{is_taken, is_fine_name}
 use Rattle.hs_checker.specs.Straight.Grammar.{Piece, word, stars_of, declaration_spelling, ended, Spells}
-use Rattle.hs_checker.specs.Straight.Reading.{◌>>=◌, first_at, mark_at, is_at, second_star_at, kind_at, declaration_at}
-use Rattle.hs_checker.proofs.Marks.{bind_some, some_is, chosen, first_takes, first_again, word_takes, word_again, at_first}
+use Rattle.hs_checker.specs.Straight.Reading.{first_at, mark_at, is_at, second_star_at, kind_at, declaration_at}
+use Rattle.hs_checker.proofs.Marks.{some_is, chosen, first_takes, first_again, word_takes, word_again, at_first}
 use Rattle.hs_checker.proofs.Names.{not_text}
 
 -- the stars are those of the kind

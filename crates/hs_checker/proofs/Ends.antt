@@ -5,11 +5,12 @@ use Rattle.std.specs.Borrow.{Bor}
 use Rattle.std.proofs.lemmas.Bool.{eqb-true, eq-eqb}
 use Rattle.std.proofs.lemmas.List.{nil_from_length}
 use Rattle.std.proofs.lemmas.Option.{none-some}
+use Rattle.hs_base.specs.Options.{Seen, bind_some}
 use Rattle.hs_tokens.specs.declared.token.SourceToken.{SourceToken}
 use Rattle.hs_checker.specs.Straight.Grammar.{Piece, word, opening, closing, Spells}
-use Rattle.hs_checker.specs.Straight.Reading.{Seen, mark_at, marks_at}
+use Rattle.hs_checker.specs.Straight.Reading.{mark_at, marks_at}
 use Rattle.hs_checker.specs.Straight.Ends.{IsOpened, NotOpened, IsClosing}
-use Rattle.hs_checker.proofs.Marks.{bind_some, some_is, word_takes, word_again}
+use Rattle.hs_checker.proofs.Marks.{some_is, word_takes, word_again}
 use Rattle.hs_checker.proofs.Rows.{taken_length}
 
 -- texts that are read are spelled so

@@ -5,6 +5,7 @@ use Rattle.std.specs.Fmt.{decimal}
 use Rattle.std.specs.Str.{bytes_eq}
 use Rattle.std.proofs.lemmas.Bool.{and_parts, leb-true, cond-true, cond-false}
 use Rattle.hs_base.specs.declared.pos.Pos.{Pos}
+use Rattle.hs_base.specs.Options.{◌>>=◌, bind_some}
 use Rattle.hs_tokens.specs.declared.token.SourceToken.{SourceToken}
 use Rattle.hs_tokens.specs.declared.token.Token.{Token}
 use Rattle.hs_tree.specs.declared.straight.tree.Kind.TheVariants.{Pointer, Letter}
@@ -15,8 +16,8 @@ use Rattle.hs_tree.specs.declared.straight.tree.Step.{Step}
 use Rattle.hs_tree.specs.Straight.Names.{begins_with_letter}
 use Rattle.hs_tree.specs.Straight.Fine.{is_declared, was_assigned, is_fine_expr, are_fine_names}
 use Rattle.hs_checker.specs.Straight.Grammar.{Piece, word, placed, name_in, name_of, expr_spelling, Spells}
-use Rattle.hs_checker.specs.Straight.Reading.{◌>>=◌, first_at, mark_at, is_at, numeral, number_of, variable_at, word_value, word_at, load_at, expr_at}
-use Rattle.hs_checker.proofs.Marks.{bind_some, some_is, chosen, first_takes, first_again, placed_takes, placed_again, at_first}
+use Rattle.hs_checker.specs.Straight.Reading.{first_at, mark_at, is_at, numeral, number_of, variable_at, word_value, word_at, load_at, expr_at}
+use Rattle.hs_checker.proofs.Marks.{some_is, chosen, first_takes, first_again, placed_takes, placed_again, at_first}
 use Rattle.hs_checker.proofs.Names.{name_found, declared, number_again, variable_takes, variable_again, name_is, name_begins, not_text}
 use Rattle.hs_checker.proofs.Numbers.{numeral_is, numeral_again, decimal_begins, decimal_not}
 

@@ -5,6 +5,7 @@ use Rattle.std.specs.List.{list_any}
 use Rattle.std.specs.Str.{bytes_eq}
 use Rattle.std.proofs.lemmas.Bool.{and_parts, and_from}
 use Rattle.std.proofs.lemmas.List.{length-append}
+use Rattle.hs_base.specs.Tests.{and_again}
 use Rattle.hs_tokens.specs.declared.token.SourceToken.{SourceToken}
 use Rattle.hs_tree.specs.declared.straight.tree.Kind.TheVariants.{Handle, Pointer, Letter}
 use Rattle.hs_tree.specs.declared.straight.tree.Variable.{Variable}
@@ -38,10 +39,6 @@ or_none : (a : Bool) → (a || false) ≡ a
 or_none true = refl
 or_none false = refl
 
-and_grouped : (a b c : Bool) → (a && (b && c)) ≡ ((a && b) && c)
-and_grouped true b c = refl
-and_grouped false b c = refl
-
 and_all : (a : Bool) → (a && true) ≡ a
 and_all true = refl
 and_all false = refl
@@ -64,7 +61,7 @@ unfolding newest
 names_append earlier [] ys = refl
 names_append earlier (x ∷ xs) ys =
     ap (λ (b : Bool). is_fine_name earlier x.name && b) (names_append (x ∷ earlier) xs ys)
-    ∙ and_grouped (is_fine_name earlier x.name) (are_fine_names (x ∷ earlier) xs) (are_fine_names (newest (x ∷ earlier) xs) ys)
+    ∙ and_again (is_fine_name earlier x.name) (are_fine_names (x ∷ earlier) xs) (are_fine_names (newest (x ∷ earlier) xs) ys)
 
 -- the order of the earlier names does not matter
 name_order : (variables : List Variable) (name : List ℕ) → is_fine_name (newest [] variables) name ≡ is_fine_name variables name
@@ -105,7 +102,7 @@ unfolding newest
 steps_append variables done [] ys = refl
 steps_append variables done (x ∷ xs) ys =
     ap (λ (b : Bool). is_fine_step variables done x && b) (steps_append variables (x ∷ done) xs ys)
-    ∙ and_grouped (is_fine_step variables done x) (are_fine_steps variables (x ∷ done) xs) (are_fine_steps variables (newest (x ∷ done) xs) ys)
+    ∙ and_again (is_fine_step variables done x) (are_fine_steps variables (x ∷ done) xs) (are_fine_steps variables (newest (x ∷ done) xs) ys)
 
 -- the order of the steps done does not matter: for a variable, an expression, a step
 assigned_order : (done : List Step) (variable : ℕ) → was_assigned variable (newest [] done) ≡ was_assigned variable done

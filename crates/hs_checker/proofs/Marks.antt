@@ -8,10 +8,11 @@ use Rattle.std.proofs.lemmas.Bool.{cond-true}
 use Rattle.std.proofs.lemmas.Option.{cond_some}
 use Rattle.std.proofs.lemmas.Slice.Eq.{bytes_eq-Decides}
 use Rattle.hs_base.specs.declared.pos.Pos.{Pos}
+use Rattle.hs_base.specs.Options.{Seen, bind_some}
 use Rattle.hs_tokens.specs.declared.token.SourceToken.{SourceToken}
 use Rattle.hs_tokens.specs.declared.token.Token.{Token}
 use Rattle.hs_checker.specs.Straight.Grammar.{Piece, word, placed, Spells}
-use Rattle.hs_checker.specs.Straight.Reading.{Seen, ◌>>=◌, first_at, mark_at, is_at}
+use Rattle.hs_checker.specs.Straight.Reading.{first_at, mark_at, is_at}
 
 -- what `split_first` says is what `first_at` gives
 pub first_gives : (tokens : List SourceToken) (r : Option (Bor SourceToken × Bor (List SourceToken)))
@@ -23,11 +24,6 @@ first_gives (source ∷ rest) None h = absurd (omega arith)
 first_gives (source ∷ rest) (Some p) h = let parts = h.0 in cc
 
 -- ---- steps that may fail
-
--- a chain of steps gave something, so each step did
-pub bind_some : {A B : Type 0} (o : Option A) (f : A → Option B) (y : B) → (o >>= f) ≡ Some y → (x : A) × (o ≡ Some x) × (f x ≡ Some y)
-bind_some (Some x) f y e = (x, refl, e)
-bind_some None f y e = absurd cc
 
 abbrev some : {A : Type 0} → A → Option A
 some x = Some x

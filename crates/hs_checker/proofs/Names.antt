@@ -8,6 +8,7 @@ use Rattle.std.proofs.lemmas.Bool.{and_parts, or_parts, not-true, both_ways, fal
 use Rattle.std.proofs.lemmas.List.Quantifiers.{position-Some}
 use Rattle.std.proofs.lemmas.Option.{slice_get-get_or, slice_get_within}
 use Rattle.std.proofs.lemmas.Slice.Eq.{bytes_eq-Decides}
+use Rattle.hs_base.specs.Options.{◌>>=◌, bind_some}
 use Rattle.hs_tokens.specs.declared.token.SourceToken.{SourceToken}
 use Rattle.hs_tree.specs.declared.straight.tree.Kind.{Kind}
 use Rattle.hs_tree.specs.declared.straight.tree.Kind.TheVariants.{Letter}
@@ -15,8 +16,8 @@ use Rattle.hs_tree.specs.declared.straight.tree.Variable.{Variable}
 use Rattle.hs_tree.specs.Straight.Names.{begins_with_letter, is_identifier, is_name}
 use Rattle.hs_tree.specs.Straight.Fine.{has_kind, kind_eq, is_declared, is_taken, is_fine_name, are_fine_names}
 use Rattle.hs_checker.specs.Straight.Grammar.{Piece, word, name_in, name_of, Spells}
-use Rattle.hs_checker.specs.Straight.Reading.{◌>>=◌, first_at, number_of, variable_at}
-use Rattle.hs_checker.proofs.Marks.{bind_some, some_is, first_takes, first_again}
+use Rattle.hs_checker.specs.Straight.Reading.{first_at, number_of, variable_at}
+use Rattle.hs_checker.proofs.Marks.{some_is, first_takes, first_again}
 
 -- stands in where a list is read past its end
 nobody : Variable

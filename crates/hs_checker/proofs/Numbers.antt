@@ -15,10 +15,11 @@ use Rattle.std.proofs.lemmas.Option.{cond_some}
 use Rattle.std.proofs.lemmas.Slice.Eq.{bytes_eq-Decides}
 use Rattle.hs_tokens.specs.declared.token.SourceToken.{SourceToken}
 use Rattle.hs_base.specs.Text.{is_digit, is_letter}
+use Rattle.hs_base.specs.Options.{◌>>=◌, bind_some}
 use Rattle.hs_tree.specs.Straight.Names.{begins_with_letter}
 use Rattle.hs_checker.specs.Straight.Grammar.{Piece, word, Spells}
-use Rattle.hs_checker.specs.Straight.Reading.{◌>>=◌, first_at, numeral, is_numeral, has_one, begins_with_zero, number_at}
-use Rattle.hs_checker.proofs.Marks.{bind_some, some_is, first_takes, first_again}
+use Rattle.hs_checker.specs.Straight.Reading.{first_at, numeral, is_numeral, has_one, begins_with_zero, number_at}
+use Rattle.hs_checker.proofs.Marks.{some_is, first_takes, first_again}
 
 -- all bytes are digits
 abbrev AreDigits : List ℕ → Type 0

@@ -3,6 +3,7 @@ use Rattle.std.proofs.Common.{◌≡◌, ℕ, true, cond, List, [], ◌∷◌, �
 use Rattle.std.specs.Prelude.{codes}
 use Rattle.std.specs.Fmt.{decimal}
 use Rattle.std.proofs.lemmas.Option.{cond_some}
+use Rattle.hs_base.specs.Options.{◌>>=◌, bind_some}
 use Rattle.hs_tokens.specs.declared.token.SourceToken.{SourceToken}
 use Rattle.hs_tree.specs.declared.straight.tree.Kind.TheVariants.{Handle, Pointer}
 use Rattle.hs_tree.specs.declared.straight.tree.Variable.{Variable}
@@ -10,8 +11,8 @@ use Rattle.hs_tree.specs.declared.straight.tree.Step.{Step}
 use Rattle.hs_tree.specs.declared.straight.tree.Step.TheVariants as step
 use Rattle.hs_tree.specs.Straight.Fine.{is_declared, is_fine_step}
 use Rattle.hs_checker.specs.Straight.Grammar.{Piece, word, placed, name_of, expr_spelling, step_spelling, ended, Spells}
-use Rattle.hs_checker.specs.Straight.Reading.{◌>>=◌, mark_at, is_at, number_at, variable_at, expr_at, handle_at, lock_at, unlock_at, putchar_at, store_at, new_handle_at, derive_at, set_at, source_at, assign_at, form_at, step_at}
-use Rattle.hs_checker.proofs.Marks.{bind_some, some_is, chosen, placed_takes, word_takes}
+use Rattle.hs_checker.specs.Straight.Reading.{mark_at, is_at, number_at, variable_at, expr_at, handle_at, lock_at, unlock_at, putchar_at, store_at, new_handle_at, derive_at, set_at, source_at, assign_at, form_at, step_at}
+use Rattle.hs_checker.proofs.Marks.{some_is, chosen, placed_takes, word_takes}
 use Rattle.hs_checker.proofs.Names.{variable_takes}
 use Rattle.hs_checker.proofs.Numbers.{number_takes}
 use Rattle.hs_checker.proofs.Exprs.{expr_takes}

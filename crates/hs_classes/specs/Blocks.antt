@@ -1,14 +1,10 @@
 -- The parts of a block.
-use Rattle.std.proofs.Common.{◌≡◌, map, refl, ap, sym, ◌∙◌}
-use Rattle.hs_tree.specs.RowLaws.{statements_from, view_labelled}
+use Rattle.std.proofs.Common.{◌≡◌, map, ap, sym, ◌∙◌}
+use Rattle.hs_tree.specs.RowLaws.{statements_from, view_labelled, statements_row}
 use Rattle.hs_tree.specs.Trees as tree
-use Rattle.hs_tree.specs.Views.{view_declaration, view_statement, view_statements, view_block}
-use Rattle.hs_tree.specs.declared.statement.Block.{Block, Block', out-Block, Row_of-Labelled, end_of-Labelled, more_of-Labelled, items-the_row-Labelled}
+use Rattle.hs_tree.specs.Views.{view_declaration, view_statements, view_block}
+use Rattle.hs_tree.specs.declared.statement.Block.{Block, Block', out-Block}
 use Rattle.hs_tree.specs.declared.statement.Statement.TheBlock.{shown-the_row-Labelled-0, items_shown-the_row-Labelled-0}
-
-statements_row : (m : _) (row : Row_of-Labelled m) → view_statements row ≡ statements_from (map view_labelled (items-the_row-Labelled m row))
-statements_row _ end_of-Labelled = refl
-statements_row _ (more_of-Labelled labels it rest) = ap (tree.more_statements labels.items (view_statement it)) (statements_row _ rest)
 
 -- the views of its lists
 pub block_out : (it : Block) → view_block it

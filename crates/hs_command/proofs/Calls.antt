@@ -400,7 +400,8 @@ causes_of call answer unique (inl answered) =
       usage_only = λ came.
           usage_only call answer answered.right answered.report answered.is_report came
           (whole_put call answer answered.right answered.report status.Usage caused came (λ is. absurd cc));
-      usage = λ none. but call answer answered.right answered.report status.Usage caused (usage call answer answered.right answered.report answered.is_report none);
+      usage =
+          λ none. but call answer answered.right answered.report status.Usage caused (usage call answer answered.right answered.report answered.is_report none);
       unwritten_only = unwritten_only call answer answered.right answered.report caused;
       check = λ names is_check. check_causes_of call answer unique answered;
       run = λ it mover is_run chosen. plain_run_causes call answer it mover is_run chosen answered caused;

@@ -49,7 +49,8 @@ module _ (call : Call) (answer : Status) (right : AreRight call.told call.before
   -- ---- what is so where a status came
 
   -- the status is that of the report, or the put was cut
-  pub but : (report : Report) (wanted : Status) → IsCause report answer call.old call.new → (answer ≡ status_of report → IsBut wanted answer) → IsBut wanted answer
+  pub but : (report : Report) (wanted : Status) → IsCause report answer call.old call.new → (answer ≡ status_of report → IsBut wanted answer)
+      → IsBut wanted answer
   but report wanted (cut unwritten fault) follows = inr (inl unwritten)
   but report wanted (whole is_status) follows = follows is_status
 

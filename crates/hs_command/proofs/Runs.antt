@@ -4,7 +4,7 @@ use Rattle.std.specs.Prelude.{Box, IfSome, slice_get}
 use Rattle.std.specs.Box.{box_value}
 use Rattle.std.specs.Global.{Global}
 use Rattle.hs_base.specs.Files.{Read}
-use Rattle.hs_base.specs.Reads.{MadeReads}
+use Rattle.hs_base.specs.Reads.{MadeReads, Leads_append}
 use Rattle.hs_code.specs.Codes.{view_program}
 use Rattle.hs_directives.specs.Reads.{AreFirstReads}
 use Rattle.hs_directives.specs.declared.source.Source.{Source}
@@ -18,7 +18,6 @@ use Rattle.hs_meaning.specs.declared.outcome.Outcome.TheVariants.{Finished, Stop
 use Rattle.hs_run_text.specs.RunTexts as runs
 use Rattle.hs_runner.specs.Runs.{IsRunOf}
 use Rattle.hs_settings.specs.Settings.{IsSettings}
-use Rattle.hs_settings.specs.Stages.{Leads_append}
 use Rattle.hs_settings.specs.declared.settings.Settings.{Settings}
 use Rattle.hs_settings.specs.declared.settings.SettingsError.{SettingsError}
 use Rattle.hs_source.specs.Source.{IsSource}

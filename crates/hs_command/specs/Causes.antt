@@ -80,7 +80,8 @@ HaveSyntax call names = (pos : Pos) × HaveSyntaxAt call.reads names pos
 -- typing refuses the units, at a place
 abbrev pub AreUntyped : Call → List (List ℕ) → Type 0
 AreUntyped call names =
-    (why : TypeError) × ((place : Fault × Pos × Option (List ℕ)) × (typed_by why ≡ Some place)) × ComeTo built_in_table (Err (program.Refused why)) call.reads names
+    (why : TypeError) × ((place : Fault × Pos × Option (List ℕ)) × (typed_by why ≡ Some place))
+    × ComeTo built_in_table (Err (program.Refused why)) call.reads names
 
 -- no unit defines a usable `main`
 abbrev pub HaveNoMain : Call → List (List ℕ) → Type 0
@@ -109,7 +110,8 @@ AreLimited call names = (limit : Limit) × (IsRefusedAs call.reads names (readin
 -- it must come, unless the write failed or memory ran out.
 pub record HasCheckCauses (call : Call) (answer : Status) : Type 0 where
   -- Done
-  pub accepted : (source : Source) (tree : Straight) → Asks call (Ok source) → HaveProgram built_in_table source.units → Spells source tree → HasStaleUses tree 0
+  pub accepted : (source : Source) (tree : Straight) → Asks call (Ok source) → HaveProgram built_in_table source.units → Spells source tree
+      → HasStaleUses tree 0
       → IsBut status.Done answer
   -- Hazards: a stale use exists, and the number that was put is their count
   pub hazards_only : answer ≡ status.Hazards → Checks call (IsRejected call)

@@ -94,7 +94,8 @@ status_of NoMemory = status.NoMemory
 -- the named files are a typed program and one straight program, which has n stale uses
 abbrev pub HasProgramOf : ℕ → List Read → List (List ℕ) → Type 0
 HasProgramOf n reads names =
-    (source : Source) × IsReadAs reads names source × HaveProgram built_in_table source.units × ((tree : Straight) × IsTheProgram source tree × HasStaleUses tree n)
+    (source : Source) × IsReadAs reads names source × HaveProgram built_in_table source.units
+    × ((tree : Straight) × IsTheProgram source tree × HasStaleUses tree n)
 
 -- the named files are a typed program, and no straight one
 abbrev pub AreUnbuilt : List Read → List (List ℕ) → Type 0

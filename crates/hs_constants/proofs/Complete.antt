@@ -111,7 +111,8 @@ infix_reads : (waiting : List Waiting) (value : Value) (token : Token) (operator
     → operator_step waiting value token ≡ infix_step operator (settled (precedence_of operator) waiting value)
 infix_reads waiting value token operator is =
     let marks : Option Binary → Option Reading =
-    λ found. operator_by (λ precedence. settled precedence waiting value) found (is_mark (codes "?") token) (is_mark (codes ":") token) (is_mark (codes ")") token) in
+    λ found. operator_by (λ precedence. settled precedence waiting value) found (is_mark (codes "?") token) (is_mark (codes ":") token)
+    (is_mark (codes ")") token) in
     ap marks is
 
 -- a `?`
@@ -164,7 +165,8 @@ complete (infixed token operator left right value other is first second) waiting
     let precedences = precedence_within operator in
     let begun : stepped (Some (behind inner.left inner.last)) token ≡ Some (before (Infix value operator ∷ waiting)) =
     infix_reads inner.left inner.last token operator is
-    ∙ ap (infix_step operator) (inner.same (precedence_of operator) (omega arith) ∙ stays (precedence_of operator) waiting value takes precedences.0 precedences.1) in
+    ∙ ap (infix_step operator)
+    (inner.same (precedence_of operator) (omega arith) ∙ stays (precedence_of operator) waiting value takes precedences.0 precedences.1) in
     record {
       left = outer.left;
       last = outer.last;

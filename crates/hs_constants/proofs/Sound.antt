@@ -58,13 +58,15 @@ settled_along {precedence = precedence} {it = it} same is = subst (λ (tokens : 
 
 -- nothing more takes the operand
 kept : (precedence : ℕ) {waiting : List Waiting} {front : List Token} → Spells waiting front → (operand : List Token) (value : Value) (tight : ℕ)
-    → Means tight operand value → precedence ≤ tight → demand waiting ≤ precedence → IsSettled precedence (front ++ operand) (record { waiting = waiting; value = value })
+    → Means tight operand value → precedence ≤ tight → demand waiting ≤ precedence
+    → IsSettled precedence (front ++ operand) (record { waiting = waiting; value = value })
 kept precedence {front = front} spells operand value tight means within takes =
     record { front = front; operand = operand; spells = spells; means = looser precedence tight within means; takes = takes; whole = refl }
 
 -- what settles is an expression, with what settles in it
 settles : (precedence : ℕ) {waiting : List Waiting} {front : List Token} → Spells waiting front → (operand : List Token) (value : Value) (tight : ℕ)
-    → Means tight operand value → demand waiting ≤ tight → precedence ≤ tight → precedence ≤ 11 → IsSettled precedence (front ++ operand) (settled precedence waiting value)
+    → Means tight operand value → demand waiting ≤ tight → precedence ≤ tight → precedence ≤ 11
+    → IsSettled precedence (front ++ operand) (settled precedence waiting value)
 settles precedence empty operand value tight means takes within most = kept precedence empty operand value tight means within (omega arith)
 settles precedence (opened waiting front token spells is) operand value tight means takes within most =
     kept precedence (opened waiting front token spells is) operand value tight means within (omega arith)
@@ -85,7 +87,8 @@ settles precedence (between waiting front left token operator first spells fits 
     ]
 settles precedence (asked waiting front test question first spells fits tests is) operand value tight means takes within most =
     kept precedence (asked waiting front test question first spells fits tests is) operand value tight means within (omega arith)
-settles precedence (parted waiting front test left question colon first second spells fits tests is lefts is_colon) operand value tight means takes within most =
+settles precedence (parted waiting front test left question colon first second spells fits tests is lefts is_colon) operand value tight
+    means takes within most =
     elim (cases_Bool (precedence == 0)) [
       | inl taken ↦ rw taken (
           let within' : precedence ≤ 0 = grind (arith, nat_tests) in

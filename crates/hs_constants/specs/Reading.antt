@@ -104,7 +104,8 @@ operator_by settled None is_question is_colon is_close =
 -- the same of the token
 abbrev pub operator_step : List Waiting → Value → Token → Option Reading
 operator_step waiting value token =
-    operator_by (λ precedence. settled precedence waiting value) (binary_of token) (is_mark (codes "?") token) (is_mark (codes ":") token) (is_mark (codes ")") token)
+    operator_by (λ precedence. settled precedence waiting value) (binary_of token) (is_mark (codes "?") token) (is_mark (codes ":") token)
+    (is_mark (codes ")") token)
 
 -- one token on
 abbrev pub step : Stage → List Waiting → Token → Option Reading

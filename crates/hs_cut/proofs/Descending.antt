@@ -27,7 +27,8 @@ IsDescent-step gates rows distances first first_distance vertex distance path ne
   front = path;
   ends = refl;
   goes_on = λ rest way.
-      let longer : Descends gates rows distances first_distance (down.front ++ vertex ∷ next ∷ rest) = down.goes_on (next ∷ rest) (distance, refl, least, way) in
+      let longer : Descends gates rows distances first_distance (down.front ++ vertex ∷ next ∷ rest) =
+      down.goes_on (next ∷ rest) (distance, refl, least, way) in
       let joined : path ++ next ∷ rest ≡ down.front ++ vertex ∷ next ∷ rest =
       ap (λ (path : List ℕ). path ++ next ∷ rest) down.ends ∙ append_assoc down.front (vertex ∷ []) (next ∷ rest) in
       rw joined longer;

@@ -7,6 +7,7 @@ use Rattle.std.proofs.lemmas.List.{length-replicate}
 use Rattle.std.proofs.lemmas.List.Elements.{All-head, All-tail}
 use Rattle.std.specs.declared.vec.Vec.{Vec}
 use Rattle.std.specs.declared.alloc.Global.{Global}
+use Rattle.hs_base.specs.Tests.{not_first}
 use Rattle.hs_cut.specs.Arcs.{IsGraph, arcs_from, goal}
 use Rattle.hs_cut.specs.CutFlows.{net_out-cut}
 use Rattle.hs_cut.specs.Flows.{net_out, out_over}
@@ -135,7 +136,7 @@ IsPartial-push network units before after from to side partial pushed cut begins
   size = λ index below. size index below (edge_at network.edges index).slot refl;
   conservation = λ vertex below free.
       let net = pushed.net (nat_eq vertex) in
-      let out = away vertex from network.inside begins (or-left (among network.inside vertex) (among network.outside vertex) free) in
+      let out = away vertex from network.inside begins (not_first (among network.inside vertex) (among network.outside vertex) free) in
       let in_ = away vertex to network.outside ends (or-right (among network.inside vertex) (among network.outside vertex) free) in
       let was = partial.conservation vertex below free in
       still (net_out (nat_eq vertex) network.edges after) (net_out (nat_eq vertex) network.edges before) (count (nat_eq vertex to))
@@ -154,10 +155,6 @@ IsPartial-push network units before after from to side partial pushed cut begins
         let was : nat_abs (amount_at before index) ≤ units = rw is at old in
         let new_ = pushed.size index below in
         rw is (omega arith)
-
-    or-left : (a b : Bool) → (a || b) ≡ false → a ≡ false
-    or-left true b is = is
-    or-left false b is = refl
 
     or-right : (a b : Bool) → (a || b) ≡ false → b ≡ false
     or-right true b is = absurd cc
@@ -179,7 +176,8 @@ IsPartial-push network units before after from to side partial pushed cut begins
 -- an arc leads down from each vertex above distance 0
 pub leads_down : (edges : List CutEdge) (gates : List Gate) (rows : List (Vec Arc Global)) (starts : List ℕ) (distances : List (Option ℕ))
     → IsGraph edges rows → AreDistances gates rows starts distances
-    → (vertex distance : ℕ) → distance_at distances vertex ≡ Some (distance + 1) → (arc : Arc) × Contains (arcs_from rows vertex) arc × LeadsDown gates distances distance arc
+    → (vertex distance : ℕ) → distance_at distances vertex ≡ Some (distance + 1)
+    → (arc : Arc) × Contains (arcs_from rows vertex) arc × LeadsDown gates distances distance arc
 leads_down edges gates rows starts distances graph all vertex distance is =
     let same : distance + 1 ≡ suc distance = omega arith in
     let below = all.below vertex distance (is ∙ ap (λ n. Some n) same) in

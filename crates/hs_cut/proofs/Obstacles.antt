@@ -165,7 +165,8 @@ IsCut-unreached network rows distances graph all none = record {
 -- a step leads down from each vertex above distance 0
 pub below-distance : (edges : List CutEdge) (rows : List (Vec Arc Global)) (starts : List ℕ) (distances : List (Option ℕ))
     → IsGraph edges rows → AreDistances (map uncut_gate edges) rows starts distances
-    → (vertex distance : ℕ) → distance_at distances vertex ≡ Some (distance + 1) → (next : ℕ) × IsAt distances distance (next_to (map uncut_gate edges) rows vertex) next
+    → (vertex distance : ℕ) → distance_at distances vertex ≡ Some (distance + 1)
+    → (next : ℕ) × IsAt distances distance (next_to (map uncut_gate edges) rows vertex) next
 below-distance edges rows starts distances graph all vertex distance is =
     let same : distance + 1 ≡ suc distance = omega arith in
     let below = all.below vertex distance (is ∙ ap (λ n. Some n) same) in
@@ -231,7 +232,8 @@ descends-least : (network : Network) (rows : List (Vec Arc Global)) (distances :
     → is_le (slice_cmp nat_cmp path other) ≡ true
 descends-least network rows distances distance vertex [] [] graph all at down way long = refl
 descends-least network rows distances distance vertex [] (next ∷ other) graph all at down way long = absurd (let zero_is : distance ≡ 0 = down.0 in omega arith)
-descends-least network rows distances distance vertex (next ∷ path) [] graph all at down way long = absurd (let same : distance ≡ suc down.0 = down.1 in omega arith)
+descends-least network rows distances distance vertex (next ∷ path) [] graph all at down way long =
+    absurd (let same : distance ≡ suc down.0 = down.1 in omega arith)
 descends-least network rows distances distance vertex (next ∷ path) (found ∷ other) graph all at down way long =
     let same : distance ≡ suc down.0 = down.1 in
     let later = further (distance_at distances found) (length other) (way-within network rows distances found other graph all way.1) in

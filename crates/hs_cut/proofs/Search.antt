@@ -64,7 +64,8 @@ put_is (Some own) is_one put is none one = absurd cc
 put_is None is_one put is none one = is ∙ one
 
 -- and gets the distance
-new_distance : (distance : ℕ) (is_one : Bool) (before after : Option ℕ) → after ≡ distance_after distance is_one before → before ≡ None → is_one ≡ true → after ≡ Some distance
+new_distance : (distance : ℕ) (is_one : Bool) (before after : Option ℕ) → after ≡ distance_after distance is_one before → before ≡ None → is_one ≡ true
+    → after ≡ Some distance
 new_distance distance is_one (Some own) after is none one = absurd cc
 new_distance distance is_one None after is none one = is ∙ ap (λ b. cond b (Some distance) None) one
 
@@ -135,7 +136,8 @@ IsFrontier-next gates rows starts distances frontier distance distances' next ol
   ];
   has = λ vertex is. elim (comes vertex (suc distance) is) [
     | inl was ↦ absurd (let most = old.most vertex (suc distance) was in omega arith)
-    | inr new ↦ put_is (distance_at distances vertex) (among (flat_map (next_to gates rows) frontier) vertex) (among next vertex) (reached.put vertex) new.0 new.1
+    | inr new ↦ put_is (distance_at distances vertex) (among (flat_map (next_to gates rows) frontier) vertex) (among next vertex)
+        (reached.put vertex) new.0 new.1
   ];
   only = λ vertex is.
       let was = put_new (distance_at distances vertex) (among (flat_map (next_to gates rows) frontier) vertex) (among next vertex) (reached.put vertex) is in

@@ -23,7 +23,8 @@ IsAt distances distance vertices vertex = IsTrue (among vertices vertex) × (dis
 -- it is the least, or there is none
 abbrev pub IsLeastAt : List (Option ℕ) → ℕ → List ℕ → Option ℕ → Type 0
 IsLeastAt distances distance vertices None = (vertex : ℕ) → IsAt distances distance vertices vertex → ⊥
-IsLeastAt distances distance vertices (Some least) = IsAt distances distance vertices least × ((vertex : ℕ) → IsAt distances distance vertices vertex → least ≤ vertex)
+IsLeastAt distances distance vertices (Some least) =
+    IsAt distances distance vertices least × ((vertex : ℕ) → IsAt distances distance vertices vertex → least ≤ vertex)
 
 -- the arc can be traversed, and leads to a vertex of the distance
 abbrev pub LeadsTo : List Gate → List (Option ℕ) → ℕ → Arc → Type 0

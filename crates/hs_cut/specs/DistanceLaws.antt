@@ -16,7 +16,8 @@ Reaches gates rows starts vertex zero = IsTrue (among starts vertex)
 Reaches gates rows starts vertex (suc steps) = (from : ℕ) × Reaches gates rows starts from steps × IsTrue (among (next_to gates rows from) vertex)
 
 -- a walk of as many steps as its distance leads to a vertex
-pub distance-walk : (gates : List Gate) (rows : List (Vec Arc Global)) (starts : List ℕ) (distances : List (Option ℕ)) → AreDistances gates rows starts distances
+pub distance-walk : (gates : List Gate) (rows : List (Vec Arc Global)) (starts : List ℕ) (distances : List (Option ℕ))
+    → AreDistances gates rows starts distances
     → (distance vertex : ℕ) → distance_at distances vertex ≡ Some distance → Reaches gates rows starts vertex distance
 distance-walk gates rows starts distances all zero vertex is = all.origin vertex is
 distance-walk gates rows starts distances all (suc distance) vertex is =
@@ -34,7 +35,8 @@ within-more None steps more_ is low = is
 within-more (Some it) steps more_ is low = let below : it ≤ steps = is in omega arith
 
 -- and no walk is shorter; so if a vertex has no distance, there is none
-pub walk-distance : (gates : List Gate) (rows : List (Vec Arc Global)) (starts : List ℕ) (distances : List (Option ℕ)) → AreDistances gates rows starts distances
+pub walk-distance : (gates : List Gate) (rows : List (Vec Arc Global)) (starts : List ℕ) (distances : List (Option ℕ))
+    → AreDistances gates rows starts distances
     → (steps vertex : ℕ) → Reaches gates rows starts vertex steps → IsWithinDistance steps (distance_at distances vertex)
 walk-distance gates rows starts distances all zero vertex walk = rw (all.first vertex walk) (omega arith)
 walk-distance gates rows starts distances all (suc steps) vertex walk =

@@ -4,6 +4,7 @@
 --     compound_all                a compound statement
 use Rattle.std.proofs.Common.{◌≡◌, Bool, true, false, List, [], ◌∷◌, ◌++◌, Option, Some, None, refl, ap, ◌∙◌}
 use Rattle.std.specs.Prelude.{not, codes}
+use Rattle.hs_base.specs.Options.{◌>>=◌}
 use Rattle.hs_tokens.specs.declared.token.SourceToken.{SourceToken}
 use Rattle.hs_tokens.specs.declared.token.TokenKind.TheVariants.{Identifier, Punctuator}
 use Rattle.hs_syntax.specs.Forms.{Form, ◌⨾◌, when, mark, mark_at as mark_form, keyword, IsOf}
@@ -15,7 +16,7 @@ use Rattle.hs_syntax.specs.Trees.{Expression, Declaration, Statement, Compound, 
 use Rattle.hs_tokens.specs.declared.place.Place.{Place}
 use Rattle.hs_expr_parser.specs.Ahead.{place_of, is_punctuator, is_keyword, is_mark_ahead, mark_at}
 use Rattle.hs_expr_parser.specs.Recursion.{Read}
-use Rattle.hs_expr_parser.specs.Reading.{Known, ◌>>=◌, going_on}
+use Rattle.hs_expr_parser.specs.Reading.{Known, going_on}
 use Rattle.hs_expr_parser.specs.Laws.Apart.{with_text, when_parts, one_token}
 use Rattle.hs_expr_parser.specs.Laws.Enclosed.{headed}
 use Rattle.hs_expr_parser.specs.Laws.Primaries.{mark_reads, behind}

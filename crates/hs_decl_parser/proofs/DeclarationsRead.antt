@@ -6,6 +6,7 @@
 use Rattle.std.proofs.Common.{◌≡◌, Bool, true, false, List, [], ◌∷◌, ◌++◌, Some, None, refl, ap, sym, ◌∙◌, append_assoc}
 use Rattle.std.specs.Prelude.{codes}
 use Rattle.std.proofs.lemmas.List.{append-nil}
+use Rattle.hs_base.specs.Options.{◌>>=◌}
 use Rattle.hs_tokens.specs.declared.token.SourceToken.{SourceToken}
 use Rattle.hs_tokens.specs.declared.token.TokenKind.TheVariants.{Punctuator}
 use Rattle.hs_syntax.specs.Forms.{Piece, Form, ◌⨾◌, mark, Spells, IsOf}
@@ -16,7 +17,7 @@ use Rattle.hs_tokens.specs.declared.place.Place.{Place}
 use Rattle.hs_expr_parser.specs.Ahead.{is_punctuator, is_ahead, is_mark_ahead, mark_at, begins_specifier}
 use Rattle.hs_expr_parser.specs.Expected.{specifiers_in}
 use Rattle.hs_expr_parser.specs.Recursion.{Read}
-use Rattle.hs_expr_parser.specs.Reading.{Known, ◌>>=◌, going_on}
+use Rattle.hs_expr_parser.specs.Reading.{Known, going_on}
 use Rattle.hs_expr_parser.specs.Steps.{some_specifiers_at, declarator_at}
 use Rattle.hs_expr_parser.specs.Laws.Apart.{with_text, when_parts, one_token}
 use Rattle.hs_expr_parser.specs.Laws.Entries.{specification_again}

@@ -3,6 +3,7 @@
 --     external_bare_all, external_declared_all     a declaration, without declarators and with them
 use Rattle.std.proofs.Common.{◌≡◌, true, false, List, [], ◌∷◌, ◌++◌, Some, refl, ap, ◌∙◌}
 use Rattle.std.specs.Prelude.{codes}
+use Rattle.hs_base.specs.Options.{◌>>=◌}
 use Rattle.hs_tokens.specs.declared.token.SourceToken.{SourceToken}
 use Rattle.hs_syntax.specs.Forms.{Form, ◌⨾◌, when, IsOf}
 use Rattle.hs_syntax.specs.Grammar.{declarator_form, block_form}
@@ -14,7 +15,7 @@ use Rattle.hs_tokens.specs.declared.place.Place.{Place}
 use Rattle.hs_expr_parser.specs.Ahead.{is_mark_ahead, mark_at}
 use Rattle.hs_expr_parser.specs.Expected.{specifiers_in}
 use Rattle.hs_expr_parser.specs.Recursion.{Read}
-use Rattle.hs_expr_parser.specs.Reading.{Known, ◌>>=◌, going_on}
+use Rattle.hs_expr_parser.specs.Reading.{Known, going_on}
 use Rattle.hs_expr_parser.specs.Steps.{declarator_at}
 use Rattle.hs_expr_parser.specs.Laws.Apart.{when_parts}
 use Rattle.hs_expr_parser.specs.Laws.Entries.{specification_again}

@@ -3,6 +3,7 @@
 --     no_initialisers_all, more_initialisers_all     lists of them
 use Rattle.std.proofs.Common.{◌≡◌, Bool, true, false, List, [], ◌∷◌, ◌++◌, Some, None, refl, ap, sym, ◌∙◌, subst, append_assoc}
 use Rattle.std.specs.Prelude.{codes, if◌then◌else◌}
+use Rattle.hs_base.specs.Options.{◌>>=◌}
 use Rattle.hs_tokens.specs.declared.token.SourceToken.{SourceToken}
 use Rattle.hs_tokens.specs.declared.token.TokenKind.TheVariants.{Punctuator}
 use Rattle.hs_syntax.specs.Forms.{Form, ◌⨾◌, when, mark, mark_at as mark_form, IsOf}
@@ -15,7 +16,7 @@ use Rattle.hs_syntax.specs.Trees.{Expression, Initialising, Initialisers}
 use Rattle.hs_tokens.specs.declared.place.Place.{Place}
 use Rattle.hs_expr_parser.specs.Ahead.{place_of, is_punctuator, is_mark_ahead, mark_at, stops, is_below, joins}
 use Rattle.hs_expr_parser.specs.Recursion.{Read}
-use Rattle.hs_expr_parser.specs.Reading.{Known, ◌>>=◌, going_on}
+use Rattle.hs_expr_parser.specs.Reading.{Known, going_on}
 use Rattle.hs_expr_parser.specs.Steps.{assignment_at}
 use Rattle.hs_expr_parser.specs.Laws.Apart.{with_text, one_token, first_when}
 use Rattle.hs_expr_parser.specs.Laws.Commas.{after_comma}

@@ -8,6 +8,7 @@ use Rattle.std.specs.Prelude.{◌||◌, codes}
 use Rattle.std.specs.Str.{bytes_eq}
 use Rattle.std.proofs.lemmas.Bool.{cases_Bool}
 use Rattle.std.proofs.lemmas.List.{append-nil}
+use Rattle.hs_base.specs.Options.{◌>>=◌}
 use Rattle.hs_tokens.specs.declared.token.SourceToken.{SourceToken}
 use Rattle.hs_tokens.specs.declared.token.TokenKind.TheVariants.{Punctuator}
 use Rattle.hs_syntax.specs.Forms.{Form, ◌⨾◌, when, mark, IsOf}
@@ -20,7 +21,7 @@ use Rattle.hs_tokens.specs.declared.place.Place.{Place}
 use Rattle.hs_expr_parser.specs.Ahead.{is_punctuator, is_mark_ahead, stops, is_below, joins}
 use Rattle.hs_expr_parser.specs.Expected.{enders, is_ender, ended}
 use Rattle.hs_expr_parser.specs.Recursion.{Read}
-use Rattle.hs_expr_parser.specs.Reading.{Known, ◌>>=◌, going_on}
+use Rattle.hs_expr_parser.specs.Reading.{Known, going_on}
 use Rattle.hs_expr_parser.specs.Steps.{declarator_at}
 use Rattle.hs_expr_parser.specs.Laws.Apart.{with_text, when_parts, one_token}
 use Rattle.hs_expr_parser.specs.Laws.Enclosed.{headed}

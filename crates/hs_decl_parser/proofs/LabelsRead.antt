@@ -4,6 +4,7 @@
 use Rattle.std.proofs.Common.{◌≡◌, true, false, List, [], ◌∷◌, ◌++◌, Some, None, refl, ap, sym, ◌∙◌, append_assoc}
 use Rattle.std.specs.Prelude.{codes}
 use Rattle.std.proofs.lemmas.List.{append-nil}
+use Rattle.hs_base.specs.Options.{◌>>=◌}
 use Rattle.hs_tokens.specs.declared.token.SourceToken.{SourceToken}
 use Rattle.hs_tokens.specs.declared.token.TokenKind.TheVariants.{Identifier, Punctuator}
 use Rattle.hs_syntax.specs.Forms.{Form, ◌⨾◌, mark, IsOf}
@@ -15,7 +16,7 @@ use Rattle.hs_syntax.specs.Trees.{Expression, Labelling, Statement, Statements}
 use Rattle.hs_tokens.specs.declared.place.Place.{Place}
 use Rattle.hs_expr_parser.specs.Ahead.{place_of, is_keyword, is_ahead, is_mark_ahead, mark_at, begins_specifier, is_below, joins}
 use Rattle.hs_expr_parser.specs.Recursion.{Read}
-use Rattle.hs_expr_parser.specs.Reading.{Known, ◌>>=◌}
+use Rattle.hs_expr_parser.specs.Reading.{Known}
 use Rattle.hs_expr_parser.specs.Steps.{conditional_at}
 use Rattle.hs_expr_parser.specs.Laws.Apart.{with_text, token_is}
 use Rattle.hs_expr_parser.specs.Laws.Enclosed.{headed}

@@ -7,6 +7,7 @@ use Rattle.std.proofs.Common.{◌≡◌, ℕ, true, false, List, [], ◌∷◌, 
 use Rattle.std.specs.Prelude.{codes}
 use Rattle.std.specs.Str.{bytes_eq}
 use Rattle.std.proofs.lemmas.Slice.Eq.{bytes_eq-Decides}
+use Rattle.hs_base.specs.Options.{◌>>=◌}
 use Rattle.hs_tokens.specs.declared.token.SourceToken.{SourceToken}
 use Rattle.hs_tokens.specs.declared.token.TokenKind.TheVariants.{Identifier, Punctuator}
 use Rattle.hs_syntax.specs.Forms.{◌⨾◌, mark, IsOf}
@@ -17,7 +18,7 @@ use Rattle.hs_syntax.specs.Trees.{Expression, Statement, Compound}
 use Rattle.hs_tokens.specs.declared.place.Place.{Place}
 use Rattle.hs_expr_parser.specs.Ahead.{place_of, is_punctuator, is_keyword, is_ahead, is_mark_ahead, mark_at, begins_specifier, is_below, joins}
 use Rattle.hs_expr_parser.specs.Recursion.{Read}
-use Rattle.hs_expr_parser.specs.Reading.{Known, ◌>>=◌}
+use Rattle.hs_expr_parser.specs.Reading.{Known}
 use Rattle.hs_expr_parser.specs.Steps.{expression_at}
 use Rattle.hs_expr_parser.specs.Laws.Apart.{with_text, token_is, one_token}
 use Rattle.hs_expr_parser.specs.Laws.Enclosed.{headed}

@@ -5,6 +5,7 @@
 --     optional_then              the same with a phrase after it
 use Rattle.std.proofs.Common.{◌≡◌, ℕ, true, List, [], ◌∷◌, ◌++◌, Option, Some, None, refl, ap, ◌∙◌}
 use Rattle.std.specs.Prelude.{codes}
+use Rattle.hs_base.specs.Options.{◌>>=◌}
 use Rattle.hs_tokens.specs.declared.token.SourceToken.{SourceToken}
 use Rattle.hs_tokens.specs.declared.token.TokenKind.TheVariants.{Punctuator}
 use Rattle.hs_syntax.specs.Forms.{Form, ◌⨾◌, mark, IsOf}
@@ -13,7 +14,7 @@ use Rattle.hs_syntax.specs.Trees.{Expression}
 use Rattle.hs_tokens.specs.declared.place.Place.{Place}
 use Rattle.hs_expr_parser.specs.Ahead.{is_mark_ahead, stops, is_below, joins}
 use Rattle.hs_expr_parser.specs.Recursion.{Read}
-use Rattle.hs_expr_parser.specs.Reading.{Known, ◌>>=◌, going_on}
+use Rattle.hs_expr_parser.specs.Reading.{Known, going_on}
 use Rattle.hs_expr_parser.specs.Steps.{expression_at}
 use Rattle.hs_expr_parser.specs.Laws.Apart.{with_text, token_is}
 use Rattle.hs_expr_parser.specs.Laws.Enclosed.{headed}

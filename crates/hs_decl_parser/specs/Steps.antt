@@ -1,13 +1,14 @@
 -- What each function of the parser reads: the rules of `Reading.antt`, each over the reading itself.
 --     initialiser_at known tokens, declaration_at, statement_at, external_at, ..
 use Rattle.std.specs.Prelude.{ℕ, Bool, List, codes, Option, Some}
+use Rattle.hs_base.specs.Options.{◌>>=◌}
 use Rattle.hs_tokens.specs.declared.token.SourceToken.{SourceToken}
 use Rattle.hs_syntax.specs.StatementViews.{OneStatement}
 use Rattle.hs_syntax.specs.Trees as tree
 use Rattle.hs_syntax.specs.Trees.{Expression, Specified, Declared, Initialising, Declaring, Declaration, Labelling, Statement, Compound, ExternalDeclaration}
 use Rattle.hs_tokens.specs.declared.place.Place.{Place}
 use Rattle.hs_expr_parser.specs.Ahead.{mark_at}
-use Rattle.hs_expr_parser.specs.Reading.{Known, ◌>>=◌}
+use Rattle.hs_expr_parser.specs.Reading.{Known}
 use Rattle.hs_expr_parser.specs.Recursion.{Read}
 use Rattle.hs_expr_parser.specs.Steps.{expression_at}
 use Rattle.hs_decl_parser.specs.Reading.{Controls, reading, braces_rule, initialiser_rule, initialisers_rule, start_rule, item_behind, item_rule, items_rule, declared_rule, declaration_rule, declarations_rule, inner_rule, block_rule, test_rule, optional_rule, if_rule, while_rule, do_rule, controls_rule, for_rule, switch_rule, ended_rule, return_rule, plain_rule, statement_rule, label_rule, labels_rule, labelled_rule, statements_rule, function_rule, external_behind, specified_rule, external_rule}

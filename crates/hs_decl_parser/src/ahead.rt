@@ -1,7 +1,8 @@
 //! Whether a given word is the first token.
 
 ghost use Rattle.std.specs.Prelude.{◌≡◌, suc, length, IfSome, IfOk};
-ghost use Rattle.hs_expr_parser.specs.Given.{Gives, Seen};
+ghost use Rattle.hs_base.specs.Options.{Seen};
+ghost use Rattle.hs_expr_parser.specs.Given.{Gives};
 ghost use Rattle.hs_decl_parser.specs.Words.{keyword_at};
 
 use hs_expr_parser::{ParseEnd, first, is_keyword, place_of};

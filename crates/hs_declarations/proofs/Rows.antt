@@ -102,6 +102,7 @@ type_name = declaration (after (syntax.storage storage.Typedef (at 1 1)) 1) (syn
 abbrev in_block : Work (Unit {0})
 in_block = typing (λ s. Ok (tt, enter s))
 
-hidden_type_name : objects_after (file 1 type_name >> (in_block >> block_declared (at 2 1) (declaration (int_alone 2) (syntax.identifier (word (codes "T") 2 5)) None)))
+hidden_type_name : objects_after
+    (file 1 type_name >> (in_block >> block_declared (at 2 1) (declaration (int_alone 2) (syntax.identifier (word (codes "T") 2 5)) None)))
     ≡ Err (Untyped (at 2 5))
 hidden_type_name = refl

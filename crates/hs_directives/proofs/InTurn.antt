@@ -10,7 +10,7 @@ use Rattle.std.specs.Prelude.{Vec}
 use Rattle.std.specs.declared.alloc.Global.{Global}
 use Rattle.std.proofs.lemmas.List.{map-append}
 use Rattle.hs_base.specs.Files.{Listing, Counts, Read, file_of}
-use Rattle.hs_base.specs.Reads.{Leads, OnLast, Fits, FitsAnswer}
+use Rattle.hs_base.specs.Reads.{OnLast, Fits, FitsAnswer, Leads_append}
 use Rattle.hs_base.specs.declared.errors.FileEnd.{FileEnd}
 use Rattle.hs_base.specs.declared.limit.LimitKind.TheVariants.{Files, FileBytes}
 use Rattle.hs_base.specs.declared.pos.Pos.{Pos}
@@ -40,12 +40,6 @@ use Rattle.hs_directives.proofs.Listed.{AreListed-front, AreListed-push, AreList
 use Rattle.hs_directives.proofs.Reading.{scan-file, unknown_unlisted, found-new, found-listed}
 use Rattle.hs_directives.proofs.Units.{unit_behind, units_after, units_behind, units_next}
 use Rattle.hs_directives.proofs.Walking.{Reached, reached_inclusion, reached_piece, walk_of, walk_entry}
-
--- one read after another, and then others
-Leads-append : {F : Type 0} (leads : F → Read → F → Type 0) (first mid last : F) (reads later : List Read)
-    → Leads leads first reads mid → Leads leads mid later last → Leads leads first (reads ++ later) last
-Leads-append leads first mid last [] later led on = subst (λ from. Leads leads from later last) led on
-Leads-append leads first mid last (read ∷ reads) later led on = (led.0, led.1, Leads-append leads led.0 mid last reads later led.2 on)
 
 -- the last one stays the last if others stand in front
 OnLast-more : (read : Read) (reads : List Read) (Holds : Read → Type 0) → OnLast reads Holds → OnLast (read ∷ reads) Holds
@@ -254,7 +248,7 @@ module _ {F B C : Type 0} {leads : F → Read → F → Type 0} {first mid : F} 
   pub read_on : (new : List File) → WasRead leads mid last between new inner → WasRead leads first last old new outcome
   read_on new it = record {
     reads = step.before.reads ++ it.reads;
-    leads_on = Leads-append leads first mid last step.before.reads it.reads step.before.leads_on it.leads_on;
+    leads_on = Leads_append leads first mid last step.before.reads it.reads step.before.leads_on it.leads_on;
     in_turn = AreReads-append outcome (listing_of old) (listing_of between) (listing_of new) step.before.reads it.reads step.before.in_turn
         (AreReads-lift outcome inner next (listing_of between) (listing_of new) it.reads begins it.in_turn);
   }
@@ -263,7 +257,7 @@ module _ {F B C : Type 0} {leads : F → Read → F → Type 0} {first mid : F} 
   pub read_refused_on : (error : ReadError) → WasRefused leads mid last between inner error → WasRefused leads first last old outcome error
   read_refused_on error it = record {
     reads = step.before.reads ++ it.reads;
-    leads_on = Leads-append leads first mid last step.before.reads it.reads step.before.leads_on it.leads_on;
+    leads_on = Leads_append leads first mid last step.before.reads it.reads step.before.leads_on it.leads_on;
     begun = AreBegun-append outcome (listing_of old) (listing_of between) step.before.reads it.reads step.before.in_turn
         (AreBegun-lift outcome inner next (listing_of between) it.reads begins it.begun);
     ends = EndsAs-append step.before.reads it.reads error it.ends;

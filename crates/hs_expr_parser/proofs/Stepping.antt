@@ -2,6 +2,7 @@
 use Rattle.std.proofs.Common.{◌≡◌, ℕ, suc, Bool, true, false, List, [], ◌∷◌, ◌++◌, Option, Some, None, refl, ap, sym, ◌∙◌, inl, inr}
 use Rattle.std.specs.Prelude.{nat_le, ◌&&◌, ◌||◌, not, codes, if◌then◌else◌}
 use Rattle.std.proofs.lemmas.Bool.{cases_Bool}
+use Rattle.hs_base.specs.Options.{◌>>=◌}
 use Rattle.hs_tokens.specs.Marks.{is_same_kind}
 use Rattle.hs_tokens.specs.declared.token.SourceToken.{SourceToken}
 use Rattle.hs_tokens.specs.declared.token.TokenKind.TheVariants.{Identifier, Punctuator}
@@ -23,7 +24,7 @@ use Rattle.hs_syntax.specs.declared.word.Word.{Word}
 use Rattle.hs_expr_parser.specs.Ahead.{place_of, word_of, is_punctuator, is_keyword, binary_of, assign_of, prefix_of, postfix_of, access_of, storage_of, dropped_of, basic_of, is_ahead, is_mark_ahead, mark_at, name_at, begins_specifier, begins_type}
 use Rattle.hs_expr_parser.specs.Goals as goal
 use Rattle.hs_expr_parser.specs.Recursion.{Read}
-use Rattle.hs_expr_parser.specs.Reading.{Known, Shorter, ◌>>=◌, going_on, Operand, Assigned, joined, member_rule, reading, rule, suffix_rule, operand_by, operand_rule, another_rule, branches_rule, value_by, primary_by, unary_by, tag_at, tagged, specifier_by, specifier_rule, pointers_at, begins_list, filled, nothing_there, inside_rule, length_rule, list_rule, void_alone, declarator_rule, parameter_rule, assignment_rule, member_rule_of, constant_rule}
+use Rattle.hs_expr_parser.specs.Reading.{Known, Shorter, going_on, Operand, Assigned, joined, member_rule, reading, rule, suffix_rule, operand_by, operand_rule, another_rule, branches_rule, value_by, primary_by, unary_by, tag_at, tagged, specifier_by, specifier_rule, pointers_at, begins_list, filled, nothing_there, inside_rule, length_rule, list_rule, void_alone, declarator_rule, parameter_rule, assignment_rule, member_rule_of, constant_rule}
 use Rattle.hs_expr_parser.specs.Steps.{expression_at, assignment_at, conditional_at, binary_at, cast_at, unary_at, postfix_at, primary_at, parens_at, suffix_at, suffixes_at, operand_of, type_in_parens_at, sizeof_at, infix_at, climb_at, branches_at, value_at, another_at, commas_at, arguments_at, some_arguments_at, type_at, specifiers_at, some_specifiers_at, specifier_at, struct_at, enum_at, members_at, member_at, constants_at, constant_at, declarator_at, base_at, inside_at, directs_at, length_at, list_at, declarators_at, parameters_at, parameter_at}
 use Rattle.hs_expr_parser.specs.Laws.Wholly.{round}
 
@@ -141,7 +142,8 @@ infix_nothing known least most = refl
 infix_found : (known : Known) (least most : ℕ) (found : Option BinaryOperator) (source : SourceToken) (rest : List SourceToken)
     → operand_by (reading known) least most found (place_of source) rest
     ≡ (found >>= (λ operator. if nat_le least (precedence_of operator) && nat_le (precedence_of operator) most
-    then (binary_at known (suc (precedence_of operator)) rest >>= (λ e. Some (record { operator = operator; at = place_of source; right = e.0 }, e.1))) else None))
+    then (binary_at known (suc (precedence_of operator)) rest >>= (λ e. Some (record { operator = operator; at = place_of source; right = e.0 }, e.1)))
+    else None))
 unfolding binary_at
 infix_found known least most None source rest = refl
 infix_found known least most (Some operator) source rest =
@@ -152,7 +154,8 @@ infix_found known least most (Some operator) source rest =
 pub infix_step : (known : Known) (least most : ℕ) (source : SourceToken) (rest : List SourceToken)
     → infix_at known least most (source ∷ rest)
     ≡ (binary_of source >>= (λ operator. if nat_le least (precedence_of operator) && nat_le (precedence_of operator) most
-    then (binary_at known (suc (precedence_of operator)) rest >>= (λ e. Some (record { operator = operator; at = place_of source; right = e.0 }, e.1))) else None))
+    then (binary_at known (suc (precedence_of operator)) rest >>= (λ e. Some (record { operator = operator; at = place_of source; right = e.0 }, e.1)))
+    else None))
 unfolding infix_at
 infix_step known least most source rest = infix_found known least most (binary_of source) source rest
 

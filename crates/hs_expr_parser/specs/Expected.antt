@@ -4,6 +4,7 @@
 --     ReadsType, ReadsSpecifier, ..   the phrases
 use Rattle.std.proofs.Common.{◌≡◌, ℕ, Bool, true, false, List, [], ◌∷◌, ◌++◌, Some}
 use Rattle.std.specs.Prelude.{◌&&◌, ◌||◌, codes}
+use Rattle.hs_base.specs.Options.{◌>>=◌}
 use Rattle.hs_tokens.specs.Marks.{is_same_kind}
 use Rattle.hs_tokens.specs.declared.token.SourceToken.{SourceToken}
 use Rattle.hs_tokens.specs.declared.token.TokenKind.TheVariants.{Punctuator}
@@ -17,7 +18,7 @@ use Rattle.hs_syntax.specs.Trees as tree
 use Rattle.hs_syntax.specs.Trees.{NamedType, Specified, Specification, Members, Constants, Declared, Declarators, Directly, Parameters}
 use Rattle.hs_expr_parser.specs.Ahead.{is_ahead, is_mark_ahead, begins_specifier}
 use Rattle.hs_expr_parser.specs.Recursion.{Read}
-use Rattle.hs_expr_parser.specs.Reading.{Known, Shorter, ◌>>=◌, type_rule, specifier_rule, specifiers_rule, members_rule, constants_rule, base_rule, directs_rule, declarator_rule, declarators_rule, parameters_rule}
+use Rattle.hs_expr_parser.specs.Reading.{Known, Shorter, type_rule, specifier_rule, specifiers_rule, members_rule, constants_rule, base_rule, directs_rule, declarator_rule, declarators_rule, parameters_rule}
 
 -- what may follow a declarator
 abbrev pub enders : List (List ℕ)

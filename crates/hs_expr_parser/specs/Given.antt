@@ -13,7 +13,3 @@ Fails NoMemory read = Unit {0}
 abbrev pub Gives : {X Y : Type 0} → (X → Y) → Result X ParseEnd → Option Y → Type 0
 Gives view (Ok x) read = read ≡ Some (view x)
 Gives view (Err e) read = Fails e read
-
-abbrev pub Seen : {X Y : Type 0} → (X → Y) → Option X → Option Y → Type 0
-Seen view None read = read ≡ None
-Seen view (Some x) read = read ≡ Some (view x)

@@ -3,6 +3,7 @@
 --     rule known goal         the rule of a goal, if these typedef names are known
 --     reading known goal      what is read, and the tokens after it
 use Rattle.std.specs.Prelude.{ℕ, suc, nat_le, Bool, true, false, not, ◌&&◌, ◌||◌, List, [], ◌∷◌, ◌++◌, codes, Option, Some, None, is_some, if◌then◌else◌}
+use Rattle.hs_base.specs.Options.{◌>>=◌}
 use Rattle.hs_constants.specs.Characters.{character_value}
 use Rattle.hs_constants.specs.Numbers.{number_value}
 use Rattle.hs_constants.specs.Strings.{string_value}
@@ -40,12 +41,6 @@ Known = List (List ℕ)
 -- readings of shorter lists
 abbrev pub Shorter : Type 0
 Shorter = Table Goal Tree
-
-infixl 10 ◌>>=◌
--- nothing, or what follows from what was read
-abbrev pub ◌>>=◌ : {A B : Type 0} → Option A → (A → Option B) → Option B
-None >>= f = None
-(Some x) >>= f = f x
 
 -- more, if something was read; else it stops
 abbrev pub going_on : {A B : Type 0} → Read A → (A → List SourceToken → B) → B → B

@@ -2,7 +2,8 @@
 
 ghost use Rattle.std.specs.Prelude.{◌≡◌, ◌≤◌, ◌∷◌, false, suc, length, [], IfNone, IfSome, IfOk};
 ghost use Rattle.hs_expr_parser.specs.Ahead.{place_of, word_of, is_punctuator, is_keyword, is_ahead, is_mark_ahead, mark_at, name_at, is_literal, literals_at, begins_specifier, begins_type};
-ghost use Rattle.hs_expr_parser.specs.Given.{Gives, Seen};
+ghost use Rattle.hs_base.specs.Options.{Seen};
+ghost use Rattle.hs_expr_parser.specs.Given.{Gives};
 ghost use Rattle.hs_expr_parser.specs.Reading.{begins_list, void_alone, tag_at, pointer_of, pointers_at};
 
 use crate::operators::dropped_of;

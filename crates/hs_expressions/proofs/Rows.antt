@@ -46,7 +46,8 @@ with_object text place id s = record s { names = declared text (entity.Variable 
 
 abbrev known : Typer
 known =
-    with_object (codes "i") 0 (integer_id kind.Int) (with_object (codes "c") 1 (integer_id kind.Char) (with_object (codes "p") 2 char_pointer_id (beginning [])))
+    with_object (codes "i") 0 (integer_id kind.Int)
+    (with_object (codes "c") 1 (integer_id kind.Char) (with_object (codes "p") 2 char_pointer_id (beginning [])))
 
 -- `1`
 one-is_int : typed (number (codes "1") 1) known ≡ Ok (operand.value (tree.number (head_at (at 1) (integer_id kind.Int)) 1), known)

@@ -21,7 +21,6 @@ pub mod Always
 pub mod Applied
 pub mod Bodies
 pub mod Braces
-pub mod Entries
 pub mod Extending
 pub mod Grown
 pub mod Keeping

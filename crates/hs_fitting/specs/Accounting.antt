@@ -3,6 +3,8 @@
 --     linked_accounted, linked_accounted_typed      the type that its name is given, and its own
 use Rattle.std.proofs.Common.{◌≡◌, ◌⊎◌, inl, inr, ℕ, Bool, true, false, not, List, slice_get, Some, refl, sym, ap, subst, ◌∙◌, if◌then◌else◌}
 use Rattle.std.specs.Prelude.{◌==◌}
+use Rattle.hs_base.specs.Tests.{both_tests}
+use Rattle.hs_base.specs.Options.{one_there}
 use Rattle.hs_fitting.specs.Accounts.{accounted_noted, entities_stay, entity_noted}
 use Rattle.hs_fitting.specs.Chosen.{IsNew, IsOlder, IsChosen}
 use Rattle.hs_fitting.specs.Claiming.{IsClaiming, bound_function}
@@ -11,7 +13,6 @@ use Rattle.hs_fitting.specs.Entities.{IsAmong, among_has}
 use Rattle.hs_fitting.specs.Found.{same_texts, place_found, place_there}
 use Rattle.hs_fitting.specs.Registering.{linked_in}
 use Rattle.hs_fitting.specs.Strict.{SameBy, AreStrict, same_self, same_then, strict_self, strict_then}
-use Rattle.hs_fitting.specs.Tests.{both_tests, one_there}
 use Rattle.hs_linkage.specs.Definitions.{same_name, first_place, is_definition_of}
 use Rattle.hs_linkage.specs.Externals.{type_of_entity, with_external}
 use Rattle.hs_linkage.specs.Linkage.{with_type_id, is_routine_entity}

@@ -5,7 +5,7 @@
 use Rattle.std.proofs.Common.{◌≡◌, inl, inr, ℕ, Bool, true, false, List, ◌∷◌, slice_get, Option, Some, None, refl, sym, ap, subst, ◌∙◌, if◌then◌else◌, arith}
 use Rattle.std.proofs.lemmas.Bool.Decides.{nat_tests}
 use Rattle.std.specs.List.{AllByRecursion}
-use Rattle.hs_expressions.specs.Laws.Reached.{all_so}
+use Rattle.hs_base.specs.Entries.{all_so}
 use Rattle.hs_expressions.specs.Laws.Traced.{TracesTo}
 use Rattle.hs_fitting.specs.Claims.{Claims, IsNotedIn, IsAccountedAs, IsAccounted}
 use Rattle.hs_fitting.specs.Entities.{IsAmong, all_among, newest_has}

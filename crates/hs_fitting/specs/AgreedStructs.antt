@@ -5,11 +5,12 @@
 use Rattle.std.proofs.Common.{◌≡◌, ◌≤◌, ◌⊎◌, inl, inr, ℕ, zero, suc, Bool, true, false, not, ◌&&◌, ◌||◌, slice_get, Option, Some, None, refl, sym, ap, subst, ◌∙◌, arith}
 use Rattle.std.specs.Prelude.{◌==◌}
 use Rattle.std.proofs.lemmas.Bool.Decides.{nat_tests}
+use Rattle.hs_base.specs.Tests.{both_tests, either_test, same_number}
 use Rattle.hs_expressions.specs.Laws.Braces.{same_braces}
+use Rattle.hs_expressions.specs.Laws.Reached.{is_same}
 use Rattle.hs_fitting.specs.Owned.{IsOwnRow}
 use Rattle.hs_fitting.specs.Shapes.{AreOneOrObjects, within_objects}
 use Rattle.hs_fitting.specs.Strict.{AreOneIn}
-use Rattle.hs_fitting.specs.Tests.{both_tests}
 use Rattle.hs_operands.specs.Conversions.{same_type}
 use Rattle.hs_operands.specs.Laws.Numbers.{same-is}
 use Rattle.hs_operands.specs.Types.{inside_both, both_are}
@@ -23,26 +24,12 @@ use Rattle.hs_types.specs.declared.row.Row.{Row}
 use Rattle.hs_types.specs.declared.row.Row.TheVariants as row
 use Rattle.hs_types.specs.declared.row.TypeId.{TypeId}
 
--- one of two tests
-one_of : (a b : Bool) → (a || b) ≡ true → (a ≡ true) ⊎ (b ≡ true)
-one_of true b is = inl refl
-one_of false b is = inr is
-
--- numbers that compare as equal
-same_number : (m n : ℕ) → (m == n) ≡ true → m ≡ n
-same_number m n is = grind (arith, nat_tests, is)
-
--- and a number and itself
-number_self : (m n : ℕ) (b : Bool) → (m == n) ≡ b → m ≡ n → b ≡ true
-number_self m n true is same = refl
-number_self m n false is same = absurd (grind (arith, nat_tests, is, same))
-
 -- two structs
 struct_leaves : (test : TypeId → TypeId → Bool) (old : TypeTable) (o : Origins) (a b : TypeId) (m n : ℕ) (x y : Option Row)
     → row_of old a ≡ x → row_of old b ≡ y → x ≡ Some (row.Struct m) → y ≡ Some (row.Struct n)
     → (same_type a b || leaves_agree old o x y || both_are test (inside_both x y)) ≡ true → structs_agree old o m n ≡ true
 struct_leaves test old o a b m n x y known known' at at' is =
-    either (one_of (same_type a b || structs_agree old o m n) false
+    either (either_test (same_type a b || structs_agree old o m n) false
     (subst (λ y. (same_type a b || leaves_agree old o (Some (row.Struct m)) y || both_are test (inside_both (Some (row.Struct m)) y)) ≡ true) at'
     (subst (λ x. (same_type a b || leaves_agree old o x y || both_are test (inside_both x y)) ≡ true) at is)))
   where
@@ -50,7 +37,7 @@ struct_leaves test old o a b m n x y known known' at at' is =
     numbers same =
         let one : Some (row.Struct m) ≡ Some (row.Struct n) = sym at ∙ sym known ∙ ap (row_of old) same ∙ known' ∙ at' in
         let equal : m ≡ n = cc in
-        first (m == n) (number_self m n (m == n) refl equal)
+        first (m == n) (is_same m n (m == n) refl equal)
       where
         first : (b : Bool) → b ≡ true → (b || origins_agree (has_body old m && has_body old n) (slice_get o.structs m) (slice_get o.structs n)) ≡ true
         first true is = refl
@@ -61,7 +48,7 @@ struct_leaves test old o a b m n x y known known' at at' is =
     inner (inr is) = is
 
     either : ((same_type a b || structs_agree old o m n) ≡ true) ⊎ (false ≡ true) → structs_agree old o m n ≡ true
-    either (inl is) = inner (one_of (same_type a b) (structs_agree old o m n) is)
+    either (inl is) = inner (either_test (same_type a b) (structs_agree old o m n) is)
     either (inr is) = absurd cc
 
 -- of types of objects
@@ -94,7 +81,7 @@ OriginsAre o complete m n a b =
 origins_are : (o : Origins) (complete : Bool) (m n : ℕ) (a b : Origin) → slice_get o.structs m ≡ Some a → slice_get o.structs n ≡ Some b
     → origins_agree complete (Some a) (Some b) ≡ true → OriginsAre o complete m n a b
 origins_are o complete m n a b at at' is =
-    either (one_of (are_one_brace a.brace b.brace) (are_one_tag a.tag b.tag && not (a.unit == b.unit) && not complete) is)
+    either (either_test (are_one_brace a.brace b.brace) (are_one_tag a.tag b.tag && not (a.unit == b.unit) && not complete) is)
   where
     not_true : (b : Bool) → not b ≡ true → b ≡ false
     not_true true is = absurd cc
@@ -112,7 +99,7 @@ origins_are o complete m n a b at at' is =
 pub structs_are : (old : TypeTable) (o : Origins) (m n : ℕ) → structs_agree old o m n ≡ true
     → AreOneIn o m n ⊎ ((a : Origin) × (b : Origin) × (slice_get o.structs m ≡ Some a) × (slice_get o.structs n ≡ Some b)
     × OriginsAre o (has_body old m && has_body old n) m n a b)
-structs_are old o m n is = either (one_of (m == n) (origins_agree (has_body old m && has_body old n) (slice_get o.structs m) (slice_get o.structs n)) is)
+structs_are old o m n is = either (either_test (m == n) (origins_agree (has_body old m && has_body old n) (slice_get o.structs m) (slice_get o.structs n)) is)
   where
     by_origins : (x y : Option Origin) → slice_get o.structs m ≡ x → slice_get o.structs n ≡ y
         → origins_agree (has_body old m && has_body old n) x y ≡ true

@@ -3,11 +3,11 @@
 --     agree_signatures              function types that agree have results and parameters that are `alike`
 use Rattle.std.proofs.Common.{◌≡◌, ◌⊎◌, inl, inr, ℕ, zero, suc, Bool, true, ◌&&◌, List, [], ◌∷◌, slice_get, Option, Some, None, refl, subst}
 use Rattle.std.specs.List.{AllByRecursion}
+use Rattle.hs_base.specs.Tests.{both_tests}
 use Rattle.hs_expressions.specs.Binding.{IsList, IsSignature, AllBy, IsLikeBy}
 use Rattle.hs_fitting.specs.Listed.{list_stays}
 use Rattle.hs_fitting.specs.Shapes.{AreOneOrObjects, within_objects, no_signature, same_signature}
 use Rattle.hs_fitting.specs.Strict.{SameBy, all_turned, same_self}
-use Rattle.hs_fitting.specs.Tests.{both_tests}
 use Rattle.hs_typer.specs.Origins.{objects_agree, lists_agree_by, lists_agree_within, lists_agree, agree_by, agree}
 use Rattle.hs_typer.specs.declared.origins.Origins.{Origins}
 use Rattle.hs_types.specs.TypeTables.{TypeTable, row_of, Grows}

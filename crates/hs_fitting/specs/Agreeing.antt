@@ -4,11 +4,11 @@
 use Rattle.std.proofs.Common.{◌≡◌, ◌<◌, ◌⊎◌, inl, inr, ℕ, Bool, true, false, ◌&&◌, List, [], ◌∷◌, length, slice_get, Some, subst}
 use Rattle.std.specs.List.{AllByRecursion}
 use Rattle.std.proofs.lemmas.Option.{slice_get_within}
+use Rattle.hs_base.specs.Tests.{true_false}
 use Rattle.hs_expressions.specs.Laws.Traced.{IsTracedAt}
 use Rattle.hs_fitting.specs.Owned.{OwnTop, IsOwn}
 use Rattle.hs_fitting.specs.Shapes.{agree_same_category, same_list}
 use Rattle.hs_fitting.specs.Strict.{SameBy, AreOneIn, AreStrict, AreApart, AreClosed, strict_self, strict_turned, closed_self, closed_turned}
-use Rattle.hs_fitting.specs.Tests.{true_false}
 use Rattle.hs_typer.specs.Origins.{has_body, structs_agree, objects_agree, agree}
 use Rattle.hs_typer.specs.declared.origins.Origin.{Origin}
 use Rattle.hs_typer.specs.declared.typer.Typer.{Typer}

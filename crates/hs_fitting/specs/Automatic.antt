@@ -3,12 +3,13 @@
 --     unless_grown_walks              a test of what is known, of which the types go on to those of the whole program
 --     automatic_walks                 an automatic variable: from one place of the text to the last one, where its type is known
 use Rattle.std.proofs.Common.{◌≡◌, ℕ, Bool, true, false, not, ◌||◌, List, [], ◌∷◌, ◌++◌, length, slice_get, Option, Some, None, is_some, Result, Ok, Err, refl, sym, ap, subst, ◌∙◌, if◌then◌else◌}
+use Rattle.hs_base.specs.Entries.{all_so}
 use Rattle.hs_expressions.specs.Laws.Traced.{traced_same}
 use Rattle.hs_declarations.specs.Declarations.{is_object, given, new_local, local_typed, local_started, automatic}
 use Rattle.hs_expressions.specs.Binding.Keeping.{IsNoted, KnowsBound, Giving, IsBound}
 use Rattle.hs_expressions.specs.Laws.{IsConstant, IsScoped, Knows}
 use Rattle.hs_expressions.specs.Laws.Always.{Anything, Reaching}
-use Rattle.hs_expressions.specs.Laws.Reached.{Reaches, all_so, reaches_then, scoped_after}
+use Rattle.hs_expressions.specs.Laws.Reached.{Reaches, reaches_then, scoped_after}
 use Rattle.hs_fitting.specs.Alike.{IsAlike, AlikeGiven, starting_alike}
 use Rattle.hs_fitting.specs.Blocks.{types_with, local_moves, local_of, typed_last}
 use Rattle.hs_fitting.specs.Bodies.{stands_locals, proceeds_still, first_same, rest_same}

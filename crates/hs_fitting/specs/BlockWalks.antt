@@ -7,12 +7,13 @@
 --     block_declared_walks            a declaration of a block
 use Rattle.std.proofs.Common.{◌≡◌, ℕ, Bool, true, false, not, ◌||◌, List, [], ◌∷◌, Option, Some, None, refl, sym, ap, subst, ◌∙◌, if◌then◌else◌}
 use Rattle.std.specs.List.{AllByRecursion}
+use Rattle.hs_base.specs.Tests.{true_false, not_false}
+use Rattle.hs_base.specs.Entries.{all_appended}
 use Rattle.hs_declarations.specs.Declarations.{is_object, can_start, object_place, is_static, is_typedef_word, with_inline_words, function_declared, nothing_named, static_started, static_local, not_started, extern_object, block_object, block_function, block_entity, block_item_as, block_item, with_given, block_items, block_items_as, block_declared_at, block_declared}
 use Rattle.hs_declarations.specs.Fronts.{front, item_type, tag_alone, tag_alone_as, lone_tag, declares_any, storage_place, place_of_start}
 use Rattle.hs_declarations.specs.declared.fronts.Front.{Front}
 use Rattle.hs_expressions.specs.Expressions.{first_place}
 use Rattle.hs_expressions.specs.Laws.{IsConstant, IsScoped}
-use Rattle.hs_expressions.specs.Laws.Reached.{all_appended}
 use Rattle.hs_fitting.specs.Answers.{false_true}
 use Rattle.hs_fitting.specs.Automatic.{IsRightItemIf, unless_grown_walks, automatic_walks}
 use Rattle.hs_fitting.specs.Claims.{Claims, RefersTo, IsVariableIn, Stands}
@@ -28,7 +29,6 @@ use Rattle.hs_fitting.specs.NotingInitialising.{inline_words_notes}
 use Rattle.hs_fitting.specs.OwnWalks.{OwnId, own_over, own_through, item_own_walks, front_own_walks}
 use Rattle.hs_fitting.specs.Owning.{IsOwnName}
 use Rattle.hs_fitting.specs.Phrases.{IsRightItem}
-use Rattle.hs_fitting.specs.Tests.{true_false, not_false}
 use Rattle.hs_fitting.specs.Walk.{Anywhere, Nothing, Walking, Walks, passes_walks, stops_walks, unless_walks, then_walks, so_walks}
 use Rattle.hs_fitting.specs.Whole.{MayStart}
 use Rattle.hs_initialisers.specs.Initialisers.{initialised}

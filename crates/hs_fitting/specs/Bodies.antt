@@ -8,6 +8,8 @@ use Rattle.std.proofs.Common.{◌≡◌, ℕ, suc, Bool, true, false, List, [], 
 use Rattle.std.specs.Prelude.{◌==◌, take}
 use Rattle.std.proofs.lemmas.List.{append-nil}
 use Rattle.std.specs.List.{AllByRecursion}
+use Rattle.hs_base.specs.Options.{one_there, some_none}
+use Rattle.hs_base.specs.Entries.{all_so}
 use Rattle.hs_typer.specs.declared.typer.Entity.TheVariants as meaning
 use Rattle.hs_operands.specs.declared.operand.Bound.TheVariants as bound
 use Rattle.hs_fitting.specs.Owning.{IsOwnName}
@@ -18,7 +20,7 @@ use Rattle.hs_declarations.specs.Declarations.{block_declared}
 use Rattle.hs_expressions.specs.Binding.{IsSignature}
 use Rattle.hs_expressions.specs.Expressions.{leave}
 use Rattle.hs_expressions.specs.Laws.Always.{Anything}
-use Rattle.hs_expressions.specs.Laws.Reached.{IsAllowedAt, all_so, left_entered}
+use Rattle.hs_expressions.specs.Laws.Reached.{IsAllowedAt, left_entered}
 use Rattle.hs_fitting.specs.Claims.{Claims, RefersTo, IsVariableIn, IsLink, IsExternal, IsRoutineDeclared, IsMet, IsMetAs, IsRegisteredAs, category_at, Endures, IsObjectRight, Stands, Proceeds}
 use Rattle.hs_fitting.specs.Done.{IsExactly, AreDone, claimed_before, done_later, done_with}
 use Rattle.hs_fitting.specs.Inner.{Inner, inner_moves, with_name}
@@ -27,10 +29,9 @@ use Rattle.hs_fitting.specs.Lasting.{continues_of, endures_scopes}
 use Rattle.hs_fitting.specs.Leaving.{leave_traced, typedefs_later, refers_later, local_later}
 use Rattle.hs_fitting.specs.Moves.{Moves}
 use Rattle.hs_fitting.specs.Moving.{Moving}
-use Rattle.hs_fitting.specs.Passes.{count_types, marked_types}
+use Rattle.hs_fitting.specs.Passes.{marked_types}
 use Rattle.hs_fitting.specs.Phrases.{IsRightPhrase, IsRightItem, body_walks}
 use Rattle.hs_fitting.specs.Stating.{body_moved}
-use Rattle.hs_fitting.specs.Tests.{one_there, some_none}
 use Rattle.hs_fitting.specs.Walk.{Anywhere, Nothing, Walked, Walking, Walks, proceeds_then}
 use Rattle.hs_functions.specs.Functions.{finished}
 use Rattle.hs_linkage.specs.Externals.{newest_external}
@@ -43,7 +44,7 @@ use Rattle.hs_statements.specs.Statements.{body_of, without_scope}
 use Rattle.hs_syntax.specs.Trees.{Declaration, Compound}
 use Rattle.hs_syntax.specs.declared.word.Word.{Word}
 use Rattle.hs_tokens.specs.declared.place.Place.{Place}
-use Rattle.hs_tree.specs.Fitting.{types_of}
+use Rattle.hs_tree.specs.Fitting.{types_of, count_types}
 use Rattle.hs_tree.specs.Inside.{EachBlock}
 use Rattle.hs_tree.specs.Trees.{TypedBlock, TypedFunction, TypedProgram}
 use Rattle.hs_tree.specs.declared.head.VariableDecl.{VariableDecl}

@@ -4,15 +4,15 @@
 --     kept_walked                         a fact that stays
 use Rattle.std.proofs.Common.{ℕ, Bool, true, false, List, slice_get, Result, Ok, Err, refl, if◌then◌else◌}
 use Rattle.std.specs.List.{AllByRecursion}
+use Rattle.hs_base.specs.Options.{some_none}
+use Rattle.hs_base.specs.Entries.{all_so}
 use Rattle.hs_fitting.specs.Accounts.{all_accounted}
-use Rattle.hs_expressions.specs.Laws.Reached.{all_so}
 use Rattle.hs_fitting.specs.Claims.{Claims, ObjectsStay, RefersTo, IsVariableIn, IsLink, IsExternal, IsRoutineDeclared, IsRegisteredAs, IsMetAs, Endures, IsObjectRight, Stands, Proceeds}
 use Rattle.hs_fitting.specs.Owning.{IsOwnName}
 use Rattle.hs_fitting.specs.Links.{objects_self, refers_later}
 use Rattle.hs_fitting.specs.Moves.{Moves}
 use Rattle.hs_fitting.specs.Moving.{Moving}
 use Rattle.hs_fitting.specs.Setting.{typed_stay, typed_right}
-use Rattle.hs_fitting.specs.Tests.{some_none}
 use Rattle.hs_fitting.specs.Walk.{Nothing, Walked, Walking}
 use Rattle.hs_linkage.specs.Linkage.{object_typed}
 use Rattle.hs_linkage.specs.Objects.{object_as}

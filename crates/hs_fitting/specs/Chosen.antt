@@ -6,7 +6,9 @@
 --     newest_shape                                what fits all declarations of its name has the shape of the newest one
 use Rattle.std.proofs.Common.{◌≡◌, ◌⊎◌, inl, inr, ℕ, zero, suc, Bool, true, false, not, ◌&&◌, List, [], ◌∷◌, ◌++◌, length, slice_get, Option, Some, None, refl, sym, ap, subst, ◌∙◌, if◌then◌else◌}
 use Rattle.std.specs.List.{AllByRecursion}
-use Rattle.hs_expressions.specs.Laws.Reached.{all_appended}
+use Rattle.hs_base.specs.Tests.{true_false, not_false}
+use Rattle.hs_base.specs.Options.{some_same}
+use Rattle.hs_base.specs.Entries.{all_appended}
 use Rattle.hs_fitting.specs.Outcomes.{Gives, gives_unless}
 use Rattle.hs_operands.specs.Types.{is_open}
 use Rattle.hs_operands.specs.declared.operand.Bound.TheVariants as binding
@@ -20,7 +22,6 @@ use Rattle.hs_fitting.specs.Making.{function_category, IsFunction, agrees_typed,
 use Rattle.hs_fitting.specs.Owned.{IsOwn, own_later}
 use Rattle.hs_fitting.specs.Strict.{SameBy, AreStrict, same_self, same_turned, strict_self}
 use Rattle.hs_fitting.specs.Shapes.{SameShape, agree_shape, composite_shape, shape_turned}
-use Rattle.hs_fitting.specs.Tests.{true_false, not_false, some_same}
 use Rattle.hs_linkage.specs.Definitions.{same_name}
 use Rattle.hs_linkage.specs.Externals.{type_of_entity, agrees_in, newest_external}
 use Rattle.hs_linkage.specs.Linkage.{bound_to, with_type_id, composite_of, agrees, agrees_with_all, clash_of, linked_as, external_as, first_link, next_link, link_as, zero_object, new_function, new_object, is_function}

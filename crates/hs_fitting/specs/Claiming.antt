@@ -3,6 +3,8 @@
 --     chosen_claims                               there are such claims, where it fits all declarations that are bound to a routine
 use Rattle.std.proofs.Common.{◌≡◌, ◌⊎◌, inl, inr, ℕ, Bool, true, false, not, ◌&&◌, List, ◌∷◌, slice_get, Option, Some, None, IsTrue, is_some, refl, sym, ap, subst, ◌∙◌, if◌then◌else◌}
 use Rattle.std.specs.Prelude.{◌==◌}
+use Rattle.hs_base.specs.Tests.{both_tests, not_both}
+use Rattle.hs_base.specs.Options.{one_there, some_there, is_there}
 use Rattle.hs_fitting.specs.Chosen.{AreReferring, IsNew, IsChosen, newest_shape}
 use Rattle.hs_fitting.specs.Claims.{Claims, IsClaimed, RefersAs, RefersTo, IsRoutineOf, IsRoutineDeclared, IsInternalLink, IsRegistered, IsRegisteredAs, IsMet, IsMetAs, IsFirstRoutine, Stands}
 use Rattle.hs_fitting.specs.Entities.{newest_has}
@@ -10,7 +12,6 @@ use Rattle.hs_fitting.specs.Found.{same_texts, place_found, place_there, IsThere
 use Rattle.hs_fitting.specs.Links.{ClaimsStay, HasShape, claimed_typed, claim_at, claim_here, claim_stays, claim_back}
 use Rattle.hs_fitting.specs.Owned.{IsOwn}
 use Rattle.hs_fitting.specs.Shapes.{shape_self}
-use Rattle.hs_fitting.specs.Tests.{both_tests, not_both, one_there, some_there, is_there}
 use Rattle.hs_linkage.specs.Definitions.{same_name, first_place, is_definition_of}
 use Rattle.hs_linkage.specs.Externals.{newest_external}
 use Rattle.hs_linkage.specs.Linkage.{bound_as, bound_to, with_type_id, agrees_with_all, is_routine_entity}

@@ -5,11 +5,11 @@
 --     constant_right                  the constant that a value is
 use Rattle.std.proofs.Common.{◌≡◌, ℕ, ℤ, Bool, true, false, not, ◌&&◌, Option, Some, None, refl, sym, subst, ap, ◌∙◌, if◌then◌else◌}
 use Rattle.std.specs.Prelude.{is_some, slice_get, IsTrue, pos, ◌+ℤ◌}
+use Rattle.hs_base.specs.Options.{some_same}
 use Rattle.hs_expressions.specs.Binding.Keeping.{IsBound, IsBoundObject}
 use Rattle.hs_fitting.specs.Answers.{none_some, Given}
 use Rattle.hs_fitting.specs.Categories.{pointer_not_void, array_no_scalar, alike_scalar, element_pointer, sized_pointer, struct_pointer}
 use Rattle.hs_fitting.specs.ConstantNumbers.{HasWideKinds, InKind, number_right}
-use Rattle.hs_fitting.specs.Tests.{some_same}
 use Rattle.hs_initialisers.specs.Addresses.{start_of, is_offset, address_at, bytes_over, moved, stepped, address_value, address_of_object, is_null, constant_by, constant_in}
 use Rattle.hs_operands.specs.Constants.{constant_value}
 use Rattle.hs_operands.specs.Laws.{IsTyped, IsTypedObject}

@@ -3,12 +3,13 @@
 use Rattle.std.proofs.Common.{◌≡◌, ℕ, suc, Bool, true, false, not, ◌||◌, List, [], ◌++◌, length, slice_get, Option, Some, None, Result, Ok, Err, refl, sym, ap, subst, ◌∙◌, if◌then◌else◌}
 use Rattle.std.specs.Prelude.{◌==◌}
 use Rattle.std.specs.List.{AllByRecursion}
+use Rattle.hs_base.specs.Entries.{all_appended, all_so}
 use Rattle.hs_declarations.specs.Declarations.{block_declared}
 use Rattle.hs_expressions.specs.Binding.{IsSignature}
 use Rattle.hs_expressions.specs.Expressions.{enter}
 use Rattle.hs_expressions.specs.Laws.{HasMore, IsConstant, IsScoped}
 use Rattle.hs_expressions.specs.Laws.Always.{Anything}
-use Rattle.hs_expressions.specs.Laws.Reached.{IsAllowedAt, all_appended, all_so}
+use Rattle.hs_expressions.specs.Laws.Reached.{IsAllowedAt}
 use Rattle.hs_fitting.specs.Bodies.{DefiningRight, IsBehind, body_right, proceeds_still, stands_locals, stands_variables}
 use Rattle.hs_fitting.specs.Claims.{Claims, RefersTo, IsVariableIn, IsMet, IsCallClaimed, Endures, Stands, Proceeds}
 use Rattle.hs_fitting.specs.Defining.{parameters_in_moved}

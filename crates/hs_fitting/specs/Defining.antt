@@ -5,6 +5,7 @@
 --     defined_fits                 a function definition
 use Rattle.std.proofs.Common.{◌≡◌, ℕ, ◌≤◌, Bool, true, false, not, ◌||◌, [], ◌∷◌, ◌++◌, length, drop, slice_get, Option, Some, None, Result, Ok, Err, refl, sym, ap, subst, ◌∙◌, if◌then◌else◌}
 use Rattle.std.specs.List.{AllByRecursion}
+use Rattle.hs_base.specs.Tests.{or_true}
 use Rattle.hs_declarations.specs.Declarations.{is_static, is_typedef_word, new_local}
 use Rattle.hs_declarations.specs.Fronts.{front, storage_place}
 use Rattle.hs_declarations.specs.declared.fronts.Front.{Front}
@@ -18,9 +19,8 @@ use Rattle.hs_fitting.specs.Inner.{Inner, inner_moves, inner_named, inner_left, 
 use Rattle.hs_fitting.specs.KeptOpening.{Begun, opened_begins}
 use Rattle.hs_fitting.specs.Moves.{IsWhole, HasLocals, same_locals}
 use Rattle.hs_fitting.specs.Moving.{Moving, Moved, passes_moved, stops_moved, then_moved}
-use Rattle.hs_fitting.specs.Passes.{AreWhole, Passes, count_types, each_whole, marked_types, no_fewer, passes_moves, passes_then, whole_with}
+use Rattle.hs_fitting.specs.Passes.{AreWhole, Passes, each_whole, marked_types, no_fewer, passes_moves, passes_then, whole_with}
 use Rattle.hs_fitting.specs.Stating.{body_moved}
-use Rattle.hs_fitting.specs.Tests.{or_true}
 use Rattle.hs_functions.specs.Functions.{is_only, named_parameter, first_type, next_type, parameter_in, parameters_in, counts, finished, defined_with, defined_of, defined_as, defined_by, defined_said, brace_of, defined, parameters_of, is_of_other}
 use Rattle.hs_functions.specs.Opening.{opened_type, named_outside}
 use Rattle.hs_linkage.specs.Linkage.{clash_of, is_free, link}
@@ -34,7 +34,7 @@ use Rattle.hs_syntax.specs.Trees as syntax
 use Rattle.hs_syntax.specs.Trees.{Declared, Parameters, Specification, Compound}
 use Rattle.hs_syntax.specs.declared.word.Word.{Word}
 use Rattle.hs_tokens.specs.declared.place.Place.{Place}
-use Rattle.hs_tree.specs.Fitting.{FitsDefinition}
+use Rattle.hs_tree.specs.Fitting.{FitsDefinition, count_types}
 use Rattle.hs_tree.specs.Kinds.{is_void, is_readable}
 use Rattle.hs_tree.specs.Trees.{TypedBlock, TypedFunction}
 use Rattle.hs_typer.specs.Declarators.{is_typedef, word_of}

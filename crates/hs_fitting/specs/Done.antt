@@ -5,10 +5,10 @@
 --     done_with                          with one more
 use Rattle.std.proofs.Common.{◌≡◌, ℕ, zero, suc, Bool, List, [], ◌∷◌, ◌++◌, length, slice_get, Option, Some, None, refl, ap, subst, ◌∙◌}
 use Rattle.std.specs.Prelude.{take}
+use Rattle.hs_base.specs.Options.{some_same, one_there, some_there}
 use Rattle.hs_expressions.specs.Binding.{IsSignature}
 use Rattle.hs_fitting.specs.Claims.{Claims, IsMet, Stands, Proceeds}
 use Rattle.hs_fitting.specs.Entities.{IsAmong}
-use Rattle.hs_fitting.specs.Tests.{some_same, one_there, some_there}
 use Rattle.hs_linkage.specs.declared.definitions.Definition.{Definition}
 use Rattle.hs_linkage.specs.declared.translator.Translator.{Translator}
 use Rattle.hs_operands.specs.declared.operand.Bound.TheVariants as bound

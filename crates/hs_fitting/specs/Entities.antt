@@ -8,9 +8,9 @@ use Rattle.std.proofs.Common.{◌≡◌, ◌⊎◌, inl, inr, ℕ, Bool, true, f
 use Rattle.std.specs.Prelude.{◌==◌, ◌||◌}
 use Rattle.std.specs.Cmp.Lexicographic.{nat_list_eq_equiv}
 use Rattle.std.specs.List.{AllByRecursion}
-use Rattle.hs_expressions.specs.Laws.Reached.{all_so}
+use Rattle.hs_base.specs.Tests.{both_tests, not_both}
+use Rattle.hs_base.specs.Entries.{all_so}
 use Rattle.hs_fitting.specs.Shapes.{SameShape, agree_shape}
-use Rattle.hs_fitting.specs.Tests.{both_tests, not_both}
 use Rattle.hs_linkage.specs.Definitions.{same_name}
 use Rattle.hs_linkage.specs.Externals.{type_of_entity, agrees_in, all_agree, newest_external, agree_if, is_unfit, or_later, if_unfit, unfit}
 use Rattle.hs_linkage.specs.declared.externals.External.{External}

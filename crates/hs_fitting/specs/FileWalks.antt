@@ -4,12 +4,13 @@
 --     file_declared_walks             a declaration of file scope
 use Rattle.std.proofs.Common.{◌≡◌, ℕ, Bool, true, false, not, ◌&&◌, ◌||◌, List, [], ◌∷◌, ◌++◌, slice_get, Option, Some, None, is_none, refl, sym, ap, subst, ◌∙◌, if◌then◌else◌}
 use Rattle.std.specs.List.{AllByRecursion}
+use Rattle.hs_base.specs.Tests.{true_false, not_false}
+use Rattle.hs_base.specs.Entries.{all_appended}
 use Rattle.hs_declarations.specs.Declarations.{is_object, can_start, is_first, object_started, object_with_start, may_be_tentative, file_object, function_declared, file_entity, is_static, is_typedef_word, file_item_as, file_item, file_items, typedef_as, typedef_item, typedef_types, typedef_named, typedefs_named, typedef_items, file_items_as, file_declared_at, file_declared}
 use Rattle.hs_declarations.specs.Fronts.{front, item_type, lone_tag, place_of_start}
 use Rattle.hs_declarations.specs.declared.fronts.Front.{Front}
 use Rattle.hs_expressions.specs.Expressions.{first_place}
 use Rattle.hs_expressions.specs.Laws.{IsConstant}
-use Rattle.hs_expressions.specs.Laws.Reached.{all_appended}
 use Rattle.hs_fitting.specs.BlockWalks.{either_known_walks, nothing_named_walks, function_declared_walks, object_walks}
 use Rattle.hs_fitting.specs.Claims.{Claims, RefersTo, Endures, Proceeds, category_at}
 use Rattle.hs_fitting.specs.Initialised.{initialised_walks}
@@ -24,7 +25,6 @@ use Rattle.hs_fitting.specs.OwnWalks.{OwnId, own_kept, own_over, own_through, it
 use Rattle.hs_fitting.specs.Owned.{IsOwn}
 use Rattle.hs_fitting.specs.Owning.{Owning, front_own}
 use Rattle.hs_fitting.specs.Storage.{front_static}
-use Rattle.hs_fitting.specs.Tests.{true_false, not_false}
 use Rattle.hs_fitting.specs.Walk.{Anywhere, Nothing, Walks, passes_walks, stops_walks, unless_walks, then_walks, so_walks}
 use Rattle.hs_fitting.specs.Whole.{MayStart}
 use Rattle.hs_initialisers.specs.Initialisers.{initialised}

@@ -5,7 +5,7 @@
 use Rattle.std.proofs.Common.{◌≡◌, ℕ, zero, suc, Bool, true, false, List, [], ◌∷◌, slice_get, Option, Some, None, IsTrue, is_some, refl, sym, subst, if◌then◌else◌}
 use Rattle.std.specs.Cmp.Lexicographic.{nat_list_eq_equiv, same_text}
 use Rattle.std.specs.List.{AllByRecursion}
-use Rattle.hs_fitting.specs.Tests.{some_same}
+use Rattle.hs_base.specs.Options.{some_same}
 use Rattle.hs_linkage.specs.Definitions.{same_name, first_place, later}
 use Rattle.hs_linkage.specs.Externals.{newest_external, external_of, says_same, with_external}
 use Rattle.hs_linkage.specs.declared.externals.External.{External}

@@ -6,18 +6,19 @@ use Rattle.std.proofs.Common.{◌≡◌, ◌<◌, ℕ, zero, suc, Bool, true, fa
 use Rattle.std.specs.Prelude.{◌==◌, take}
 use Rattle.std.proofs.lemmas.Bool.Decides.{nat_tests}
 use Rattle.std.proofs.lemmas.Option.{slice_get_within}
+use Rattle.hs_base.specs.Tests.{both_tests}
+use Rattle.hs_base.specs.Options.{one_there, some_there}
+use Rattle.hs_base.specs.Entries.{all_so, all_by_both}
 use Rattle.hs_expressions.specs.Binding.{IsList, IsSignature, IsLikeBy, AllAlike, IsDefined}
-use Rattle.hs_expressions.specs.Laws.Reached.{all_so}
 use Rattle.hs_fitting.specs.Claiming.{bound_function}
 use Rattle.hs_fitting.specs.Claims.{Claims, IsClaimed, RefersTo, IsBoundIn, IsExternal, IsTypedIn, IsSigned, IsRoutineOf, IsRoutineDeclared, IsAccounted, IsAccountedAs, IsFulfilled, AreFulfilled, Stands}
 use Rattle.hs_fitting.specs.Entities.{IsAmong, among_has, all_among, newest_has}
 use Rattle.hs_fitting.specs.Exact.{AreJoined, signature_one}
 use Rattle.hs_fitting.specs.Found.{same_texts, same_self, place_found}
-use Rattle.hs_fitting.specs.Known.{all_by_both, category_stays}
+use Rattle.hs_fitting.specs.Known.{category_stays}
 use Rattle.hs_fitting.specs.ProgramWalks.{Between}
 use Rattle.hs_fitting.specs.Shapes.{SameShape}
 use Rattle.hs_fitting.specs.Strict.{SameBy, AreStrict, AreClosed, closed_self, same_self as same_by_self}
-use Rattle.hs_fitting.specs.Tests.{both_tests, one_there, some_there}
 use Rattle.hs_fitting.specs.UnitEnds.{unit_before, function_row, lower}
 use Rattle.hs_linkage.specs.Definitions.{same_name, first_place, all_definitions, is_definition_of}
 use Rattle.hs_linkage.specs.Externals.{newest_external, type_of_entity}

@@ -5,12 +5,13 @@
 use Rattle.std.proofs.Common.{◌≡◌, ℕ, zero, suc, Bool, true, false, not, List, [], ◌∷◌, slice_get, Option, Some, None, IsTrue, is_some, refl, sym, ap, subst, ◌∙◌, if◌then◌else◌, arith}
 use Rattle.std.specs.Prelude.{◌==◌}
 use Rattle.std.proofs.lemmas.Bool.Decides.{nat_tests}
+use Rattle.hs_base.specs.Tests.{true_false, both_true}
+use Rattle.hs_base.specs.Options.{some_same, is_there}
 use Rattle.hs_fitting.specs.Blocks.{local_of}
 use Rattle.hs_fitting.specs.Claims.{Claims, IsClaimedAs, RefersTo, IsBoundIn, IsInternalLink, IsRegisteredAs, IsMet, IsMetAs}
 use Rattle.hs_fitting.specs.Entities.{IsAmong}
 use Rattle.hs_fitting.specs.Linking.{Linking}
 use Rattle.hs_fitting.specs.Found.{same_self}
-use Rattle.hs_fitting.specs.Tests.{true_false, both_true, some_same, is_there}
 use Rattle.hs_functions.specs.Functions.{is_of_other}
 use Rattle.hs_linkage.specs.Definitions.{same_name, first_place, later, is_definition_of}
 use Rattle.hs_linkage.specs.Externals.{newest_external}

@@ -6,10 +6,11 @@
 use Rattle.std.proofs.Common.{◌≡◌, ◌≤◌, ℕ, suc, ◌-◌, Bool, true, false, List, [], ◌∷◌, ◌++◌, refl, ap, ◌∙◌, if◌then◌else◌}
 use Rattle.std.specs.Prelude.{◌==◌}
 use Rattle.std.specs.List.{AllByRecursion}
+use Rattle.hs_base.specs.Entries.{all_so}
 use Rattle.hs_expressions.specs.Expressions.{enter, leave}
 use Rattle.hs_expressions.specs.Laws.{HasMore, IsScoped}
 use Rattle.hs_expressions.specs.Laws.Always.{Anything}
-use Rattle.hs_expressions.specs.Laws.Reached.{IsAllowedAt, Reaches, all_so, is_other, is_same, more_one, outside_more, pred_suc, reaches_names, reaches_then, scoped_after}
+use Rattle.hs_expressions.specs.Laws.Reached.{IsAllowedAt, Reaches, is_other, is_same, more_one, outside_more, pred_suc, reaches_names, reaches_then, scoped_after}
 use Rattle.hs_fitting.specs.Moves.{HasLocals, Moves, locals_then}
 use Rattle.hs_fitting.specs.Stating.{entered_scoped, left_reaches, left_scoped}
 use Rattle.hs_linkage.specs.declared.translator.Translator.{Translator}

@@ -8,6 +8,8 @@
 use Rattle.std.proofs.Common.{◌≡◌, ◌<◌, ◌⊎◌, ℕ, zero, suc, Bool, true, false, List, [], ◌∷◌, ◌++◌, length, slice_get, Option, Some, None, IsTrue, is_some, Result, Ok, Err, refl, sym, ap, subst, ◌∙◌}
 use Rattle.std.specs.Prelude.{◌==◌}
 use Rattle.std.specs.List.{AllByRecursion}
+use Rattle.hs_base.specs.Options.{some_none}
+use Rattle.hs_base.specs.Entries.{all_appended, all_so, all_by_both}
 use Rattle.hs_expressions.specs.Binding.{BindsAs, BindsName}
 use Rattle.hs_expressions.specs.Binding.Keeping.{IsNoted, KnowsBound, IsBound}
 use Rattle.hs_expressions.specs.Binding.Keeping as bound_step
@@ -16,7 +18,7 @@ use Rattle.hs_expressions.specs.Expressions.{typed}
 use Rattle.hs_expressions.specs.Laws.{IsConstant, IsPrefix, IsScoped, IsKnown, Knows}
 use Rattle.hs_expressions.specs.Laws.Always.{Reaching, Always}
 use Rattle.hs_expressions.specs.Laws.Keeping as typed_step
-use Rattle.hs_expressions.specs.Laws.Reached.{IsAllowedAt, Reaches, all_appended, all_so}
+use Rattle.hs_expressions.specs.Laws.Reached.{IsAllowedAt, Reaches}
 use Rattle.hs_expressions.specs.Laws.Typing as typed_law
 use Rattle.hs_expressions.specs.Operations.{value_of}
 use Rattle.hs_expressions.specs.Laws.Traced.{TracedTo}
@@ -33,7 +35,6 @@ use Rattle.hs_fitting.specs.Owned.{own_later}
 use Rattle.hs_fitting.specs.Owning.{IsOwnName, OwnAt, own_after}
 use Rattle.hs_fitting.specs.Rightness.{AreRight}
 use Rattle.hs_fitting.specs.Sameness.{one_whole}
-use Rattle.hs_fitting.specs.Tests.{some_none}
 use Rattle.hs_fitting.specs.Walk.{Continues, continues_first, Nothing, Walking, Walks}
 use Rattle.hs_linkage.specs.Works.{typing, with_typer}
 use Rattle.hs_linkage.specs.declared.definitions.Definition.{Definition}
@@ -64,12 +65,6 @@ use Rattle.hs_types.specs.declared.row.Row.{Row}
 use Rattle.hs_types.specs.declared.row.TypeId.{TypeId}
 
 -- ---- the names of a place mean what the program has
-
--- what follows from two facts of all entries
-pub all_by_both : {A : Type 0} → (one other holds : A → Type 0) → ((x : A) → one x → other x → holds x) → (xs : List A) → AllByRecursion one xs
-    → AllByRecursion other xs → AllByRecursion holds xs
-all_by_both one other holds so [] are are' = tt
-all_by_both one other holds so (x ∷ xs) are are' = (so x are.0 are'.0, all_by_both one other holds so xs are.1 are'.1)
 
 -- an object of that category
 object_is : (types : TypeTable) (given : Option Global) (id : TypeId) → category_in types (variable_of_global given) ≡ Some (category_of types id)

@@ -7,6 +7,7 @@ use Rattle.std.specs.List.{AllByRecursion, list_any}
 use Rattle.std.proofs.lemmas.Bool.Decides.{nat_tests}
 use Rattle.std.proofs.lemmas.List.{append-nil}
 use Rattle.std.proofs.Common.{arith}
+use Rattle.hs_base.specs.Tests.{or_true}
 use Rattle.hs_fitting.specs.Entities.{all_by_among}
 use Rattle.hs_expressions.specs.Binding.{IsNotedCall, IsNotedAddress}
 use Rattle.hs_expressions.specs.Binding.Keeping.{all_before, all_behind}
@@ -15,7 +16,6 @@ use Rattle.hs_expressions.specs.Laws.Reached.{Reaches, prefix_then}
 use Rattle.hs_fitting.specs.Claims.{IsFulfilled, Claims, Endures, IsMarkedIn, Proceeds}
 use Rattle.hs_fitting.specs.Moves.{Moves}
 use Rattle.hs_fitting.specs.Passes.{Passes, marked_types}
-use Rattle.hs_fitting.specs.Tests.{or_true}
 use Rattle.hs_fitting.specs.Walk.{Continues}
 use Rattle.hs_linkage.specs.Objects.{is_of_local, marked}
 use Rattle.hs_linkage.specs.declared.translator.Translator.{Translator}

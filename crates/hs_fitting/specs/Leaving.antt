@@ -3,6 +3,7 @@
 --     scoped_walks                    a step in a scope of its own
 use Rattle.std.proofs.Common.{◌≡◌, ℕ, suc, Bool, List, Option, Some, None, Result, Ok, Err, refl, sym, subst}
 use Rattle.std.specs.List.{AllByRecursion}
+use Rattle.hs_base.specs.Entries.{all_so}
 use Rattle.hs_names.specs.Scopes.{Declared}
 use Rattle.hs_typer.specs.declared.typer.Typer.{Typer}
 use Rattle.hs_fitting.specs.Owning.{IsOwnName, name_later}
@@ -11,7 +12,7 @@ use Rattle.hs_expressions.specs.Laws.Traced.{IsOwnTag, TracedTo, traces_self, tr
 use Rattle.hs_expressions.specs.Expressions.{enter, leave}
 use Rattle.hs_expressions.specs.Laws.{IsPrefix, IsScoped}
 use Rattle.hs_expressions.specs.Laws.Always.{Anything}
-use Rattle.hs_expressions.specs.Laws.Reached.{IsAllowedAt, all_so, left_entered}
+use Rattle.hs_expressions.specs.Laws.Reached.{IsAllowedAt, left_entered}
 use Rattle.hs_fitting.specs.Claims.{Claims, IsClaimed, IsClaimedAs, RefersTo, IsVariableIn, Stands, Proceeds}
 use Rattle.hs_fitting.specs.Lasting.{endures_scopes}
 use Rattle.hs_fitting.specs.Known.{variable_among, stands_typer, proceeds_typer}

@@ -92,7 +92,6 @@ pub mod Stating
 pub mod Staying
 pub mod Strict
 pub mod Storage
-pub mod Tests
 pub mod Texts
 pub mod UnitEnds
 pub mod UnitWalks

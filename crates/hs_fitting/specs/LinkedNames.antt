@@ -4,7 +4,7 @@
 --     named_walks, renamed_walks          names
 --     IsLinkedTo its m word id it, link_walks, linked_walks, completed_link_walks      names with linkage
 use Rattle.std.proofs.Common.{◌≡◌, ℕ, Bool, true, false, ◌||◌, List, [], ◌∷◌, ◌++◌, length, slice_get, Some, Result, Ok, Err, IsTrue, is_some, refl, sym, subst}
-use Rattle.hs_expressions.specs.Laws.Reached.{all_appended}
+use Rattle.hs_base.specs.Entries.{all_appended}
 use Rattle.hs_fitting.specs.Changing.{objects_walked, name_walked, declare_walked, typed_walked, kept_walked}
 use Rattle.hs_fitting.specs.Chosen.{new_object_refers, new_object_stay}
 use Rattle.hs_fitting.specs.Claims.{Claims, RefersTo, IsVariableIn, IsBoundIn, Endures, IsObjectRight, Stands, Proceeds, category_at}

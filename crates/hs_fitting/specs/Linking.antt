@@ -5,7 +5,8 @@
 --     linking_global                  it is no automatic variable
 use Rattle.std.proofs.Common.{◌≡◌, ◌⊎◌, inl, inr, ℕ, Bool, true, false, not, ◌&&◌, List, [], slice_get, Some, None, Ok, IsTrue, is_some, refl, sym, subst, if◌then◌else◌}
 use Rattle.std.specs.List.{AllByRecursion}
-use Rattle.hs_expressions.specs.Laws.Reached.{all_so}
+use Rattle.hs_base.specs.Options.{some_none}
+use Rattle.hs_base.specs.Entries.{all_so}
 use Rattle.hs_fitting.specs.Outcomes.{Gives, gives_then, gives_unless}
 use Rattle.hs_fitting.specs.Chosen.{IsChosen, Choosing, chosen_made, link_as_chosen}
 use Rattle.hs_fitting.specs.Claiming.{IsFirst, IsClaiming, chosen_claims}
@@ -21,7 +22,6 @@ use Rattle.hs_fitting.specs.Making.{zero_right, IsFunction}
 use Rattle.hs_fitting.specs.Owned.{IsOwn}
 use Rattle.hs_fitting.specs.Owning.{IsOwnName}
 use Rattle.hs_fitting.specs.Registering.{linked_in, externals_there, routines_stay, routines_there, routines_all, met_by, registered_by, registered_first, routine_is}
-use Rattle.hs_fitting.specs.Tests.{some_none}
 use Rattle.hs_linkage.specs.Externals.{newest_external, with_external}
 use Rattle.hs_linkage.specs.Linkage.{with_type_id, agrees_with_all, clash_of, compatible_routines, is_routine_entity, link_as, link, noted, is_function}
 use Rattle.hs_linkage.specs.Works.{◌>>◌}

@@ -2,14 +2,14 @@
 --     ClaimsStay its later, refers_later, call_later      what was claimed stays claimed, and names and calls still refer to it
 --     refers_typed, declared_again            with a type of the same shape
 --     claim_at place id all                   one claim more; claim_here, claim_stays, claim_back
-use Rattle.std.proofs.Common.{◌≡◌, ◌⊎◌, inl, inr, ℕ, Bool, true, false, List, [], Option, Some, None, refl, sym, ap, subst, ◌∙◌, if◌then◌else◌, arith}
-use Rattle.std.proofs.lemmas.Bool.Decides.{nat_tests}
+use Rattle.std.proofs.Common.{◌≡◌, ◌⊎◌, inl, inr, ℕ, Bool, true, false, List, [], Option, Some, None, refl, sym, ap, subst, ◌∙◌, if◌then◌else◌}
 use Rattle.std.specs.Prelude.{◌==◌}
+use Rattle.hs_base.specs.Options.{some_none}
+use Rattle.hs_base.specs.Tests.{same_number}
 use Rattle.hs_expressions.specs.Laws.Reached.{is_same}
 use Rattle.hs_fitting.specs.Claims.{Claims, ObjectsStay, IsClaimed, IsShapedAs, IsClaimedAs, RefersAs, RefersTo, IsVariableIn, IsBoundAs, IsCallClaimed}
 use Rattle.hs_fitting.specs.Entities.{IsAmong}
 use Rattle.hs_fitting.specs.Shapes.{SameShape, shape_then}
-use Rattle.hs_fitting.specs.Tests.{some_none}
 use Rattle.hs_linkage.specs.Externals.{type_of_entity}
 use Rattle.hs_linkage.specs.Linkage.{with_type_id}
 use Rattle.hs_linkage.specs.declared.definitions.Definition.{Definition}
@@ -160,10 +160,6 @@ declared_again id other (entity.Typedef old) = refl
 -- the claims of functions, or of routines, with one more
 abbrev pub claim_at : ℕ → TypeId → (ℕ → Option TypeId) → ℕ → Option TypeId
 claim_at place id all number = if number == place then Some id else all number
-
--- numbers that a test tells to be one
-same_number : (n m : ℕ) → (n == m) ≡ true → n ≡ m
-same_number n m is = grind (arith, nat_tests, is)
 
 -- the new one
 claim_if : (b : Bool) (id : TypeId) (o : Option TypeId) → b ≡ true → (if b then Some id else o) ≡ Some id

@@ -7,10 +7,10 @@
 --     IsFunction it, declared_function, function_typed      what agrees with the type of a function is a function
 use Rattle.std.proofs.Common.{◌≡◌, ℕ, zero, suc, true, List, [], ◌∷◌, slice_get, Option, Some, None, refl, sym, ap, ◌∙◌}
 use Rattle.std.specs.List.{AllByRecursion}
+use Rattle.hs_base.specs.Options.{some_same}
 use Rattle.hs_fitting.specs.Answers.{none_some}
 use Rattle.hs_fitting.specs.Claims.{Claims, RefersAs, IsVariableIn, IsObjectRight, category_at}
 use Rattle.hs_fitting.specs.Links.{HasShape}
-use Rattle.hs_fitting.specs.Tests.{some_same}
 use Rattle.hs_linkage.specs.Externals.{type_of_entity, agrees_in}
 use Rattle.hs_linkage.specs.Linkage.{with_type_id, zero_object, is_function}
 use Rattle.hs_linkage.specs.declared.translator.StaticObject.{StaticObject}

@@ -6,10 +6,11 @@
 use Rattle.std.proofs.Common.{◌≡◌, List, [], ◌++◌, IsTrue, refl, sym, ap, ◌∙◌}
 use Rattle.std.specs.List.{AllByRecursion}
 use Rattle.std.proofs.lemmas.List.{append_assoc, append-nil}
+use Rattle.hs_base.specs.Options.{some_there}
+use Rattle.hs_base.specs.Entries.{all_appended, all_so}
 use Rattle.hs_expressions.specs.Laws.{IsScoped}
 use Rattle.hs_expressions.specs.Laws.Always.{Anything}
-use Rattle.hs_expressions.specs.Laws.Reached.{Reaches, all_appended, all_so, reaches_self, reaches_then, reaches_wider, scoped_after}
-use Rattle.hs_fitting.specs.Tests.{some_there}
+use Rattle.hs_expressions.specs.Laws.Reached.{Reaches, reaches_self, reaches_then, reaches_wider, scoped_after}
 use Rattle.hs_linkage.specs.declared.translator.Translator.{Translator}
 use Rattle.hs_tree.specs.Fitting.{types_of}
 use Rattle.hs_tree.specs.declared.head.VariableDecl.{VariableDecl}

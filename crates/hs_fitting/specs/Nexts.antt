@@ -4,11 +4,11 @@ use Rattle.std.proofs.Common.{◌≡◌, ◌≤◌, ◌<◌, ◌+◌, ◌*◌, �
 use Rattle.std.proofs.lemmas.Bool.Decides.{nat_tests}
 use Rattle.std.proofs.lemmas.Nat.{mul-le}
 use Rattle.std.specs.Prelude.{nat_lt, nat_le, slice_get}
+use Rattle.hs_base.specs.Options.{some_same}
 use Rattle.hs_fitting.specs.Answers.{none_some, false_true}
-use Rattle.hs_fitting.specs.Fields.{FieldThere, field_there, body_apart, body_inside}
+use Rattle.hs_fitting.specs.Fields.{FieldThere, field_there}
 use Rattle.hs_fitting.specs.Moves.{IsWhole}
 use Rattle.hs_fitting.specs.Scalars.{Aggregate, Subobject, Scalars, Within, IsAt, IsSolidRow, IsSolid, room, Beyond, Next}
-use Rattle.hs_fitting.specs.Tests.{some_same}
 use Rattle.hs_initialisers.specs.Aggregates.{element_at, member_at, itself, next_by, next_in, advanced}
 use Rattle.hs_tree.specs.Kinds.{is_scalar}
 use Rattle.hs_tree.specs.Objects as object
@@ -22,6 +22,7 @@ use Rattle.hs_types.specs.declared.row.FieldId.{FieldId}
 use Rattle.hs_types.specs.declared.row.Row.{Row}
 use Rattle.hs_types.specs.declared.row.Row.TheVariants as row
 use Rattle.hs_types.specs.declared.row.TypeId.{TypeId}
+use Rattle.hs_types.specs.LayoutLaws.{body_apart, body_inside}
 
 -- what a test lets through
 pub if_some : {A : Type 0} → (b : Bool) (x y : A) → (if b then Some x else None) ≡ Some y → (b ≡ true) × (x ≡ y)

@@ -6,7 +6,7 @@ use Rattle.std.specs.List.{AllByRecursion}
 use Rattle.std.specs.Prelude.{slice_get, length}
 use Rattle.hs_expressions.specs.Laws.{IsConstant}
 use Rattle.hs_expressions.specs.Laws.Always.{Always}
-use Rattle.hs_expressions.specs.Laws.Grown.{Growing, GrowsTo, grows_row, grows_struct, grows_enumeration, arrayed_grows, completed_grows, enumerated_grows}
+use Rattle.hs_expressions.specs.Laws.Grown.{Growing, GrowsTo, arrayed_grows, completed_grows, enumerated_grows}
 use Rattle.hs_expressions.specs.Laws.Leaves.{string_always, addressed_always, struct_type_always, enumeration_type_always, tagged_struct_always, begun_struct_always, begun_enumeration_always, completed_enumeration_always}
 use Rattle.hs_expressions.specs.Operations.{address_as, addressed}
 use Rattle.hs_fitting.specs.Noting.{AllowsName, NamesAllow, IsOperandOf, AreCallsOf, Noting, Notes}
@@ -36,6 +36,7 @@ use Rattle.hs_types.specs.declared.integer.Integer.TheVariants as kind
 use Rattle.hs_types.specs.declared.row.Row.TheVariants as row
 use Rattle.hs_types.specs.declared.row.TypeId.{TypeId}
 use Rattle.hs_types.specs.declared.types.TypeEnd.{TypeEnd}
+use Rattle.hs_types.specs.TableLaws.{grows_row, grows_struct, grows_enumeration}
 
 -- The names, the routines and the calls after the answer, if it is one, are those before; the table of types grows and stays right; and the
 -- answer meets the fact.

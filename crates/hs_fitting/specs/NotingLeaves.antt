@@ -6,11 +6,11 @@ use Rattle.std.proofs.Common.{◌≡◌, ℕ, Bool, true, false, List, [], ◌�
 use Rattle.std.specs.Cmp.Lexicographic.{pointwise}
 use Rattle.std.specs.List.{AllByRecursion}
 use Rattle.std.specs.Prelude.{is_some, ◌||◌}
+use Rattle.hs_base.specs.Entries.{all_appended}
 use Rattle.hs_expressions.specs.Laws.{IsConstant}
 use Rattle.hs_expressions.specs.Laws.Always.{Anything}
 use Rattle.hs_expressions.specs.Laws.Grown.{listed_grows, parameter_type_grows}
 use Rattle.hs_expressions.specs.Laws.Leaves.{call_with_always, declare_always}
-use Rattle.hs_expressions.specs.Laws.Reached.{all_appended}
 use Rattle.hs_expressions.specs.Operations.{stepped, prefix_object, prefix_value, bound_call, call_with, call_operand}
 use Rattle.hs_expressions.specs.Roles.{fits_role}
 use Rattle.hs_fitting.specs.Noting.{Met, AllowsBound, AllowsName, NamesAllow, IsOperandOf, IsCallOf, Noting, Notes, same_noted}

@@ -5,7 +5,6 @@ use Rattle.std.proofs.Common.{◌≡◌, ◌⊎◌, inl, inr, ℕ, Bool, true, f
 use Rattle.std.specs.Prelude.{is_some}
 use Rattle.hs_declarations.specs.Fronts.{item_type}
 use Rattle.hs_expressions.specs.Expressions.{derivations}
-use Rattle.hs_expressions.specs.Laws.Grown.{grows_row}
 use Rattle.hs_fitting.specs.Owned.{OwnTop, IsOwn, top_later, own_later}
 use Rattle.hs_fitting.specs.Owning.{OwnAt}
 use Rattle.hs_fitting.specs.Parameters.{OpenedAs}
@@ -30,6 +29,7 @@ use Rattle.hs_types.specs.declared.row.Row.{Row}
 use Rattle.hs_types.specs.declared.row.Row.TheVariants as row
 use Rattle.hs_types.specs.declared.row.TypeId.{TypeId}
 use Rattle.hs_types.specs.declared.types.TypeEnd.{TypeEnd}
+use Rattle.hs_types.specs.TableLaws.{grows_row}
 
 -- one row is not another
 no_function : (o : Option Row) (its : Row) (result : TypeId) (list : ListId) → o ≡ Some its → o ≡ Some (row.Function result list)

@@ -4,11 +4,12 @@
 use Rattle.std.proofs.Common.{◌≡◌, ℕ, Bool, true, false, List, [], ◌∷◌, ◌++◌, Option, Some, None, Result, Ok, Err, refl, if◌then◌else◌}
 use Rattle.std.specs.List.{AllByRecursion}
 use Rattle.std.specs.Prelude.{is_some, ◌||◌}
+use Rattle.hs_base.specs.Entries.{all_appended, all_so}
 use Rattle.hs_expressions.specs.Expressions.{enter, ending}
 use Rattle.hs_expressions.specs.Laws.{IsConstant, IsScoped}
 use Rattle.hs_expressions.specs.Laws.Always.{Reaching, Anything}
 use Rattle.hs_expressions.specs.Laws.Grown.{Growing, listed_grows}
-use Rattle.hs_expressions.specs.Laws.Reached.{all_appended, all_so, reaches_types, scoped_after}
+use Rattle.hs_expressions.specs.Laws.Reached.{reaches_types, scoped_after}
 use Rattle.hs_fitting.specs.Listed.{listed_is}
 use Rattle.hs_fitting.specs.Owned.{OwnTop, top_later, OwnDerivation, derivation_later, OwnGiven}
 use Rattle.hs_fitting.specs.Stating.{entered_scoped}

@@ -4,6 +4,7 @@
 --     IsOwn holds its new, IsOfOwn holds id new      what is known after the derivations, and after the type that they make
 --     item_type_owned                   the type of a declarator
 use Rattle.std.proofs.Common.{◌≡◌, Bool, true, false, List, [], ◌∷◌, ◌++◌, Some, Result, Ok, Err, refl, sym, ap, subst, ◌∙◌, ◌||◌, if◌then◌else◌}
+use Rattle.hs_base.specs.Options.{some_same}
 use Rattle.hs_declarations.specs.Fronts.{item_type}
 use Rattle.hs_expressions.specs.Binding.{IsList}
 use Rattle.hs_expressions.specs.Expressions.{typed, prototype, derivations, derivations_of, parameter_types}
@@ -15,7 +16,6 @@ use Rattle.hs_expressions.specs.Laws.Leaves.{list_of_always}
 use Rattle.hs_expressions.specs.Laws.Reached.{Reaches, reaches_self, reaches_then, reaches_types, scoped_after}
 use Rattle.hs_expressions.specs.Operations.{value_of}
 use Rattle.hs_fitting.specs.Listed.{list_stays, listed_is}
-use Rattle.hs_fitting.specs.Tests.{some_same}
 use Rattle.hs_functions.specs.Functions.{is_name, parameters_of, parameters_of_direct}
 use Rattle.hs_operands.specs.Laws.Added.{row_found}
 use Rattle.hs_syntax.specs.Trees as syntax

@@ -5,9 +5,10 @@
 --     then_owning                   steps, one after another
 use Rattle.std.proofs.Common.{◌≡◌, ℕ, slice_get, Some, Result, Ok, Err, sym, subst}
 use Rattle.std.specs.List.{AllByRecursion}
+use Rattle.hs_base.specs.Entries.{all_appended, all_so}
 use Rattle.hs_expressions.specs.Laws.{IsConstant, IsScoped}
 use Rattle.hs_expressions.specs.Laws.Always.{Reaching}
-use Rattle.hs_expressions.specs.Laws.Reached.{IsAllowedAt, Reaches, all_appended, all_so, scoped_after}
+use Rattle.hs_expressions.specs.Laws.Reached.{IsAllowedAt, Reaches, scoped_after}
 use Rattle.hs_expressions.specs.Laws.Traced.{IsTracedAt}
 use Rattle.hs_fitting.specs.Owned.{IsOwn, own_later}
 use Rattle.hs_typer.specs.Steps.{Step, then_with, kept}

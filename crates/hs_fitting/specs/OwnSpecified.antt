@@ -5,20 +5,17 @@ use Rattle.std.proofs.Common.{◌≡◌, ◌≤◌, ℕ, Bool, true, false, List
 use Rattle.std.specs.Cmp.Lexicographic.{pointwise}
 use Rattle.std.specs.List.{AllByRecursion}
 use Rattle.std.specs.Prelude.{nat_eq, is_some, not, ◌||◌}
-use Rattle.hs_expressions.specs.Expressions.{type_by}
-use Rattle.hs_expressions.specs.Laws.{IsConstant}
-use Rattle.hs_expressions.specs.Laws.Always.{Always, looks_always, then_always}
+use Rattle.hs_base.specs.Options.{some_same}
 use Rattle.hs_expressions.specs.Laws.Bodies.{Owning as IsBegun, begun_owned}
 use Rattle.hs_expressions.specs.Laws.Traced.{IsOwnTag}
 use Rattle.hs_fitting.specs.Owned.{IsOwn, own_later, plain_type, struct_type}
-use Rattle.hs_fitting.specs.Tests.{some_same}
 use Rattle.hs_names.specs.Scopes.{Declared, newest, entity_of, find}
 use Rattle.hs_operands.specs.Laws.Added.{row_found}
 use Rattle.hs_syntax.specs.declared.operators.Storage.{Storage}
 use Rattle.hs_syntax.specs.declared.word.Word.{Word}
 use Rattle.hs_tokens.specs.declared.place.Place.{Place}
 use Rattle.hs_typer.specs.Specifiers as specifying
-use Rattle.hs_typer.specs.Specifiers.{no_specifiers, with_basic, with_type, with_storage, type_from, typedef_of}
+use Rattle.hs_typer.specs.Specifiers.{with_type, with_storage, type_from, typedef_of}
 use Rattle.hs_typer.specs.Steps.{Step, then_with, ◌>>=◌, ◌>>◌, give, mapped}
 use Rattle.hs_typer.specs.declared.specifiers.Specifiers.{Specifiers}
 use Rattle.hs_typer.specs.declared.specifiers.Words.{Words}
@@ -224,7 +221,3 @@ module _ (base : ℕ) where
       by_again : (b : Bool) → Met base (IsOwn base s.types) (if b then Err (Untyped first) else specifying.type_with first its.words its.type_id)
       by_again true = tt
       by_again false = with_own s own first its.words its.type_id is
-
-  -- names and tags are then as they were
-  pub type_always : {step : Step Specifiers} → (first : Place) → Always IsConstant step → Always IsConstant (type_by first step)
-  type_always first is = then_always is (λ its. looks_always (λ s. type_from first its))

@@ -4,6 +4,8 @@
 --     front_own_walks, item_own_walks      what specifiers and declarators name
 --     initialised_also              the type that an initialiser gives an object
 use Rattle.std.proofs.Common.{◌≡◌, ℕ, Bool, true, false, ◌||◌, List, Option, Some, None, Result, Ok, Err, refl, sym, ap, subst, ◌∙◌}
+use Rattle.hs_base.specs.Tests.{true_false}
+use Rattle.hs_base.specs.Options.{one_there}
 use Rattle.hs_fitting.specs.UnitEnds.{function_row}
 use Rattle.hs_fitting.specs.LinkedNames.{kept_walks}
 use Rattle.hs_declarations.specs.Fronts.{front, item_type}
@@ -19,7 +21,6 @@ use Rattle.hs_fitting.specs.Owned.{IsOwn, own_later, plain_type}
 use Rattle.hs_fitting.specs.Owning.{Owning, front_own, item_type_own}
 use Rattle.hs_fitting.specs.Strict.{struct_alike}
 use Rattle.std.specs.Prelude.{is_some}
-use Rattle.hs_fitting.specs.Tests.{true_false}
 use Rattle.hs_fitting.specs.Walk.{Anywhere, Nothing, Walked, Walking, Walks, so_walks}
 use Rattle.hs_fitting.specs.Whole.{MayStart}
 use Rattle.hs_initialisers.specs.Initialisers.{initialised}
@@ -150,10 +151,6 @@ some_category (row.Array of length layout) is = cc
 some_category (row.OpenArray of) is = cc
 some_category (row.Function result list) is = cc
 
--- one row is there
-one_row : (o : Option Row) (a b : Row) → o ≡ Some a → o ≡ Some b → a ≡ b
-one_row o a b is is' = cc
-
 -- the type of an object after its initialiser
 initialised_own : (base : ℕ) (id made : TypeId) (old new : TypeTable) → Grows old new → IsAlike old id new made → MayStart old id → IsOwn base old id
     → IsOwn base new made
@@ -163,7 +160,7 @@ initialised_own base id made old new grows alike may own = by_row (row_of new ma
     there = grows.rows id.number own.top.0 own.top.1
 
     before : (its : Row) → row_of new id ≡ Some its → row_of old id ≡ Some its
-    before its at = own.top.1 ∙ ap Some (one_row (row_of new id) own.top.0 its there at)
+    before its at = own.top.1 ∙ ap Some (one_there (row_of new id) own.top.0 its there at)
 
     struct_made : (n : ℕ) → row_of new made ≡ Some (row.Struct n) → IsOwn base new made
     struct_made n at =

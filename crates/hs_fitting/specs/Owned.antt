@@ -6,9 +6,10 @@
 use Rattle.std.proofs.Common.{◌≡◌, ◌≤◌, ℕ, Bool, true, false, ◌||◌, List, [], ◌∷◌, Option, Some, None, Result, Ok, Err, ap, subst, ◌∙◌, if◌then◌else◌}
 use Rattle.std.specs.List.{AllByRecursion}
 use Rattle.std.specs.Prelude.{is_some}
+use Rattle.hs_base.specs.Entries.{all_so}
+use Rattle.hs_base.specs.Options.{one_there}
 use Rattle.hs_expressions.specs.Binding.{IsList}
-use Rattle.hs_expressions.specs.Laws.Grown.{Growing, grows_row, formed_grows}
-use Rattle.hs_expressions.specs.Laws.Reached.{all_so}
+use Rattle.hs_expressions.specs.Laws.Grown.{Growing, formed_grows}
 use Rattle.hs_fitting.specs.Listed.{list_stays}
 use Rattle.hs_operands.specs.Laws.Added.{row_found}
 use Rattle.hs_tokens.specs.declared.place.Place.{Place}
@@ -25,6 +26,7 @@ use Rattle.hs_types.specs.declared.row.Row.{Row}
 use Rattle.hs_types.specs.declared.row.Row.TheVariants as row
 use Rattle.hs_types.specs.declared.row.TypeId.{TypeId}
 use Rattle.hs_types.specs.declared.types.TypeEnd.{TypeEnd}
+use Rattle.hs_types.specs.TableLaws.{grows_row}
 
 -- a struct of this unit, or no struct
 abbrev pub IsOwnRow : ℕ → Row → Type 0
@@ -52,10 +54,6 @@ pub record IsOwn (base : ℕ) (types : TypeTable) (id : TypeId) : Type 0 where
 
 -- ---- as the table grows
 
--- one row is there
-one_row : (o : Option Row) (a b : Row) → o ≡ Some a → o ≡ Some b → a ≡ b
-one_row o a b is is' = cc
-
 module _ (base : ℕ) (old new : TypeTable) (grows : Grows old new) where
   pub top_later : (id : TypeId) → OwnTop base old id → OwnTop base new id
   top_later id is = (is.0, grows.rows id.number is.0 is.1, is.2)
@@ -75,7 +73,7 @@ module _ (base : ℕ) (old new : TypeTable) (grows : Grows old new) where
         top = top_later id is.top;
         signature = λ result list at.
             let same : is.top.0 ≡ row.Function result list
-            = one_row (row_of new id) is.top.0 (row.Function result list) (grows.rows id.number is.top.0 is.top.1) at in
+            = one_there (row_of new id) is.top.0 (row.Function result list) (grows.rows id.number is.top.0 is.top.1) at in
             let before = is.signature result list (is.top.1 ∙ ap Some same) in
             (top_later result before.0, list_later list before.1);
       }
@@ -110,7 +108,7 @@ module _ (base : ℕ) where
   plain_type types id its at plain =
       record {
         top = (its, at, plain_own base its plain);
-        signature = λ result list is. absurd (subst IsPlainRow (one_row (row_of types id) its (row.Function result list) at is) plain);
+        signature = λ result list is. absurd (subst IsPlainRow (one_there (row_of types id) its (row.Function result list) at is) plain);
       }
 
   -- and so is a struct
@@ -118,7 +116,7 @@ module _ (base : ℕ) where
   struct_type types id number own at =
       record {
         top = (row.Struct number, at, own);
-        signature = λ result list is. absurd (no_function (one_row (row_of types id) (row.Struct number) (row.Function result list) at is));
+        signature = λ result list is. absurd (no_function (one_there (row_of types id) (row.Struct number) (row.Function result list) at is));
       }
     where
       no_function : {n : ℕ} {a : TypeId} {l : ListId} → row.Struct n ≡ row.Function a l → ⊥
@@ -132,7 +130,7 @@ module _ (base : ℕ) where
         top = (row.Function gives its, at, tt);
         signature = λ result other is.
             let same : row.Function gives its ≡ row.Function result other
-            = one_row (row_of types id) (row.Function gives its) (row.Function result other) at is in
+            = one_there (row_of types id) (row.Function gives its) (row.Function result other) at is in
             let results : gives ≡ result = cc in
             let lists : its ≡ other = cc in
             (subst (OwnTop base types) results top, subst (OwnList base types) lists list);

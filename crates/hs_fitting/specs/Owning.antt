@@ -2,15 +2,15 @@
 --     front_own, item_type_own      what the specifiers and a declarator name
 --     parameter_types_owns          the types of the parameters of a list
 use Rattle.std.proofs.Common.{◌≤◌, ℕ, suc, Bool, true, false, List, [], ◌∷◌, ◌++◌, Some, Result, Ok, Err}
+use Rattle.hs_base.specs.Entries.{all_appended}
 use Rattle.hs_declarations.specs.Fronts.{front, item_type}
 use Rattle.hs_declarations.specs.declared.fronts.Front.{Front}
 use Rattle.hs_expressions.specs.Expressions.{enter, prototype, first_place, type_by, typed, specified, specifier, members_of, constants_of, derivations, derivations_of, parameter_types}
 use Rattle.hs_expressions.specs.Laws.{IsScoped}
 use Rattle.hs_expressions.specs.Laws.Always.{value_always, prototype_always}
-use Rattle.hs_expressions.specs.Laws.Extending.{typed_always, specified_always, specifier_always, derivations_always, derivations_of_always, parameter_types_always}
+use Rattle.hs_expressions.specs.Laws.Extending.{typed_always, specified_always, specifier_always, derivations_always, derivations_of_always, parameter_types_always, type_always}
 use Rattle.hs_expressions.specs.Laws.Grown.{parameter_type_grows}
 use Rattle.hs_expressions.specs.Laws.Leaves.{tagged_struct_always, parameter_always}
-use Rattle.hs_expressions.specs.Laws.Reached.{all_appended}
 use Rattle.hs_expressions.specs.Operations.{value_of}
 use Rattle.hs_fitting.specs.Owned.{OwnTop, IsOwn, own_later, OwnDerivation, OwnGiven, added_own, formed_own, parameter_own}
 use Rattle.hs_names.specs.Scopes.{find}
@@ -32,7 +32,7 @@ use Rattle.hs_types.specs.declared.row.Row.TheVariants as row
 use Rattle.hs_types.specs.declared.row.TypeId.{TypeId}
 pub use Rattle.hs_fitting.specs.OwnNames.{IsOwnName, name_later, OwnAt, own_after, Owning}
 use Rattle.hs_fitting.specs.OwnNames.{Met, then_owning, any_owning, looked}
-use Rattle.hs_fitting.specs.OwnSpecified.{OwnSpecifiers, stored, found_own, typedef_own, tagged_own, struct_own, struct_body_own, from_own, type_always}
+use Rattle.hs_fitting.specs.OwnSpecified.{OwnSpecifiers, stored, found_own, typedef_own, tagged_own, struct_own, struct_body_own, from_own}
 pub use Rattle.hs_fitting.specs.OwnDerived.{OwnTypes}
 use Rattle.hs_fitting.specs.OwnDerived.{OwnDerivations, all_later, pointers_own, listed_own, ending_own, inside_own, inside_scoped, behind, parameter_made, parameters_next, types_later}
 
@@ -131,7 +131,7 @@ module _ (base : ℕ) where
         (λ id. derivations (first_place at specification) it >>= (λ its. parameter (first_place at specification) its id it place
         >>= (λ made. parameter_types at (suc place) (done ++ made ∷ []) rest))) s
         (type_by (first_place at specification) (specified false (first_place at specification) no_specifiers specification) s) scoped own
-        ((type_always base (first_place at specification) (specified_always false (first_place at specification) no_specifiers specification)).from s scoped)
+        ((type_always (first_place at specification) (specified_always false (first_place at specification) no_specifiers specification)).from s scoped)
         (then_owning base (OwnSpecifiers base) (IsOwn base) (λ its. look (λ s. type_from (first_place at specification) its)) s
         (specified false (first_place at specification) no_specifiers specification s) scoped own
         ((specified_always false (first_place at specification) no_specifiers specification).from s scoped)

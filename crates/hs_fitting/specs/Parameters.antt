@@ -6,6 +6,7 @@
 --     OpenedFor s new id its, opened_for, opens_for       the same, with as many types as parameters; and of an answer
 use Rattle.std.proofs.Common.{ℕ, ◌≡◌, suc, true, false, List, [], ◌∷◌, Some, Result, Ok, Err, refl, sym, subst, if◌then◌else◌}
 use Rattle.std.specs.List.{AllByRecursion}
+use Rattle.hs_base.specs.Entries.{all_so}
 use Rattle.hs_fitting.specs.Owning.{OwnAt, Owning, OwnTypes, parameter_types_owns}
 use Rattle.hs_fitting.specs.Owned.{OwnTop, top_later}
 use Rattle.hs_declarations.specs.Fronts.{item_type}
@@ -13,7 +14,7 @@ use Rattle.hs_expressions.specs.Binding.{IsList}
 use Rattle.hs_expressions.specs.Expressions.{enter, leave, ending, prototype, parameter_types}
 use Rattle.hs_expressions.specs.Laws.{HasMore, IsConstant, IsScoped}
 use Rattle.hs_expressions.specs.Laws.Always.{Always, Anything, gives_always, prototype_always}
-use Rattle.hs_expressions.specs.Laws.Reached.{all_so, Reaches, more_self, reaches_self, reaches_then, reaches_wider, scoped_after}
+use Rattle.hs_expressions.specs.Laws.Reached.{Reaches, more_self, reaches_self, reaches_then, reaches_wider, scoped_after}
 use Rattle.hs_fitting.specs.Moves.{any_reaches}
 use Rattle.hs_fitting.specs.OwnList.{Held, IsOfOwn, item_type_owned}
 pub use Rattle.hs_fitting.specs.Prototypes.{IsParameterName, AreAsMany}

@@ -10,13 +10,13 @@ use Rattle.std.proofs.lemmas.Bool.Decides.{nat_tests}
 use Rattle.std.proofs.lemmas.Nat.{mul-le}
 use Rattle.std.specs.List.{AllByRecursion}
 use Rattle.std.specs.Prelude.{nat_lt, IsTrue, is_some, option_map}
-use Rattle.hs_expressions.specs.Laws.Reached.{all_appended, all_so}
+use Rattle.hs_base.specs.Tests.{both_true, second_test}
+use Rattle.hs_base.specs.Entries.{all_appended, all_so}
 use Rattle.hs_fitting.specs.ConstantNumbers.{converted_in_kind}
 use Rattle.hs_fitting.specs.Fields.{FieldThere, field_there}
 use Rattle.hs_fitting.specs.Moves.{IsWhole}
 use Rattle.hs_fitting.specs.Scalars.{Scalars, whole_solid}
 use Rattle.hs_fitting.specs.Staying.{size_stays, field_stays, scalar_stays, element_whole}
-use Rattle.hs_fitting.specs.Tests.{both_true, second_test}
 use Rattle.hs_initialisers.specs.Initialisers.{characters}
 use Rattle.hs_operands.specs.Laws.Stays.{is_scalar-stays}
 use Rattle.hs_tree.specs.Kinds.{IsScalar, IsStruct, IsNumber}

@@ -5,12 +5,13 @@
 use Rattle.std.proofs.Common.{◌≡◌, ℕ, suc, ◌+◌, ◌≤◌, List, [], ◌∷◌, length, IsTrue, refl, sym, ap, subst, ◌∙◌, arith}
 use Rattle.std.proofs.lemmas.List.{length-append}
 use Rattle.std.specs.List.{AllByRecursion}
-use Rattle.hs_expressions.specs.Laws.Reached.{all_appended, all_so, prefix_self, prefix_then}
+use Rattle.hs_base.specs.Entries.{all_appended, all_so}
+use Rattle.hs_expressions.specs.Laws.Reached.{prefix_self, prefix_then}
 use Rattle.hs_expressions.specs.Laws.{IsPrefix, IsScoped}
 use Rattle.hs_fitting.specs.Moves.{IsWhole, HasLocals, Moves, whole_stays}
 use Rattle.hs_linkage.specs.Objects.{marked}
 use Rattle.hs_linkage.specs.declared.translator.Translator.{Translator}
-use Rattle.hs_tree.specs.Fitting.{types_of}
+use Rattle.hs_tree.specs.Fitting.{types_of, count_types}
 use Rattle.hs_tree.specs.declared.head.VariableDecl.{VariableDecl}
 use Rattle.hs_typer.specs.declared.typer.Taken.{Taken}
 use Rattle.hs_types.specs.Growing.{grows_self, grows_then}
@@ -38,11 +39,6 @@ each_whole types (it ∷ its) are = (are.0, each_whole types its are.1)
 pub marked_types : (taken : List Taken) (place : ℕ) (its : List VariableDecl) → types_of (marked taken place its) ≡ types_of its
 marked_types taken place [] = refl
 marked_types taken place (it ∷ its) = ap (λ rest. it.type_id ∷ rest) (marked_types taken (suc place) its)
-
--- as many types as variables
-pub count_types : (its : List VariableDecl) → length (types_of its) ≡ length its
-count_types [] = refl
-count_types (it ∷ its) = ap suc (count_types its)
 
 -- there are no fewer
 pub no_fewer : (types : TypeTable) (first second : List VariableDecl) → HasLocals types first second → length first ≤ length second

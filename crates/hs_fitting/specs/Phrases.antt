@@ -6,11 +6,11 @@
 use Rattle.std.proofs.Common.{◌≡◌, ℕ, Bool, true, not, List, [], ◌∷◌, ◌++◌, nat_eq, Option, Some, None, Result, Ok, Err, refl, sym, subst, ◌∙◌, if◌then◌else◌}
 use Rattle.std.specs.List.{AllByRecursion, list_any}
 use Rattle.indexmap.specs.IndexSet.{insert_key}
+use Rattle.hs_base.specs.Entries.{all_so}
 use Rattle.hs_declarations.specs.Declarations.{block_declared}
 use Rattle.hs_expressions.specs.Binding.{IsBoundNode}
 use Rattle.hs_expressions.specs.Binding.Keeping.{IsBound, plain_bound}
 use Rattle.hs_expressions.specs.Expressions.{first_place}
-use Rattle.hs_expressions.specs.Laws.Reached.{all_so}
 use Rattle.hs_fitting.specs.Known.{IsValue, types_walks, valued_walks}
 use Rattle.hs_fitting.specs.Leaving.{scoped_walks}
 use Rattle.hs_fitting.specs.Walk.{Anywhere, Nothing, Walks, passes_walks, stops_walks, knowing_walks, unless_walks, then_walks, so_walks}

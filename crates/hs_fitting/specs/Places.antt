@@ -5,7 +5,7 @@ use Rattle.std.proofs.Common.{◌≡◌, Bool, true, false, ◌&&◌, ◌||◌, 
 use Rattle.std.proofs.lemmas.Bool.{and_parts}
 use Rattle.std.specs.List.{list_any}
 use Rattle.indexmap.specs.IndexSet.{insert_key}
-use Rattle.hs_fitting.specs.Tests.{not_false, or_true, both_true}
+use Rattle.hs_base.specs.Tests.{not_false, or_true, both_true}
 use Rattle.hs_fitting.specs.Works.{Always, AlwaysIf, passes_always, stops_always, then_always, next_always, tested_always, scoped_always}
 use Rattle.hs_linkage.specs.Works.{knowing, unless}
 use Rattle.hs_operands.specs.Constants.{constant_value}

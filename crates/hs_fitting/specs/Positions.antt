@@ -3,7 +3,7 @@
 --     definition_at             the number of a function definition is that of the definitions before it
 --     function_counts, declaration_counts, unit_counts      the numbers go on, from one external declaration and from one unit to the next
 --     declaration_static, function_static                   a name that is declared with `static` has internal linkage in the unit
-use Rattle.std.proofs.Common.{◌≡◌, ◌≤◌, ℕ, zero, suc, ◌+◌, Bool, true, ◌||◌, List, [], ◌∷◌, ◌++◌, length, slice_get, Option, Some, refl, sym, ap, subst, ◌∙◌, arith}
+use Rattle.std.proofs.Common.{◌≡◌, ◌≤◌, ℕ, suc, ◌+◌, Bool, true, ◌||◌, List, [], ◌∷◌, ◌++◌, length, slice_get, Option, Some, refl, sym, ap, subst, ◌∙◌, arith}
 use Rattle.std.proofs.lemmas.Bool.{or_left, or_right}
 use Rattle.std.proofs.lemmas.Bool.Decides.{nat_tests}
 use Rattle.std.proofs.lemmas.List.{append_assoc, append-nil, length-append}
@@ -11,8 +11,8 @@ use Rattle.std.proofs.lemmas.List.Folds.{list_any-append}
 use Rattle.std.specs.Cmp.Lexicographic.{nat_list_eq_equiv}
 use Rattle.std.specs.List.{AllByRecursion, list_any}
 use Rattle.std.specs.Prelude.{◌==◌}
-use Rattle.hs_expressions.specs.Laws.Reached.{all_appended, all_so}
-use Rattle.hs_fitting.specs.Tests.{both_true, some_same}
+use Rattle.hs_base.specs.Tests.{both_true}
+use Rattle.hs_base.specs.Entries.{all_appended, all_so, all_at}
 use Rattle.hs_linkage.specs.Definitions.{has_static, is_named, makes_static, is_internal, text_of, definition_of, definitions_in, all_definitions}
 use Rattle.hs_linkage.specs.declared.definitions.Definition.{Definition}
 use Rattle.hs_syntax.specs.Trees as syntax
@@ -21,12 +21,6 @@ use Rattle.hs_syntax.specs.declared.word.Word.{Word}
 use Rattle.hs_typer.specs.Declarators.{word_of}
 
 -- ---- lists
-
--- what is so of all entries is so of the one at a place
-pub at_place : {A : Type 0} → (holds : A → Type 0) (xs : List A) (place : ℕ) (x : A) → AllByRecursion holds xs → slice_get xs place ≡ Some x → holds x
-at_place holds [] place x are at = absurd cc
-at_place holds (y ∷ xs) zero x are at = subst holds (some_same y x at) are.0
-at_place holds (y ∷ xs) (suc place) x are at = at_place holds xs place x are.1 at
 
 -- an entry after others
 behind_at : {A : Type 0} → (xs : List A) (x : A) (more : List A) → slice_get (xs ++ x ∷ more) (length xs) ≡ Some x
@@ -98,7 +92,7 @@ pub unit_internal : (units before : List (List ExternalDeclaration)) (unit : Lis
     → units ≡ before ++ unit ∷ after → (number : ℕ) (it : Definition) → slice_get (all_definitions 0 units) number ≡ Some it
     → (it.unit == length before) ≡ true → it.internal ≡ is_internal unit it.name
 unit_internal units before unit after same number it at is =
-    at_place (IsOfPlace (length before + 0) unit) (all_definitions 0 (before ++ unit ∷ after)) number it (are_of_place 0 before unit after)
+    all_at (IsOfPlace (length before + 0) unit) (all_definitions 0 (before ++ unit ∷ after)) number it (are_of_place 0 before unit after)
     (subst (λ its. slice_get (all_definitions 0 its) number ≡ Some it) same at) (same_number it.unit (length before) is)
 
 -- ---- numbers of definitions

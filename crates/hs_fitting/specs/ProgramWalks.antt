@@ -8,9 +8,11 @@ use Rattle.std.proofs.lemmas.List.{append_assoc, append-nil, length-append}
 use Rattle.std.proofs.lemmas.Bool.Decides.{nat_tests}
 use Rattle.std.proofs.lemmas.Option.{slice_get_within}
 use Rattle.std.specs.List.{AllByRecursion}
+use Rattle.hs_base.specs.Tests.{true_false}
+use Rattle.hs_base.specs.Entries.{all_so, all_by_both}
 use Rattle.hs_expressions.specs.Binding.{IsNotedCall}
 use Rattle.hs_expressions.specs.Laws.{IsScoped}
-use Rattle.hs_expressions.specs.Laws.Reached.{all_so, prefix_then}
+use Rattle.hs_expressions.specs.Laws.Reached.{prefix_then}
 use Rattle.hs_fitting.specs.Answers.{none_some}
 use Rattle.hs_fitting.specs.BlockWalks.{block_declared_walks}
 use Rattle.hs_expressions.specs.Laws.Traced.{IsTracedAt, TracesTo}
@@ -22,13 +24,11 @@ use Rattle.hs_fitting.specs.Claims.{Claims, no_claims, IsAccounted, IsFulfilled,
 use Rattle.hs_fitting.specs.Done.{AreDone, none_done}
 use Rattle.hs_fitting.specs.FileLocals.{file_declared_locals}
 use Rattle.hs_fitting.specs.FileWalks.{file_declared_walks}
-use Rattle.hs_fitting.specs.Known.{all_by_both}
 use Rattle.hs_fitting.specs.Lasting.{all_of_prefix}
 use Rattle.hs_fitting.specs.Names.{names_of, defined_names, AreNamed, unit_named}
 use Rattle.hs_fitting.specs.Passes.{AreWhole, Passes}
 use Rattle.hs_fitting.specs.Positions.{unit_internal, unit_counts}
 use Rattle.hs_fitting.specs.Rightness.{right_later}
-use Rattle.hs_fitting.specs.Tests.{true_false}
 use Rattle.hs_fitting.specs.UnitEnds.{signed_ended, unit_before}
 use Rattle.hs_fitting.specs.Units.{AllFit, unit_fits, units_fit}
 use Rattle.hs_fitting.specs.UnitWalks.{IsRightFunction, GoneRight, GoingRight, externals_right}

@@ -3,8 +3,9 @@
 --     AreAsMany ids its                 as many types as parameters
 --     Lists s done its given            what is known after the types of parameters, if they are an answer
 --     parameters_listed                 the types of parameters (X3.159-1989 3.5.4.3)
-use Rattle.std.proofs.Common.{◌≡◌, ℕ, zero, suc, false, List, [], ◌∷◌, ◌++◌, length, slice_get, Option, Some, None, Result, Ok, Err, refl, sym, ap, subst, ◌∙◌}
+use Rattle.std.proofs.Common.{◌≡◌, ℕ, suc, false, List, [], ◌∷◌, ◌++◌, length, slice_get, Option, Some, None, Result, Ok, Err, refl, sym, ap, subst, ◌∙◌}
 use Rattle.std.proofs.lemmas.List.{append_assoc, append-nil}
+use Rattle.hs_base.specs.Entries.{entry_stays, last_there}
 use Rattle.hs_expressions.specs.Expressions.{first_place, type_by, specified, derivations, parameter_types}
 use Rattle.hs_expressions.specs.Laws.{IsConstant, IsScoped}
 use Rattle.hs_expressions.specs.Laws.Always.{Always, Reaching, gives_always, looks_always, on_types_always, then_always}
@@ -51,17 +52,6 @@ constant_named ids (entity.Function id bound) is = absurd is
 constant_named ids (entity.Typedef id) is = absurd is
 
 -- ---- lists of types
-
--- an entry stays if the list goes on after it
-entry_stays : {A : Type 0} → (xs ys : List A) (k : ℕ) (x : A) → slice_get xs k ≡ Some x → slice_get (xs ++ ys) k ≡ Some x
-entry_stays [] ys k x found = absurd cc
-entry_stays (y ∷ xs) ys zero x found = found
-entry_stays (y ∷ xs) ys (suc k) x found = entry_stays xs ys k x found
-
--- the last entry
-last_entry : {A : Type 0} → (xs : List A) (x : A) → slice_get (xs ++ x ∷ []) (length xs) ≡ Some x
-last_entry [] x = refl
-last_entry (y ∷ xs) x = last_entry xs x
 
 -- the place after it
 one_longer : {A : Type 0} → (xs : List A) (x : A) → suc (length xs) ≡ length (xs ++ x ∷ [])
@@ -140,7 +130,7 @@ module _ (words : Specification) (it : Declared) (rest : Parameters) (done : Lis
       lists_behind s p.1 done (syntax.more_parameters words it rest)
       (then_with next (then_with (λ declared. give p.0) (declare_parameter (word_of it) (length done) p.0 p.1))) before
       (declared_then p.0 p.1 (declare_parameter (word_of it) (length done) p.0 p.1) is_scoped
-      ((parameter_declared (done ++ p.0 ∷ []) (word_of it) (length done) p.0 (last_entry done p.0)).from p.1 is_scoped))
+      ((parameter_declared (done ++ p.0 ∷ []) (word_of it) (length done) p.0 (last_there done p.0)).from p.1 is_scoped))
   made_then s (Err why) scoped before = tt
 
   -- that and the others

@@ -5,6 +5,7 @@
 --     IsRightValue, value_started     the value of an expression meets all facts of expressions
 use Rattle.std.proofs.Common.{◌≡◌, Bool, true, false, Result, Ok, Err, refl, sym, subst, ◌∙◌, if◌then◌else◌}
 use Rattle.std.specs.List.{AllByRecursion}
+use Rattle.hs_base.specs.Entries.{all_appended, all_so}
 use Rattle.hs_expressions.specs.Binding.{BindsName}
 use Rattle.hs_expressions.specs.Binding.Keeping as binding
 use Rattle.hs_expressions.specs.Binding.Keeping.{IsNoted, KnowsBound, Giving, IsBound}
@@ -13,7 +14,7 @@ use Rattle.hs_expressions.specs.Expressions.{typed}
 use Rattle.hs_expressions.specs.Laws.{IsConstant, IsScoped, IsKnown, Knows}
 use Rattle.hs_expressions.specs.Laws.Always.{Reaching, Always}
 use Rattle.hs_expressions.specs.Laws.Keeping as typing
-use Rattle.hs_expressions.specs.Laws.Reached.{IsAllowedAt, Reaches, all_appended, all_so, scoped_after}
+use Rattle.hs_expressions.specs.Laws.Reached.{IsAllowedAt, Reaches, scoped_after}
 use Rattle.hs_expressions.specs.Laws.Typing as types
 use Rattle.hs_expressions.specs.Operations.{value_of}
 use Rattle.hs_fitting.specs.ConstantNumbers.{HasWideKinds}

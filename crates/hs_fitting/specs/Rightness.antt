@@ -6,9 +6,9 @@
 --     arrayed_rights, formed_rights, ..        steps that change the table
 use Rattle.std.proofs.Common.{◌≡◌, ◌+◌, ℕ, zero, suc, ◌⊎◌, inl, inr, Bool, true, false, ◌&&◌, ◌||◌, IsTrue, List, [], ◌∷◌, ◌++◌, map, Option, Some, None, Result, Ok, Err, refl, ap, sym, subst, if◌then◌else◌, arith}
 use Rattle.std.proofs.lemmas.Bool.Decides.{nat_tests}
-use Rattle.std.specs.List.{AllByRecursion, list_any}
-use Rattle.std.specs.Prelude.{slice_get, slice_set, is_some, not, nat_le}
-use Rattle.hs_expressions.specs.Laws.Grown.{GrowsTo, grows_row, grows_list, grows_struct, grows_enumeration, completed_grows, enumerated_grows}
+use Rattle.std.specs.Prelude.{slice_get, is_some, not, nat_le}
+use Rattle.hs_base.specs.Entries.{all_at, last_either, replaced_either}
+use Rattle.hs_expressions.specs.Laws.Grown.{GrowsTo, completed_grows, enumerated_grows}
 use Rattle.hs_fitting.specs.Moves.{whole_stays}
 use Rattle.hs_operands.specs.Objects.{loaded_as, loaded}
 use Rattle.hs_operands.specs.Operands as operand
@@ -46,6 +46,7 @@ use Rattle.hs_types.specs.declared.row.Row.TheVariants as row
 use Rattle.hs_types.specs.declared.row.TypeId.{TypeId}
 use Rattle.hs_types.specs.declared.types.TypeEnd.{TypeEnd}
 use Rattle.hs_types.specs.declared.types.TypeEnd.TheVariants as end
+use Rattle.hs_types.specs.TableLaws.{grows_row, grows_list, grows_struct, grows_enumeration, inserted_either}
 
 -- What a table keeps. An array of unknown length is of a complete type too (X3.159-1989 3.5.4.2).
 pub record AreRight (types : TypeTable) : Type 0 where
@@ -62,37 +63,6 @@ IsFull types (row.Enumeration number) = Unit {0}
 IsFull types (row.Struct number) = Unit {0}
 IsFull types (row.Array of length layout) = Unit {0}
 IsFull types (row.Function result parameters) = Unit {0}
-
--- ---- entries of lists
-
--- an entry of a list with one more is an old one, or the new one
-appended_either : {A : Type 0} → (xs : List A) (y : A) (k : ℕ) (x : A) → slice_get (xs ++ y ∷ []) k ≡ Some x
-    → (slice_get xs k ≡ Some x) ⊎ (y ≡ x)
-appended_either [] y zero x found = inr cc
-appended_either [] y (suc k) x found = absurd cc
-appended_either (z ∷ xs) y zero x found = inl found
-appended_either (z ∷ xs) y (suc k) x found = appended_either xs y k x found
-
--- so it is if it is put in
-inserted_either : {A : Type 0} → (b : Bool) (xs : List A) (y : A) (k : ℕ) (x : A) → slice_get (if b then xs else xs ++ y ∷ []) k ≡ Some x
-    → (slice_get xs k ≡ Some x) ⊎ (y ≡ x)
-inserted_either true xs y k x found = inl found
-inserted_either false xs y k x found = appended_either xs y k x found
-
--- or replaces another one
-replaced_either : {A : Type 0} → (xs : List A) (n : ℕ) (y : A) (k : ℕ) (x : A) → slice_get (slice_set xs n y) k ≡ Some x
-    → (slice_get xs k ≡ Some x) ⊎ (y ≡ x)
-replaced_either [] n y k x found = inl found
-replaced_either (z ∷ xs) zero y zero x found = inr cc
-replaced_either (z ∷ xs) zero y (suc k) x found = inl found
-replaced_either (z ∷ xs) (suc n) y zero x found = inl found
-replaced_either (z ∷ xs) (suc n) y (suc k) x found = replaced_either xs n y k x found
-
--- what all entries have, each has
-entry_has : {A : Type 0} → (holds : A → Type 0) (xs : List A) → AllByRecursion holds xs → (k : ℕ) (x : A) → slice_get xs k ≡ Some x → holds x
-entry_has holds [] all k x found = absurd cc
-entry_has holds (y ∷ xs) all zero x found = let same : y ≡ x = cc in subst holds same all.0
-entry_has holds (y ∷ xs) all (suc k) x found = entry_has holds xs all.1 k x found
 
 -- ---- one thing more
 
@@ -111,7 +81,7 @@ right_row its types fits full are =
   where
     old_or_new : (it : Row) (place : ℕ) → slice_get (with_row its types).rows place ≡ Some it
         → (slice_get types.rows place ≡ Some it) ⊎ (its ≡ it)
-    old_or_new it place at = inserted_either (list_any ((row_eq.ghosts).eq its) types.rows) types.rows its place it at
+    old_or_new it place at = inserted_either (row_eq.ghosts).eq types.rows its place it at
 
     fits_either : (it : Row) (place : ℕ) → (slice_get types.rows place ≡ Some it) ⊎ (its ≡ it) → FitsRow types it
     fits_either it place (inl old) = are.right.rows place it old
@@ -146,7 +116,7 @@ right_list list types are = right_same types (with_list list types) (grows_list 
 pub right_struct : (types : TypeTable) → AreRight types → AreRight (with_struct types)
 right_struct types are =
     right_same types (with_struct types) (grows_struct types) refl
-    (λ number body at. old_body number body (appended_either types.structs None number (Some body) at)) are
+    (λ number body at. old_body number body (last_either types.structs None number (Some body) at)) are
   where
     old_body : (number : ℕ) (body : Body) → (slice_get types.structs number ≡ Some (Some body)) ⊎ (None ≡ Some body) → IsBody types body
     old_body number body (inl old) = are.right.bodies number body old
@@ -179,11 +149,11 @@ right_basic =
     record {
       right = record {
         basic = λ place it at. at;
-        rows = λ place it at. entry_has (FitsRow basic_types) basic_rows (tt, (tt, (tt, (tt, (tt, (tt, (tt, (tt, (tt, (tt, (tt, (tt, tt)))))))))))) place it at;
+        rows = λ place it at. all_at (FitsRow basic_types) basic_rows place it (tt, (tt, (tt, (tt, (tt, (tt, (tt, (tt, (tt, (tt, (tt, (tt, tt)))))))))))) at;
         bodies = λ number body at. absurd cc;
       };
-      elements = λ id of at. entry_has (IsFull basic_types) basic_rows (tt, (tt, (tt, (tt, (tt, (tt, (tt, (tt, (tt, (tt, (tt, (tt, tt)))))))))))) id.number
-          (row.OpenArray of) at;
+      elements = λ id of at. all_at (IsFull basic_types) basic_rows id.number (row.OpenArray of)
+          (tt, (tt, (tt, (tt, (tt, (tt, (tt, (tt, (tt, (tt, (tt, (tt, tt)))))))))))) at;
     }
 
 -- and before the first declaration

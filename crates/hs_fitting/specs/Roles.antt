@@ -2,11 +2,11 @@
 --     role_fits       a declaration that fits its role has the parameters and the result of the role
 use Rattle.std.proofs.Common.{◌≡◌, ℕ, zero, suc, Bool, true, List, [], ◌∷◌, Option, Some, None, IsTrue, ap, sym, ◌∙◌, if◌then◌else◌}
 use Rattle.std.specs.Prelude.{slice_get}
+use Rattle.hs_base.specs.Tests.{both_tests}
 use Rattle.hs_expressions.specs.Binding.{IsList, IsSignature}
 use Rattle.hs_expressions.specs.Roles as test
 use Rattle.hs_expressions.specs.Roles.{answer_of, shapes_of, is_answer, is_end, next_of, first_and, are_shaped, is_filled, fills, is_plain, fits_parameters, fits_row, fits_routine, fits_role}
 use Rattle.hs_fitting.specs.NotingRoles.{forms_of, is_of, are_of, same_forms}
-use Rattle.hs_fitting.specs.Tests.{both_tests}
 use Rattle.hs_table.specs.declared.role.Role.{Role}
 use Rattle.hs_table.specs.declared.role.Role.TheVariants as role
 use Rattle.hs_table.specs.declared.routine.Routine.{Routine}

@@ -87,7 +87,7 @@ struct_complete types id n at has =
     by_body (Some body) is = refl
 
 -- one row has one number
-one_number : (o : Option Row) (m n : ℕ) → o ≡ Some (row.Struct m) → o ≡ Some (row.Struct n) → m ≡ n
+pub one_number : (o : Option Row) (m n : ℕ) → o ≡ Some (row.Struct m) → o ≡ Some (row.Struct n) → m ≡ n
 one_number o m n is is' = cc
 
 -- Types of one category that are the same if one of them is complete are one.

@@ -3,10 +3,11 @@
 --     typed_right, defined_right          and starts with constants for its scalars
 use Rattle.std.proofs.Common.{◌≡◌, ℕ, zero, suc, Bool, true, false, ◌||◌, List, [], ◌∷◌, slice_get, slice_set, Option, Some, None, refl, sym, ap, subst, ◌∙◌, if◌then◌else◌}
 use Rattle.std.specs.List.{AllByRecursion}
+use Rattle.hs_base.specs.Options.{some_same}
+use Rattle.hs_base.specs.Entries.{all_at}
+use Rattle.hs_base.specs.Tests.{not_first}
 use Rattle.hs_fitting.specs.Claims.{Claims, ObjectsStay, Endures, IsObjectRight, category_at}
 use Rattle.hs_fitting.specs.Links.{objects_self}
-use Rattle.hs_fitting.specs.Positions.{at_place}
-use Rattle.hs_fitting.specs.Tests.{some_same}
 use Rattle.hs_linkage.specs.Objects.{object_as, object_with}
 use Rattle.hs_linkage.specs.declared.translator.StaticObject.{StaticObject}
 use Rattle.hs_linkage.specs.declared.translator.Translator.{Translator}
@@ -61,11 +62,6 @@ all_set holds [] place new are is = tt
 all_set holds (it ∷ rest) zero new are is = (is, are.1)
 all_set holds (it ∷ rest) (suc place) new are is = (are.0, all_set holds rest place new are.1 is)
 
--- neither of two tests is met
-not_first : (a b : Bool) → (a || b) ≡ false → a ≡ false
-not_first true b is = is
-not_first false b is = refl
-
 module _ (program : TypedProgram) (its : Claims) (m : Translator) where
   -- an object of the category of another one is no function
   no_function : (id : TypeId) (it : StaticObject) → IsObjectRight program its m it
@@ -80,7 +76,7 @@ module _ (program : TypedProgram) (its : Claims) (m : Translator) where
       (if b then objects else slice_set objects place (record it { variable = record it.variable { type_id = id } }))
   right_if id objects place it complete true test at same are = are
   right_if id objects place it complete false test at same are =
-      let is : IsObjectRight program its m it = at_place (IsObjectRight program its m) objects place it are at in
+      let is : IsObjectRight program its m it = all_at (IsObjectRight program its m) objects place it are at in
       let empty : it.parts ≡ [] = is.undefined (not_first it.defined complete test) in
       all_set (IsObjectRight program its m) objects place (record it { variable = record it.variable { type_id = id } }) are
       (record {
@@ -104,7 +100,7 @@ module _ (program : TypedProgram) (its : Claims) (m : Translator) where
       → AllByRecursion (IsObjectRight program its m) (object_with id parts o objects place)
   defined_right id parts objects place None at same fits are = are
   defined_right id parts objects place (Some it) at same fits are =
-      let is : IsObjectRight program its m it = at_place (IsObjectRight program its m) objects place it are at in
+      let is : IsObjectRight program its m it = all_at (IsObjectRight program its m) objects place it are at in
       all_set (IsObjectRight program its m) objects place
       (record { variable = record it.variable { type_id = id }; parts = parts; defined = true }) are
       (record { category = no_function id it is same; undefined = λ undefined. absurd cc; filled = fits })

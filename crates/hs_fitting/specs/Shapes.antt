@@ -8,10 +8,10 @@
 --     agree_signed                       the list of parameters of a function type that agrees with itself ends
 use Rattle.std.proofs.Common.{◌≡◌, ◌≤◌, ◌⊎◌, inl, inr, ℕ, zero, suc, Bool, true, false, List, [], ◌∷◌, length, slice_get, Option, Some, None, refl, sym, ap, subst, ◌∙◌, if◌then◌else◌, arith}
 use Rattle.std.specs.Prelude.{◌&&◌, ◌||◌}
+use Rattle.hs_base.specs.Tests.{both_tests, either_test}
 use Rattle.hs_expressions.specs.Binding.{IsList, IsSignature, AllAlike, IsLike}
 use Rattle.hs_expressions.specs.Binding.Calls.{end_or_more, same_first, same_others, same_result, same_parameters}
 use Rattle.hs_fitting.specs.Listed.{list_stays}
-use Rattle.hs_fitting.specs.Tests.{both_tests}
 use Rattle.hs_linkage.specs.Linkage.{composite}
 use Rattle.hs_operands.specs.Conversions.{same_type}
 use Rattle.hs_operands.specs.Laws.Numbers.{same-is}
@@ -153,11 +153,6 @@ module _ (types : TypeTable) where
 
 -- ---- types of objects that agree
 
--- one of two tests
-either_one : (a b : Bool) → (a || b) ≡ true → (a ≡ true) ⊎ (b ≡ true)
-either_one true b is = inl refl
-either_one false b is = inr is
-
 -- two rows that are there, of one category, which is not that of functions
 abbrev pub AreObjects : Option Row → Option Row → Type 0
 AreObjects x y = (its : Category) × (category_of_row x ≡ Some its) × (category_of_row y ≡ Some its) × (its ≡ of_function → ⊥)
@@ -274,7 +269,7 @@ one_or_objects : (old : TypeTable) (o : Origins) (a b : TypeId) (test : TypeId �
     → AreOneOrObjects old a b
 one_or_objects old o a b test is =
     outer
-    (either_one (same_type a b || leaves_agree old o (row_of old a) (row_of old b))
+    (either_test (same_type a b || leaves_agree old o (row_of old a) (row_of old b))
     (both_are test (inside_both (row_of old a) (row_of old b))) is)
   where
     -- the first two of them
@@ -285,7 +280,7 @@ one_or_objects old o a b test is =
     -- all of them
     outer : ((same_type a b || leaves_agree old o (row_of old a) (row_of old b)) ≡ true)
         ⊎ (both_are test (inside_both (row_of old a) (row_of old b)) ≡ true) → AreOneOrObjects old a b
-    outer (inl front) = inner (either_one (same_type a b) (leaves_agree old o (row_of old a) (row_of old b)) front)
+    outer (inl front) = inner (either_test (same_type a b) (leaves_agree old o (row_of old a) (row_of old b)) front)
     outer (inr both) = inr (inside_rows test (row_of old a) (row_of old b) both)
 
 -- down to so many types inside

@@ -3,12 +3,12 @@
 --     may_start_solid                 so it is solid
 --     IsSized, sized_started          the type after the initialiser
 use Rattle.std.proofs.Common.{◌≡◌, ℕ, true, false, ◌||◌, Option, Some, None, is_some, Result, Ok, Err, refl, ap, sym, subst, ◌∙◌}
+use Rattle.hs_base.specs.Tests.{or_false}
 use Rattle.hs_expressions.specs.Binding.Keeping.{Giving}
 use Rattle.hs_fitting.specs.Moves.{IsWhole}
 use Rattle.hs_fitting.specs.Readying.{Started}
 use Rattle.hs_fitting.specs.Scalars.{IsSolidRow, IsSolid, open_not_whole}
 use Rattle.hs_fitting.specs.Staying.{row_stays}
-use Rattle.hs_fitting.specs.Tests.{or_false}
 use Rattle.hs_fitting.specs.Whole.{MayStart}
 use Rattle.hs_initialisers.specs.Initialisers.{sized_by, sized}
 use Rattle.hs_operands.specs.Laws.Added.{row_found}

@@ -3,7 +3,7 @@
 --     expressions_so                      for those of a statement or declaration
 --     block_so                            for the statements and declarations inside a block
 use Rattle.std.proofs.Common.{Option, Some, None}
-use Rattle.hs_expressions.specs.Laws.Reached.{all_so}
+use Rattle.hs_base.specs.Entries.{all_so}
 use Rattle.hs_tree.specs.Inside.{Node, right, left, Phrase, of_statement, of_declaration, EachRight, EachLeft, EachOf, EachStatement, EachBlock, EachOfStatements, EachExpression, IfAny, InStart}
 use Rattle.hs_tree.specs.Trees as tree
 use Rattle.hs_tree.specs.Trees.{RightValue, LeftValue, RightValues, Starting, TypedStatement, TypedBlock, TypedStatements}

@@ -1,14 +1,14 @@
 -- Statements move on what is known of a program: scopes that begin in them end, and the variables that they make stay.
 --     scoped_moved                    a step in a scope of its own
 --     body_moved                      the body of a function
-use Rattle.std.proofs.Common.{◌≡◌, suc, true, not, List, [], ◌∷◌, ◌++◌, nat_eq, Option, Some, None, Result, Ok, Err, refl, sym, ap, subst, ◌∙◌}
+use Rattle.std.proofs.Common.{suc, true, not, List, [], ◌∷◌, ◌++◌, nat_eq, Option, Some, None, Result, Ok, Err, refl, sym, ap, subst, ◌∙◌}
 use Rattle.std.specs.List.{list_any}
 use Rattle.indexmap.specs.IndexSet.{insert_key}
 use Rattle.hs_declarations.specs.Declarations.{block_declared}
 use Rattle.hs_expressions.specs.Expressions.{typed, enter, leave, first_place}
 use Rattle.hs_expressions.specs.Operations.{value_of}
-use Rattle.hs_expressions.specs.Laws.{HasMore, IsConstant, IsTagAt, IsScoped, AreOutside}
-use Rattle.hs_expressions.specs.Laws.Always.{Anything, deeper, value_always, of_types_always}
+use Rattle.hs_expressions.specs.Laws.{IsConstant, IsTagAt, IsScoped, AreOutside}
+use Rattle.hs_expressions.specs.Laws.Always.{Anything, deeper, value_always, of_types_always, same_more}
 use Rattle.hs_expressions.specs.Laws.Extending.{typed_always}
 use Rattle.hs_expressions.specs.Laws.Reached.{IsAllowedAt, Reaches, left_entered}
 use Rattle.hs_expressions.specs.Laws.Traced.{traced_left}
@@ -16,7 +16,7 @@ use Rattle.hs_fitting.specs.Blocks.{block_declared_moved}
 use Rattle.hs_fitting.specs.Moving.{Moving, Moved, passes_moved, stops_moved, knowing_moved, unless_moved, then_moved, typing_moved}
 use Rattle.hs_linkage.specs.Works.{Work, knowing, unless}
 use Rattle.hs_linkage.specs.declared.translator.Translator.{Translator}
-use Rattle.hs_names.specs.Scopes.{Scoped, Declared, left}
+use Rattle.hs_names.specs.Scopes.{left}
 use Rattle.hs_operands.specs.Assignments.{assigned}
 use Rattle.hs_operands.specs.Constants.{constant_value}
 use Rattle.hs_operands.specs.Conversions.{truth}
@@ -47,10 +47,6 @@ entered_scoped s scoped =
       tags = deeper s.tags.level s.tags.declarations scoped.tags;
       closed = scoped.closed;
     }
-
--- what ends leaves the names and the tags as they were
-same_more : {E : Type 0} → (Holds : Declared E → Type 0) (old new : Scoped E) → new ≡ old → HasMore Holds old new
-same_more Holds old new same = ([], tt, same)
 
 pub left_reaches : (s new : Typer) → IsScoped s → Reaches Anything (enter s) new → Reaches Anything s (leave new)
 left_reaches s new scoped reached =

@@ -7,6 +7,7 @@ use Rattle.std.proofs.Common.{◌≡◌, ◌<◌, ◌⊎◌, inl, inr, ℕ, List
 use Rattle.std.specs.Prelude.{slice_get, is_some, IsTrue}
 use Rattle.hs_expressions.specs.Binding.{AllBy, IsLikeBy, IsSignature}
 use Rattle.hs_expressions.specs.Laws.Traced.{HasBodyIn, HasBrace, Traces}
+use Rattle.hs_fitting.specs.Sameness.{one_number}
 use Rattle.hs_tree.specs.Kinds.{AreAlike, of_struct, category_of_row}
 use Rattle.hs_typer.specs.declared.origins.Brace.{Brace}
 use Rattle.hs_typer.specs.declared.origins.Origin.{Origin}
@@ -123,10 +124,6 @@ pub record AreClosed (base : ℕ) (structs : List (Option Body)) (o : Origins) (
   pub alike : AreAlike types a b
   pub apart : (m n : ℕ) → row_of types a ≡ Some (row.Struct m) → row_of types b ≡ Some (row.Struct n)
       → AreOneIn o m n ⊎ AreApart base structs m n
-
--- one row has one number
-one_number : (o : Option Row) (m n : ℕ) → o ≡ Some (row.Struct m) → o ≡ Some (row.Struct n) → m ≡ n
-one_number o m n is is' = cc
 
 -- one struct has one brace
 one_brace : (o : Option Origin) (x y : Origin) (a b : Brace) → o ≡ Some x → o ≡ Some y → x.brace ≡ Some a → y.brace ≡ Some b → a ≡ b

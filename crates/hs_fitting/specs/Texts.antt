@@ -3,13 +3,13 @@
 --     text_parts                                the law
 use Rattle.std.proofs.Common.{◌≡◌, ◌≤◌, ◌<◌, ◌+◌, ◌*◌, ◌==◌, ℕ, suc, Bool, true, false, List, [], ◌∷◌, length, take, Option, Some, None, Ok, refl, ap, sym, subst, ◌∙◌, if◌then◌else◌, arith, length-take}
 use Rattle.std.specs.Prelude.{nat_le}
+use Rattle.hs_base.specs.Options.{some_same}
 use Rattle.hs_fitting.specs.Answers.{accepted}
 use Rattle.hs_fitting.specs.Moves.{IsWhole}
 use Rattle.hs_fitting.specs.Nexts.{if_some, at_most, element_within, array_size}
 use Rattle.hs_fitting.specs.PartLists.{AreParts, characters_parts}
 use Rattle.hs_fitting.specs.Scalars.{Subobject, Scalars, IsAt, IsSolid, open_not_whole}
 use Rattle.hs_fitting.specs.Staying.{text_kind_stays, element_stays, length_stays}
-use Rattle.hs_fitting.specs.Tests.{some_same}
 use Rattle.hs_initialisers.specs.Aggregates.{is_character, character_row, character_of, text_kind}
 use Rattle.hs_initialisers.specs.Initialisers.{characters, that_fit, text_with, text_as, text_by, text_of}
 use Rattle.hs_operands.specs.Laws.Stays.{number_kind-stays}

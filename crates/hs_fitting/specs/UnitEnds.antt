@@ -7,15 +7,14 @@ use Rattle.std.proofs.Common.{◌≡◌, ◌<◌, ◌≤◌, ◌⊎◌, inl, inr
 use Rattle.std.specs.Prelude.{◌==◌}
 use Rattle.std.specs.List.{AllByRecursion}
 use Rattle.std.proofs.lemmas.Option.{slice_get_within}
+use Rattle.hs_base.specs.Options.{some_same}
+use Rattle.hs_base.specs.Entries.{all_appended, all_so, all_by_both, all_at}
 use Rattle.hs_expressions.specs.Binding.{IsList}
-use Rattle.hs_expressions.specs.Laws.Reached.{all_appended, all_so}
-use Rattle.hs_fitting.specs.Claims.{Claims, ObjectsStay, RefersTo, IsTypedIn, IsBoundAs, IsExternal, IsSigned, IsRoutineDeclared, IsCallClaimed, IsRegistered, IsRegisteredAs, Endures, IsObjectRight, Stands, Proceeds}
+use Rattle.hs_expressions.specs.Binding.Calls.{same_parameters}
+use Rattle.hs_fitting.specs.Claims.{Claims, IsTypedIn, IsSigned, IsRoutineDeclared}
 use Rattle.hs_fitting.specs.Entities.{unfit_self}
-use Rattle.hs_fitting.specs.Known.{all_by_both}
 use Rattle.hs_fitting.specs.Listed.{list_stays}
-use Rattle.hs_fitting.specs.Positions.{at_place}
 use Rattle.hs_fitting.specs.Shapes.{agree_signed}
-use Rattle.hs_fitting.specs.Tests.{some_same}
 use Rattle.hs_linkage.specs.Definitions.{definitions_in, all_definitions}
 use Rattle.hs_linkage.specs.Externals.{type_of_entity, unfit}
 use Rattle.hs_linkage.specs.declared.definitions.Definition.{Definition}
@@ -59,9 +58,6 @@ list_within types list (id ∷ ids) is = slice_get_within types.lists list.numbe
 shorter : (a b c : ℕ) → a ≤ b → b < c → a < c
 shorter a b c is is' = omega (arith, is, is')
 
-one_function : (o : Option Row) (a b : TypeId) (x y : ListId) → o ≡ Some (row.Function a x) → o ≡ Some (row.Function b y) → x ≡ y
-one_function o a b x y is is' = cc
-
 -- a type that agrees with itself is known whole
 signed_type : (old types : TypeTable) (o : _) (id : TypeId) → Grows old types → agree old o id id ≡ true → category_of old id ≡ Some of_function
     → (result : TypeId) (list : ListId) → row_of types id ≡ Some (row.Function result list)
@@ -71,7 +67,7 @@ signed_type old types o id grows agrees is result list same =
     let one = agree_signed old o id agrees found.0 found.1.0 found.1.1 in
     let here : IsList types found.1.0 one.0 = list_stays old types grows found.1.0 one.0 one.1 in
     let one_list : found.1.0 ≡ list
-    = one_function (row_of types id) found.0 result found.1.0 list (grows.rows id.number (row.Function found.0 found.1.0) found.1.1) same in (
+    = same_parameters (row_of types id) found.0 result found.1.0 list (grows.rows id.number (row.Function found.0 found.1.0) found.1.1) same in (
       one.0,
       subst (λ list. IsList types list one.0) one_list here,
       shorter (length one.0) found.1.0.number (length types.lists) one.2 (list_within types found.1.0 one.0 here),
@@ -153,7 +149,7 @@ pub unit_before : (units before after : List (List ExternalDeclaration)) → uni
     → number < length (all_definitions 0 before) → slice_get (all_definitions 0 units) number ≡ Some it → it.unit < length before
 unit_before units before after are number it less at =
     none_more it.unit (length before)
-    (at_place (λ it. it.unit < 0 + length before) (all_definitions 0 before) number it (all_below 0 before)
+    (all_at (λ it. it.unit < 0 + length before) (all_definitions 0 before) number it (all_below 0 before)
     (first_ones (all_definitions 0 before) (all_definitions (0 + length before) after) number it less
     (subst (λ all. slice_get all number ≡ Some it) (ap (all_definitions 0) are ∙ all_appended_units before after) at)))
   where

@@ -6,9 +6,9 @@ use Rattle.std.proofs.Common.{◌≡◌, ℕ, suc, ◌+◌, Bool, true, List, []
 use Rattle.std.specs.Prelude.{◌==◌}
 use Rattle.std.proofs.lemmas.List.{append_assoc, append-nil}
 use Rattle.std.specs.List.{AllByRecursion}
+use Rattle.hs_base.specs.Entries.{all_appended}
 use Rattle.hs_declarations.specs.Declarations.{block_declared, file_declared}
 use Rattle.hs_expressions.specs.Laws.{IsScoped}
-use Rattle.hs_expressions.specs.Laws.Reached.{all_appended}
 use Rattle.hs_fitting.specs.Answers.{accepted}
 use Rattle.hs_fitting.specs.Bodies.{DefinedRight, DefiningRight}
 use Rattle.hs_fitting.specs.Claims.{Claims, Endures, Stands, Proceeds}

@@ -4,7 +4,7 @@
 --     FunctionsFit, functions_fit  those of all units
 use Rattle.std.proofs.Common.{◌≡◌, ℕ, suc, List, [], ◌∷◌, length, IsTrue, Option, Some, None, Result, Ok, Err, refl, subst}
 use Rattle.std.specs.List.{AllByRecursion}
-use Rattle.hs_expressions.specs.Laws.Reached.{all_appended, all_so}
+use Rattle.hs_base.specs.Entries.{all_appended, all_so}
 use Rattle.hs_expressions.specs.Laws.{IsScoped}
 use Rattle.hs_fitting.specs.Declaring.{file_declared_moved}
 use Rattle.hs_fitting.specs.Defining.{FitsGiven, defined_fits, gives_stays}

@@ -4,6 +4,7 @@
 --         from every place of the text that meets pre, what is given meets after there, and in a program that continues it, holds
 --     then_walks, ..                             steps one after another
 use Rattle.std.proofs.Common.{◌≡◌, ℕ, Bool, true, false, List, slice_get, Option, Some, None, Result, Ok, Err, refl, sym, subst, ◌∙◌, if◌then◌else◌}
+use Rattle.hs_base.specs.Options.{some_none}
 use Rattle.hs_expressions.specs.Binding.Keeping.{IsNoted, noted_first, noted_second}
 use Rattle.hs_expressions.specs.Laws.{IsPrefix, IsScoped}
 use Rattle.hs_expressions.specs.Laws.Always.{Anything}
@@ -13,7 +14,6 @@ use Rattle.hs_fitting.specs.Declaring.{either_moved}
 use Rattle.hs_fitting.specs.Entities.{all_by_among}
 use Rattle.hs_fitting.specs.Moves.{Moves}
 use Rattle.hs_fitting.specs.Moving.{Moved, Moving, passes_moved, stops_moved, knowing_moved, unless_moved, then_moved}
-use Rattle.hs_fitting.specs.Tests.{some_none}
 use Rattle.hs_linkage.specs.Works.{Work, work_with, ◌>>=◌, pass, stop, knowing, same_work, unless}
 use Rattle.hs_linkage.specs.declared.definitions.Definition.{Definition}
 use Rattle.hs_linkage.specs.declared.translator.Translator.{Translator}

@@ -6,12 +6,12 @@
 --     inside_nested                   a list in braces for that part
 --     nested_end, nested_count        where what has begun ends
 use Rattle.std.proofs.Common.{◌≡◌, ◌≤◌, ◌+◌, ◌*◌, ℕ, zero, suc, Bool, true, false, List, [], ◌∷◌, Option, Some, None, is_some, refl, sym, subst, ap, ◌∙◌, if◌then◌else◌, arith}
+use Rattle.hs_base.specs.Options.{some_same}
 use Rattle.hs_fitting.specs.Answers.{none_some}
 use Rattle.hs_fitting.specs.Moves.{IsWhole}
 use Rattle.hs_fitting.specs.Nexts.{next_known}
 use Rattle.hs_fitting.specs.Scalars.{Aggregate, Subobject, Scalars, Within, IsAt, IsSolid, room, Beyond, Next, whole_solid, whole_room, whole_at, open_not_whole}
 use Rattle.hs_fitting.specs.Staying.{next_stays, takes_stays}
-use Rattle.hs_fitting.specs.Tests.{some_same}
 use Rattle.hs_initialisers.specs.Aggregates.{next_in, advanced, fresh, unfilled, takes, Reached, reached_by, reached_within, reached_in, reached, whole_by, whole_in, whole, count_begun, most_types}
 use Rattle.hs_operands.specs.Laws.Made.{either_way}
 use Rattle.hs_tree.specs.Kinds.{is_scalar}

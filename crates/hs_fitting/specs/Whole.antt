@@ -2,6 +2,7 @@
 --     MayStart types id               it is one of both
 --     starting_whole                  the type of an automatic object after its initialiser
 use Rattle.std.proofs.Common.{◌≡◌, ℕ, Bool, true, false, ◌&&◌, ◌||◌, List, [], length, Option, Some, None, is_some, Result, Ok, Err, if◌then◌else◌, refl, sym, ◌∙◌}
+use Rattle.hs_base.specs.Tests.{or_false}
 use Rattle.hs_expressions.specs.Expressions.{typed}
 use Rattle.hs_expressions.specs.Operations.{value_of}
 use Rattle.hs_expressions.specs.Laws.{IsConstant, IsScoped}
@@ -10,7 +11,6 @@ use Rattle.hs_expressions.specs.Laws.Extending.{typed_always}
 use Rattle.hs_expressions.specs.Laws.Reached.{scoped_after}
 use Rattle.hs_fitting.specs.Initialising.{alone_always, braced_always}
 use Rattle.hs_fitting.specs.Moves.{IsWhole, whole_stays}
-use Rattle.hs_fitting.specs.Tests.{or_false}
 use Rattle.hs_initialisers.specs.Aggregates.{text_kind, count_begun}
 use Rattle.hs_initialisers.specs.Initialisers.{is_string, braced, all_of, sized_by, sized, alone, initialised, assigned_start, constant_start, starting, with_parts}
 use Rattle.hs_operands.specs.Assignments.{assigned, assigned_pointer, assigned_number}

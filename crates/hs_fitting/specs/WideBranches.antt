@@ -1,6 +1,7 @@
 -- A conditional expression computes in promoted kinds, if its branches do (X3.159-1989 3.3.15).
 --     conditional_wide                the law
 use Rattle.std.proofs.Common.{◌&&◌, Option, Some, None, Ok, if◌then◌else◌}
+use Rattle.hs_base.specs.Tests.{whichever}
 use Rattle.hs_fitting.specs.ConstantNumbers.{HasWideKinds}
 use Rattle.hs_operands.specs.Assignments.{pointers_chosen, pointer_branches, other_branches, branches_by, conditional_of}
 use Rattle.hs_operands.specs.Constants.{is_null_constant}
@@ -16,7 +17,7 @@ use Rattle.hs_types.specs.Rows.{integer_id}
 use Rattle.hs_types.specs.TypeTables.{TypeTable}
 use Rattle.hs_types.specs.declared.integer.Integer.{Integer}
 use Rattle.hs_types.specs.declared.row.TypeId.{TypeId}
-use Rattle.hs_fitting.specs.WideOperators.{MakesWide, whichever, kind_wide, pointer_wide}
+use Rattle.hs_fitting.specs.WideOperators.{MakesWide, kind_wide, pointer_wide}
 
 module _ (types : TypeTable) where
   -- `c ? a : b`

@@ -2,6 +2,7 @@
 --     MakesWide given                 what is given computes in promoted kinds
 --     unary_wide, arithmetic_wide, .. one lemma for each operator
 use Rattle.std.proofs.Common.{ℕ, ◌==◌, Bool, true, false, ◌&&◌, Option, Some, None, Result, Ok, if◌then◌else◌}
+use Rattle.hs_base.specs.Tests.{whichever}
 use Rattle.hs_fitting.specs.ConstantNumbers.{HasWideKinds, promoted_wide, common_wide}
 use Rattle.hs_operands.specs.Answers.{◌>>=◌}
 use Rattle.hs_operands.specs.Assignments.{assigned_number, assigned, assign_of, update_with, direction, advance_by, update_by, update_of, post_advance_by, post_update_by, post_update_of, cast_of, as_pointer}
@@ -34,12 +35,6 @@ use Rattle.hs_types.specs.declared.row.TypeId.{TypeId}
 -- what is given computes in promoted kinds
 abbrev pub MakesWide : Result RightValue OperandEnd → Type 0
 MakesWide given = Makes HasWideKinds given
-
--- both ways of a test
-pub whichever : {A : Type 0} → (holds : A → Type 0) (test : Bool) {here there : A} → holds here → holds there
-    → holds (if test then here else there)
-whichever holds true is is' = is
-whichever holds false is is' = is'
 
 -- an operand that is a number, and two
 number_makes : (at : Place) (o : Option Integer) (make : Integer → RightValue) → ((its : Integer) → HasWideKinds (make its))

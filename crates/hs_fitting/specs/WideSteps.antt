@@ -3,10 +3,11 @@
 --     Gives holds step                what the step gives meets the fact, whatever is known before it
 --     looks_gives, then_gives, ..     in the forms that typing is made of
 use Rattle.std.proofs.Common.{ℕ, Bool, true, false, List, length, Option, Some, None, Result, Ok, Err, refl, if◌then◌else◌}
+use Rattle.hs_base.specs.Tests.{whichever}
 use Rattle.hs_expressions.specs.Operations.{value_of, as_value, as_object, bound_call, routine_call, call_operand}
 use Rattle.hs_expressions.specs.Roles.{fits_role}
 use Rattle.hs_fitting.specs.ConstantNumbers.{HasWideKinds}
-use Rattle.hs_fitting.specs.WideOperators.{MakesWide, whichever}
+use Rattle.hs_fitting.specs.WideOperators.{MakesWide}
 use Rattle.hs_operands.specs.Assignments.{called}
 use Rattle.hs_operands.specs.Objects.{loaded_as, loaded}
 use Rattle.hs_operands.specs.Operands as operand

@@ -1,17 +1,12 @@
 -- A role that acts on one block of the heap.
-use Rattle.std.proofs.Common.{◌≡◌, ◌-◌, ℕ, zero, suc, List, Some, Result, Ok, Err, ap, subst, ◌∙◌, slice_get, slice_set, get_or}
+use Rattle.std.proofs.Common.{◌≡◌, ◌-◌, ℕ, zero, suc, List, Some, Result, Ok, Err, ap, subst, ◌∙◌, slice_get, get_or}
 use native.Mathlib.Numerals.{unary_clauses}
-use Rattle.std.proofs.lemmas.List.{set-get_or}
 use Rattle.std.proofs.lemmas.Option.{get_or_from_slice_get}
 use Rattle.hs_heap.specs.Blocks.{Block, IsCopied, RoleActs}
 use Rattle.hs_heap.specs.declared.cell.Cell.{Cell}
 use Rattle.hs_heap.specs.Memory.{Memory, ActsAs, block_at, put_block}
 use Rattle.hs_heap.specs.declared.stop.HeapStop.{HeapStop}
-
--- what is there, put there again
-pub same_there : (blocks : List Block) (place : ℕ) (block : Block) → slice_get blocks place ≡ Some block → slice_set blocks place block ≡ blocks
-same_there blocks place block there =
-    subst (λ it. slice_set blocks place it ≡ blocks) (get_or_from_slice_get blocks place block block there) (set-get_or blocks place block)
+use Rattle.hs_heap.specs.BlockLaws.{same_there}
 
 module _ (blocks : List Block) (number shifts : ℕ) where
   acted_as : (old new : Block) → slice_get blocks (number - 1) ≡ Some old → (wanted : Result Block HeapStop) (result : Result Unit HeapStop)

@@ -2,9 +2,9 @@
 use Rattle.std.proofs.Common.{◌≡◌, ◌+◌, ◌-◌, ℕ, List, Some, sym, ap, ◌∙◌, slice_get, slice_set, get_or, arith, take, drop, []}
 use Rattle.std.proofs.lemmas.List.{set-set, set_comm, get_or-set_same, get_or-set_other}
 use Rattle.std.proofs.lemmas.Option.{get_or_from_slice_get, slice_get_within}
-use Rattle.hs_heap.proofs.Acting.{same_there}
 use Rattle.hs_heap.specs.Blocks.{Block, with_cells}
 use Rattle.hs_heap.specs.declared.cell.Cell.{Cell}
+use Rattle.hs_heap.specs.BlockLaws.{same_there}
 
 -- a block that was taken out and put back, while another one was changed
 pub put_back : (blocks : List Block) (a b : ℕ) (first out changed back : Block) → (a ≡ b → ⊥) → slice_get blocks a ≡ Some first → back ≡ first

@@ -12,10 +12,9 @@ use Rattle.hs_heap.specs.Blocks.{Block, with_cells, place_for, places_of, range_
 use Rattle.hs_heap.specs.Memory.{Memory, IsKept, IsMarked, IsListed, IsCopiedBetween, ActsAs, block_at, put_block}
 use Rattle.hs_heap.specs.declared.cell.Cell.{Cell}
 use Rattle.hs_heap.specs.declared.cell.Spot.{Spot}
-use Rattle.hs_heap.specs.declared.presence.Presence.{Presence}
-use Rattle.hs_heap.specs.declared.presence.Presence.TheVariants.{Present, Emptied, Purged, Disposed}
 use Rattle.hs_heap.specs.declared.stop.HeapStop.{HeapStop}
 use Rattle.hs_heap.specs.declared.stop.HeapStop.TheVariants as stop
+use Rattle.hs_heap.specs.BlockLaws.{past_tests, reach_among}
 
 -- ---- the cells that a pointer reaches lie in the block
 
@@ -31,19 +30,6 @@ range_if n count size at false test same = absurd cc
 range_inside : (offset : ℤ) (count size at : ℕ) → range_at offset count size ≡ Ok at → at + count ≤ size
 range_inside (pos n) count size at is = range_if n count size at (nat_le (n + count) size) refl is
 range_inside (negsuc n) count size at is = absurd cc
-
-reach_among : (it : Presence) (cells : List Cell) → reach it cells ≤ length cells
-reach_among Present cells = omega arith
-reach_among Emptied cells = omega arith
-reach_among Purged cells = omega arith
-reach_among Disposed cells = omega arith
-
-past_tests : (a b c : Bool) (given : Result ℕ HeapStop) (at : ℕ)
-    → (if a then Err stop.Disposed else if b then Err stop.Old else if c then Err stop.Stale else given) ≡ Ok at → given ≡ Ok at
-past_tests true b c given at is = absurd cc
-past_tests false true c given at is = absurd cc
-past_tests false false true given at is = absurd cc
-past_tests false false false given at is = is
 
 place_inside : (s : Spot) (count : ℕ) (block : Block) (at : ℕ) → place_for s count block ≡ Ok at → at + count ≤ length block.cells
 place_inside s count block at is =

@@ -4,13 +4,14 @@ use Rattle.std.specs.Prelude.{nat_le}
 use Rattle.std.proofs.lemmas.Bool.Decides.{nat_tests}
 use Rattle.std.proofs.lemmas.Option.{get_or_from_slice_get}
 use Rattle.std.proofs.lemmas.List.{length-set}
-use Rattle.hs_heap.proofs.Acting.{at_place, same_there}
+use Rattle.hs_heap.proofs.Acting.{at_place}
 use Rattle.hs_heap.proofs.Counting.{counted_with, part_of_live}
 use Rattle.hs_heap.specs.Blocks.{Block, RoleReshapes}
 use Rattle.hs_heap.specs.Memory.{Memory, IsKept, ReshapesAs, block_at, put_block, live_bytes}
 use Rattle.hs_heap.specs.declared.stop.HeapEnd.{HeapEnd}
 use Rattle.hs_heap.specs.declared.stop.HeapEnd.TheVariants.{Stopped, Full, NoMemory}
 use Rattle.hs_heap.specs.declared.stop.HeapStop.{HeapStop}
+use Rattle.hs_heap.specs.BlockLaws.{same_there}
 
 -- a test of what a block may take is one of what all may take
 same_room : (total live held size : ℕ) → total + held ≡ live + size → held ≤ live → live ≤ 16777216

@@ -1,3 +1,4 @@
+pub mod BlockLaws
 pub mod Blocks
 pub mod Memory
 pub mod Passes

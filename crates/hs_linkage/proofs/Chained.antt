@@ -127,7 +127,8 @@ module _ (types : TypeTable) (o : Origins) (name : List ℕ) (id : TypeId) where
       let found = rest before in (
         found.0,
         found.1
-            ∙ sym (passed-if (pointwise nat_eq it.external.name name) (agrees_in types o id (type_of_entity it.external.entity)) (decided (up_to k entries)) same)
+            ∙ sym (passed-if (pointwise nat_eq it.external.name name) (agrees_in types o id (type_of_entity it.external.entity))
+            (decided (up_to k entries)) same)
             ∙ sym (ap decided (onto-at [] entries k it at)),
       )
 
@@ -179,7 +180,8 @@ module _ (types : TypeTable) (o : Origins) (name : List ℕ) (id : TypeId) where
         found.0,
         found.1
             ∙ sym (ap (λ b. b && decided (up_to k entries)) agreed)
-            ∙ sym (taken-if (pointwise nat_eq it.external.name name) (agrees_in types o id (type_of_entity it.external.entity)) (decided (up_to k entries)) named)
+            ∙ sym (taken-if (pointwise nat_eq it.external.name name) (agrees_in types o id (type_of_entity it.external.entity))
+            (decided (up_to k entries)) named)
             ∙ sym (ap decided (onto-at [] entries k it at)) ∙ same,
       )
 

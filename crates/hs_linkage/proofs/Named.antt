@@ -4,10 +4,6 @@ use Rattle.std.specs.Prelude.{is_some}
 use Rattle.std.specs.Cmp.Lexicographic.{pointwise}
 use Rattle.hs_names.specs.Index.{at, Puts}
 
-pub or-again : (first second third : Bool) → (first || (second || third)) ≡ ((first || second) || third)
-or-again true second third = refl
-or-again false second third = refl
-
 pub or-false : (b : Bool) → b ≡ (b || false)
 or-false true = refl
 or-false false = refl

@@ -53,7 +53,8 @@ pub passes : (front : Text) (next : Text → Option Text) (whole : Text) → len
     → (length front.ops ≤ most_ops → next front ≡ fitting whole) → (fitting front >>= next) ≡ fitting whole
 passes front next whole within step = by (leb_tells (length front.ops) most_ops)
   where
-    by : ((leb (length front.ops) most_ops ≡ true) × (length front.ops ≤ most_ops)) ⊎ ((leb (length front.ops) most_ops ≡ false) × (most_ops < length front.ops))
+    by : ((leb (length front.ops) most_ops ≡ true) × (length front.ops ≤ most_ops))
+        ⊎ ((leb (length front.ops) most_ops ≡ false) × (most_ops < length front.ops))
         → (fitting front >>= next) ≡ fitting whole
     by (inl few) = ap (λ x. x >>= next) (fits front few.1) ∙ step few.1
     by (inr many) = ap (λ x. x >>= next) (too_many front many.1) ∙ sym (too_many whole (omega arith))

@@ -172,7 +172,8 @@ module _ (setting : Setting) (function : TypedFunction) where
       where
         all : AimsAt targets unaimed (alone text.pieces at op.Mark then guarded_if setting function (suc text.pieces) at test (suc jump_at)
             then alone (turn_piece setting function pieces test) at op.Turn then statement_code setting function body inside targets
-            then dropped_if setting function step_piece at step then alone text.pieces at (op.Jump (length text.ops)) then alone later at op.Mark) (length text.ops)
+            then dropped_if setting function step_piece at step then alone text.pieces at (op.Jump (length text.ops)) then alone later at op.Mark)
+            (length text.ops)
         all =
             then_aims targets (alone_aims targets text.pieces at op.Mark op.Mark _ refl)
             (then_aims targets (guard_aims (suc text.pieces) at targets test _)
@@ -190,14 +191,16 @@ module _ (setting : Setting) (function : TypedFunction) where
     -- where the body begins
     body_at : begins_at text front_ops back_ops part ≡ suc (after (suc (length text.ops)) (guard_ops (suc text.pieces) at test (suc (length text.ops))))
     body_at =
-        after_append (suc (length text.ops)) (guard_ops (suc text.pieces) at test (suc (length text.ops))) (placed_at (turn_at text.pieces test) at op.Turn 0 ∷ [])
+        after_append (suc (length text.ops)) (guard_ops (suc text.pieces) at test (suc (length text.ops)))
+        (placed_at (turn_at text.pieces test) at op.Turn 0 ∷ [])
 
     begins_there : suc (behind_if setting function (suc text.pieces) test (suc (length text.ops))) ≡ begins_at text front_ops back_ops part
     begins_there = ap suc (sym (guard_long (suc text.pieces) at test (suc (length text.ops)))) ∙ sym body_at
 
     step_there : step_at ≡ length middle.ops
     step_there =
-        sym ((same_statement setting function body inside unknown nowhere).at (suc (behind_if setting function (suc text.pieces) test (suc (length text.ops))))).0
+        sym ((same_statement setting function body inside unknown nowhere).at
+        (suc (behind_if setting function (suc text.pieces) test (suc (length text.ops))))).0
         ∙ ap (λ n. after n (part n).ops) begins_there ∙ sym (part_ends text front_ops back_ops part)
 
     end_there : suc jump_at ≡ end_at

@@ -137,7 +137,8 @@ module _ (setting : Setting) (function : TypedFunction) where
         sym (after_ops text.ops (value_ops text.pieces at e (op.Zero 0) (length text.ops)))
         ∙ length_given text.pieces at (value_code setting function text.pieces e) (op.Zero 0) (length text.ops)
 
-    ends : length middle.ops ≡ after (behind setting function text.pieces e (length text.ops)) (part (behind setting function text.pieces e (length text.ops))).ops
+    ends : length middle.ops
+        ≡ after (behind setting function text.pieces e (length text.ops)) (part (behind setting function text.pieces e (length text.ops))).ops
     ends = sym (after_ops front.ops (part (length front.ops)).ops) ∙ ap (λ n. after n (part n).ops) begins
 
     -- the operation behind the branch
@@ -172,7 +173,8 @@ module _ (setting : Setting) (function : TypedFunction) where
         sym (already text front (with_part its (with_pieces (suc join) text)) _
         (longer (value_ops text.pieces at e (op.Zero 0)) (with_pieces (suc text.pieces) text)) (longer_part its text) (λ few. whole_steps))
       where
-        whole_steps : (fitting front >>= (λ begun. statement_steps setting function first begun >>= (λ inner. if_ended at text.pieces (length begun.ops - 1) inner)))
+        whole_steps : (fitting front
+            >>= (λ begun. statement_steps setting function first begun >>= (λ inner. if_ended at text.pieces (length begun.ops - 1) inner)))
             ≡ fitting (with_part its (with_pieces (suc join) text))
         whole_steps =
             known front (λ begun. statement_steps setting function first begun >>= (λ inner. if_ended at text.pieces (length begun.ops - 1) inner))

@@ -215,7 +215,8 @@ module _ (setting : Setting) (function : TypedFunction) where
     list_goes : list_steps setting function list declared ≡ fitting (with_part list_part (with_pieces after_counts.pieces declared))
     unfolding list_steps
     list_goes =
-        ap (λ counts. fitting (with_part (list_code setting function list counts unknown) (with_pieces (after_list list counts).pieces declared))) declared_counts
+        ap (λ counts. fitting (with_part (list_code setting function list counts unknown) (with_pieces (after_list list counts).pieces declared)))
+        declared_counts
 
     pub block_steps_are : block_steps setting function (tree.compound opening declarations list closing) text
         ≡ (put_steps text.pieces opening.pos op.Mark (with_pieces (suc text.pieces) text)
@@ -224,7 +225,8 @@ module _ (setting : Setting) (function : TypedFunction) where
         >>= (λ inner. put_steps inner.pieces closing.pos op.Mark (with_pieces (suc inner.pieces) inner)))))
     unfolding block_steps put_steps declarations_steps
     block_steps_are =
-        ap (λ cases. fitting (record { ops = text.ops ++ (block (length text.ops)).ops; cases = text.cases ++ (cases ++ ((list_part list_at).cases ++ [])); pieces = last }))
+        ap (λ cases. fitting
+        (record { ops = text.ops ++ (block (length text.ops)).ops; cases = text.cases ++ (cases ++ ((list_part list_at).cases ++ [])); pieces = last }))
         ((plain_declarations setting function (one_piece (counts_of text)) declarations).cases (suc (length text.ops)))
         ∙ sym (part_behind first_ops (plain then list_part then end_part) (with_pieces last text))
         ∙ sym (repieced (with_ops first_ops text) (suc text.pieces) last (λ mid. fitting (with_part (plain then list_part then end_part) mid)))

@@ -6,6 +6,7 @@
 use Rattle.std.proofs.Common.{◌≡◌, ◌≤◌, ◌<◌, ◌+◌, ℕ, suc, List, [], ◌∷◌, ◌++◌, map, drop, length, Option, Some, arith, sym, ◌∙◌, ap, append-nil}
 use Rattle.std.specs.Prelude.{get_or}
 use Rattle.std.proofs.lemmas.List.{append_assoc, drop_more, drop_all}
+use Rattle.hs_base.specs.Entries.{drop_item}
 use Rattle.hs_code.specs.declared.function_code.FunctionCode.{FunctionCode}
 use Rattle.hs_code.specs.declared.op.Op.TheVariants as op
 use Rattle.hs_lower_expressions.specs.Emits.{most_ops}
@@ -23,10 +24,6 @@ use Rattle.hs_lower.specs.Writing.{◌>>=◌, with_pieces, counts_of, unknown, l
 use Rattle.hs_lower.specs.declared.text.Text.{Text}
 use Rattle.hs_lower.proofs.Lists.{items_done, items_more, declarations_done, declarations_more, labels_done, labels_more, list_done, list_more, list_labels}
 
--- what is left begins with the entry
-entry_here : {A : Type 0} → (all : List A) (i : ℕ) (e : A) → i < length all → e ≡ get_or all i e → drop i all ≡ e ∷ drop (i + 1) all
-entry_here all i e within is = drop_more all i e within ∙ ap (λ first. first ∷ drop (i + 1) all) (sym is)
-
 module _ (setting : Setting) (function : TypedFunction) where
   -- ---- the variables of a declaration
 
@@ -35,7 +32,7 @@ module _ (setting : Setting) (function : TypedFunction) where
       pub items_on : (text : Text) → items_steps setting function piece (map view_item (drop i all)) text
           ≡ (first_steps setting function piece (view_item e) text >>= (λ mid. items_steps setting function piece (map view_item (drop (i + 1) all)) mid))
       items_on text =
-          ap (λ its. items_steps setting function piece (map view_item its) text) (entry_here all i e within is)
+          ap (λ its. items_steps setting function piece (map view_item its) text) (drop_item all i e within is)
           ∙ items_more setting function piece (view_item e) (map view_item (drop (i + 1) all)) text
 
       pub items_next : (text mid : Text) → first_steps setting function piece (view_item e) text ≡ Some mid
@@ -56,7 +53,7 @@ module _ (setting : Setting) (function : TypedFunction) where
           ≡ (items_steps setting function text.pieces (map view_item e.items.items) (with_pieces (suc text.pieces) text)
           >>= (λ mid. declarations_steps setting function (map view_declaration (drop (i + 1) all)) mid))
       declarations_on text =
-          ap (λ its. declarations_steps setting function (map view_declaration its) text) (entry_here all i e within is)
+          ap (λ its. declarations_steps setting function (map view_declaration its) text) (drop_item all i e within is)
           ∙ declarations_more setting function (view_declaration e) (map view_declaration (drop (i + 1) all)) text
 
       pub declarations_next : (text mid : Text)
@@ -87,7 +84,7 @@ module _ (setting : Setting) (function : TypedFunction) where
           ≡ (labels_steps e.labels.items text
           >>= (λ mid. statement_steps setting function (view_statement e.statement) mid >>= (λ end_. rest_steps (i + 1) end_)))
       list_on text =
-          ap (λ its. list_steps setting function (statements_from (map view_labelled its)) text) (entry_here all i e within is)
+          ap (λ its. list_steps setting function (statements_from (map view_labelled its)) text) (drop_item all i e within is)
           ∙ list_more setting function e.labels.items (view_statement e.statement) (statements_from (map view_labelled (drop (i + 1) all))) text
 
       pub list_next : (text mid end_ : Text) → labels_steps e.labels.items text ≡ Some mid
@@ -102,7 +99,7 @@ module _ (setting : Setting) (function : TypedFunction) where
           → rest_labels i text ≡ labels_at e.labels.items (length text.ops) ++ rest_labels (i + 1) end_
       labels_next text mid end_ marked done =
           ap (λ its. (list_code setting function (statements_from (map view_labelled its)) (counts_of text) unknown (length text.ops)).labels)
-          (entry_here all i e within is)
+          (drop_item all i e within is)
           ∙ list_labels setting function e.labels.items (view_statement e.statement) (statements_from (map view_labelled (drop (i + 1) all))) text mid end_
           marked done
 
@@ -155,7 +152,7 @@ module _ (setting : Setting) (all : List Function) (i : ℕ) (e : Function) (wit
   one_code = as_code (function_code setting (view_function e))
 
   pub codes_on : rest_codes i ≡ one_code ∷ rest_codes (i + 1)
-  codes_on = ap (λ its. functions_code setting (map view_function its)) (entry_here all i e within is)
+  codes_on = ap (λ its. functions_code setting (map view_function its)) (drop_item all i e within is)
 
   module _ (done whole : List FunctionCode) (same : done ++ rest_codes i ≡ whole) where
     pub codes_next : (done ++ (one_code ∷ [])) ++ rest_codes (i + 1) ≡ whole

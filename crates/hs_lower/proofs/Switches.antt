@@ -10,7 +10,7 @@ use Rattle.hs_lower_expressions.specs.Aims.{to_continue, aimed_from}
 use Rattle.hs_lower_expressions.specs.Emits.{most_ops}
 use Rattle.hs_lower_expressions.specs.EmittingLaws.{after_ops}
 use Rattle.hs_lowering.specs.Laws.Jumps.{right_within}
-use Rattle.hs_lowering.specs.Laws.Lengths.{past, same_block, block_labels, list_labels_counted}
+use Rattle.hs_lowering.specs.Laws.Lengths.{same_block, block_labels_counted}
 use Rattle.hs_lowering.specs.Laws.Placing.{past_length, length_given}
 use Rattle.hs_lowering.specs.Lowering.{after}
 use Rattle.hs_lowering.specs.Statements.{Part, ◌then◌, Counts, Targets, nowhere, one_piece, after_block, cases_of_block, placed_at, alone, given, cases_in, default_in, value_code, behind, switch_code, block_code}
@@ -26,12 +26,6 @@ use Rattle.hs_lower.proofs.Ifs.{value_ops, patched, block_counts}
 use Rattle.hs_lower.proofs.Chains.{known, longer, longer_part, in_three, already, same_ops, aimed_part, aimed_length}
 
 module _ (setting : Setting) (function : TypedFunction) where
-  labels_counted : (it : TypedBlock) (counts : Counts) (targets : Targets) (start count : ℕ)
-      → past count (cases_in (block_code setting function it counts targets start).labels) ≡ cases_of_block it count
-  labels_counted (tree.compound opening declarations list closing) counts targets start count =
-      ap (λ its. past count (cases_in its)) (block_labels setting function opening closing declarations list counts targets start)
-      ∙ list_labels_counted setting function list _ targets _ count
-
   module _ (text : Text) (place : Place) (e : RightValue) (it : TypedBlock) where
     abbrev at : Pos
     at = place.pos
@@ -109,7 +103,7 @@ module _ (setting : Setting) (function : TypedFunction) where
     end_same : length (middle.cases ++ cases_in labels) ≡ cases_of_block it later.cases
     end_same =
         length-append middle.cases (cases_in labels) ∙ sym (past_length (length middle.cases) (cases_in labels))
-        ∙ labels_counted it inside unknown (length front.ops) (length middle.cases) ∙ ap (cases_of_block it) first_same
+        ∙ block_labels_counted setting function it inside unknown (length front.ops) (length middle.cases) ∙ ap (cases_of_block it) first_same
 
     goal_same : goal ≡ goal_there
     goal_same =
@@ -147,7 +141,8 @@ module _ (setting : Setting) (function : TypedFunction) where
 
     written : chosen goal_there ≡ text.ops ++ (unaimed (length text.ops)).ops
     written =
-        patched text.ops (value_code setting function text.pieces e (length text.ops) 0) (part (length front.ops)).ops (placed_at later.pieces at op.Mark 0 ∷ [])
+        patched text.ops (value_code setting function text.pieces e (length text.ops) 0) (part (length front.ops)).ops
+        (placed_at later.pieces at op.Mark 0 ∷ [])
         (placed_at text.pieces at (op.Choose nowhere_yet) 1) (placed_at text.pieces at (op.Choose goal_there) 1)
         ∙ ap (λ n. text.ops ++ ((value_code setting function text.pieces e (length text.ops) 0 ++ (placed_at text.pieces at (op.Choose goal_there) 1 ∷ []))
         ++ ((part n).ops ++ (placed_at later.pieces at op.Mark 0 ∷ [])))) begins_there
@@ -184,7 +179,8 @@ module _ (setting : Setting) (function : TypedFunction) where
     switch_steps =
         sym (already text front (with_part its (with_pieces (suc later.pieces) text)) _
         (longer (value_ops setting function text.pieces at e (op.Choose nowhere_yet)) (with_pieces (suc text.pieces) text)) (longer_part its text)
-        (λ few. known front _ (λ begun. block_steps setting function it begun >>= switch_ended at text.pieces (length front.ops - 1) (length text.ops) labels) refl
+        (λ few. known front _
+        (λ begun. block_steps setting function it begun >>= switch_ended at text.pieces (length front.ops - 1) (length text.ops) labels) refl
         ∙ in_three front middle last (block_steps setting function it) (switch_ended at text.pieces (length front.ops - 1) (length text.ops) labels) final
         (with_part its (with_pieces (suc later.pieces) text)) goes ended same
         (long ∙ aimed_length targets unaimed aimed text.ops (chosen goal_there) aims written)

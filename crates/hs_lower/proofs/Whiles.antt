@@ -7,7 +7,7 @@ use Rattle.hs_code.specs.declared.op.Op.TheVariants as op
 use Rattle.hs_lower_expressions.specs.Aims.{to_break}
 use Rattle.hs_lower_expressions.specs.Emits.{most_ops}
 use Rattle.hs_lower_expressions.specs.EmittingLaws.{after_ops}
-use Rattle.hs_lowering.specs.Laws.Jumps.{Within, right_within}
+use Rattle.hs_lowering.specs.Laws.Jumps.{value_within}
 use Rattle.hs_lowering.specs.Laws.Lengths.{same_statement}
 use Rattle.hs_lowering.specs.Laws.Placing.{length_given}
 use Rattle.hs_lowering.specs.Lowering.{after, operand}
@@ -23,9 +23,6 @@ use Rattle.hs_lower.specs.declared.text.Text.{Text}
 use Rattle.hs_lower.proofs.Chains.{bind_same, longer, longer_part, then_ops, ops_then, two_ends, three_ends, in_three, begins_at, ends_at, part_ends, loop_long, loop_whole, already}
 
 module _ (setting : Setting) (function : TypedFunction) (text : Text) where
-  value_within : (piece : ℕ) (e : RightValue) → Within (value_code setting function piece e)
-  value_within piece e = right_within setting function.variables piece e
-
   -- a condition that leaves the loop
   abbrev test_ops : ℕ → Pos → RightValue → ℕ → List Placed
   test_ops piece at e start = operand (value_code setting function piece e) (only_at piece at (op.Zero to_break)) start 0
@@ -112,7 +109,7 @@ module _ (setting : Setting) (function : TypedFunction) (text : Text) where
         all =
             then_aims targets (alone_aims targets text.pieces at op.Mark op.Mark _ refl)
             (then_aims targets (given_aims targets (suc text.pieces) at (value_code setting function (suc text.pieces) e) (op.Zero to_break)
-            (op.Zero (suc jump_at)) _ (value_within (suc text.pieces) e) refl)
+            (op.Zero (suc jump_at)) _ (value_within setting function (suc text.pieces) e) refl)
             (then_aims targets (alone_aims targets (suc text.pieces) at op.Turn op.Turn _ refl)
             (then_aims targets (statement_aims targets setting function body inside unknown _)
             (then_aims targets (alone_aims targets text.pieces at (op.Jump (length text.ops)) (op.Jump (length text.ops)) _
@@ -262,7 +259,7 @@ module _ (setting : Setting) (function : TypedFunction) (text : Text) where
             (then_aims do_targets (alone_aims do_targets text.pieces do_at op.Turn op.Turn _ refl)
             (then_aims do_targets (statement_aims do_targets setting function body do_inside unknown _)
             (then_aims do_targets (given_aims do_targets do_later do_at (value_code setting function do_later e) (op.Zero to_break)
-            (op.Zero (suc (behind setting function do_later e test_at))) _ (value_within do_later e) refl)
+            (op.Zero (suc (behind setting function do_later e test_at))) _ (value_within setting function do_later e) refl)
             (then_aims do_targets (alone_aims do_targets text.pieces do_at (op.Jump (length text.ops)) (op.Jump (length text.ops)) _
             (ap op.Jump (sym (target_fixed do_targets (length text.ops) (omega (arith, few))))))
             (alone_aims do_targets (suc do_later) do_at op.Mark op.Mark _ refl)))))

@@ -118,7 +118,8 @@ module _ (setting : Setting) (function : TypedFunction) where
   pub written_past : function_steps setting function ≡ None → most_ops < length (function_code setting function).ops
   written_past is = by (leb_tells (length whole.ops) most_ops)
     where
-      by : ((leb (length whole.ops) most_ops ≡ true) × (length whole.ops ≤ most_ops)) ⊎ ((leb (length whole.ops) most_ops ≡ false) × (most_ops < length whole.ops))
+      by : ((leb (length whole.ops) most_ops ≡ true) × (length whole.ops ≤ most_ops))
+          ⊎ ((leb (length whole.ops) most_ops ≡ false) × (most_ops < length whole.ops))
           → most_ops < length whole.ops
       by (inl few) = let none : None ≡ Some whole = sym is ∙ written_steps ∙ fits whole few.1 in absurd (cc)
       by (inr past) = past.1

@@ -11,7 +11,7 @@ use Rattle.hs_code.specs.declared.function_code.Placed.{Placed}
 use Rattle.hs_code.specs.declared.op.Op.{Op}
 use Rattle.hs_code.specs.declared.op.Op.TheVariants as op
 use Rattle.hs_lower_expressions.specs.Aims.{to_break, to_continue, target_of, aimed_op, aimed}
-use Rattle.hs_lowering.specs.Laws.Jumps.{Within, after_from, right_within}
+use Rattle.hs_lowering.specs.Laws.Jumps.{Within, after_from, value_within}
 use Rattle.hs_lowering.specs.Laws.Lengths.{SameParts, same_statement, same_block}
 use Rattle.hs_lowering.specs.Laws.Placing.{length_next, length_given}
 use Rattle.hs_lowering.specs.Laws.Targets.{GoesIn, AllIn, GoPart, all_within, statement_goes, block_goes}
@@ -114,7 +114,8 @@ module _ (targets : Targets) where
             ap (λ its. value start 0 ++ (record { op = its; at = at; piece = piece; places = 1 } ∷ [])) same
                 ∙ ap (λ list. list ++ (record { op = aimed_op targets its; at = at; piece = piece; places = 1 } ∷ []))
                 (sym (fixed_all 0 (value start 0)
-                (all_within to_continue 0 start (after start (value start 0)) (value start 0) (within.at start 0) (omega (arith, front_less start (value start 0) _ less)))))
+                (all_within to_continue 0 start (after start (value start 0)) (value start 0) (within.at start 0)
+                (omega (arith, front_less start (value start 0) _ less)))))
                 ∙ sym (map-append (aimed targets) (value start 0) (record { op = its; at = at; piece = piece; places = 1 } ∷ [])),
             refl,
             refl,
@@ -184,9 +185,6 @@ module _ (targets : Targets) where
         front_in [] second is = tt
         front_in (one ∷ first) second is = (is.0, front_in first second is.1)
 
-    value_within : (piece : ℕ) (e : RightValue) → Within (value_code setting function piece e)
-    value_within piece e = right_within setting function.variables piece e
-
     -- by how the targets are aimed
     if_aims : (counts : Counts) (at : Pos) (e : RightValue) (join : ℕ) (first other : Part) (start : ℕ) → SameParts first other
         → ((start : ℕ) → AimsAt first other start)
@@ -196,7 +194,7 @@ module _ (targets : Targets) where
           long = long other ∙ ap suc (sym ends) ∙ sym (long first);
           aims = λ less.
               (then_aims (given_aims counts.pieces at (value_code setting function counts.pieces e) (op.Zero end_) (op.Zero other_end) start
-              (value_within counts.pieces e) (ap op.Zero (sym ends ∙ sym (target_fixed end_ (omega (arith, less, long first))))))
+              (value_within setting function counts.pieces e) (ap op.Zero (sym ends ∙ sym (target_fixed end_ (omega (arith, less, long first))))))
               (then_aims (is _) (alone_aims join at op.Mark op.Mark _ refl))).aims less;
         }
       where
@@ -226,10 +224,12 @@ module _ (targets : Targets) where
           long = long other another ∙ ap suc (sym ends) ∙ sym (long first second);
           aims = λ less.
               (then_aims (given_aims counts.pieces at (value_code setting function counts.pieces e) (op.Zero (suc jump_at)) (op.Zero (suc other_jump)) start
-              (value_within counts.pieces e)
-              (ap op.Zero (ap suc (sym jumps) ∙ sym (target_fixed (suc jump_at) (omega (arith, less, long first second, after_from (suc jump_at) (second (suc jump_at)).ops))))))
+              (value_within setting function counts.pieces e)
+              (ap op.Zero (ap suc (sym jumps)
+              ∙ sym (target_fixed (suc jump_at) (omega (arith, less, long first second, after_from (suc jump_at) (second (suc jump_at)).ops))))))
               (then_aims (is _)
-              (then_aims (alone_aims join at (op.Jump end_) (op.Jump other_end) _ (ap op.Jump (sym ends ∙ sym (target_fixed end_ (omega (arith, less, long first second))))))
+              (then_aims (alone_aims join at (op.Jump end_) (op.Jump other_end) _
+              (ap op.Jump (sym ends ∙ sym (target_fixed end_ (omega (arith, less, long first second))))))
               (then_aims (is' _) (alone_aims join at op.Mark op.Mark _ refl))))).aims less;
         }
       where
@@ -277,7 +277,7 @@ module _ (targets : Targets) where
         record {
           long = long (inner outer) ∙ sym (long outer);
           aims = λ less. counted (
-              (then_aims (given_aims test at (value_code setting function test e) choose choose start (value_within test e) refl)
+              (then_aims (given_aims test at (value_code setting function test e) choose choose start (value_within setting function test e) refl)
               (then_aims (aimed_body (omega (arith, less, long outer))) (alone_aims end_ at op.Mark op.Mark _ refl))).aims less
               );
         }

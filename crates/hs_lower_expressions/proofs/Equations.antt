@@ -25,7 +25,7 @@ use Rattle.hs_types.specs.declared.row.FieldId.{FieldId}
 use Rattle.hs_lower_expressions.specs.declared.parts.Change.{Change}
 use Rattle.hs_lower_expressions.specs.Emits.{most_ops}
 use Rattle.hs_lower_expressions.specs.Emitting.{limited, ◌>>=◌, emitted, pushed, patched, turned, both_ended, either_begun, either_ended, nil_tested, fetched_there, changed, slot_changed, memory_changed, slot_stepped, memory_stepped, called, routine_called, decided, by_slot, number_change, pointer_change, count, values_code, drops_code, right_emitted, left_emitted, all_emitted, dropped_emitted}
-use Rattle.hs_lower_expressions.specs.EmittingLaws.{passes, fits_limited, bind_same, bind_twice, sequence_emitted, operand_emitted, chosen_emitted, or_emitted, conjoined_emitted}
+use Rattle.hs_lower_expressions.specs.EmittingLaws.{passes, fits_limited, bind_same, bind_twice, sequence_emitted, operand_emitted, chosen_emitted, or_emitted, conjoined_emitted, two_more}
 
 -- ---- calls
 
@@ -56,9 +56,6 @@ module _ (setting : Setting) (variables : List VariableDecl) (piece : ℕ) where
       decided_is piece (takes_decision (slice_get setting.routines place)) head place (op.Routine place) depth ops
 
 -- ---- one and two operands
-
-two_more : (depth : ℕ) → (depth + 1) + 1 ≡ depth + 2
-two_more depth = omega arith
 
 three_more : (depth : ℕ) → (depth + 2) + 1 ≡ depth + 3
 three_more depth = omega arith

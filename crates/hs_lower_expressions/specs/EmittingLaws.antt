@@ -15,6 +15,7 @@ use Rattle.std.proofs.lemmas.List.{append_assoc, length-append, length-set}
 use Rattle.hs_code.specs.declared.function_code.Placed.{Placed}
 use Rattle.hs_code.specs.declared.op.Op.TheVariants as op
 use Rattle.hs_lowering.specs.Lowering.{Lowered, after, operand, sequence, only, placed, branches, chosen, both_hold, conjoined, answered}
+use Rattle.hs_lowering.specs.Performing.{after_length}
 use Rattle.hs_tree.specs.declared.head.Head.{Head}
 use Rattle.hs_lower_expressions.specs.declared.lower_end.LowerEnd.{LowerEnd}
 use Rattle.hs_lower_expressions.specs.declared.lower_end.LowerEnd.TheVariants.{Limit, NoMemory}
@@ -35,9 +36,9 @@ passes a next whole within step = by (leb_tells (length a) most_ops)
     by (inl fits) = step fits.1 ∙ sym (ap (λ it. (if it then Some a else None) >>= next) fits.0)
     by (inr past) = too_long (leb_tells (length whole) most_ops) past.1 ∙ sym (ap (λ it. (if it then Some a else None) >>= next) past.0)
 
-pub after_length : (start : ℕ) (its : List Placed) → after start its ≡ start + length its
-after_length start [] = omega arith
-after_length start (one ∷ rest) = after_length (suc start) rest ∙ omega arith
+-- two values more
+pub two_more : (depth : ℕ) → (depth + 1) + 1 ≡ depth + 2
+two_more depth = omega arith
 
 pub after_ops : (ops its : List Placed) → after (length ops) its ≡ length (ops ++ its)
 after_ops ops its = after_length (length ops) its ∙ sym (length-append ops its)

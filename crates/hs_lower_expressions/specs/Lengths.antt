@@ -7,13 +7,13 @@ use Rattle.hs_code.specs.declared.function_code.Placed.{Placed}
 use Rattle.hs_code.specs.declared.op.Access as code
 use Rattle.hs_code.specs.declared.op.Op.TheVariants as op
 use Rattle.hs_lowering.specs.Lowering.{Lowered, after, right_code, address_code, all_code, dropped_code, slot_of, read_code, written_code, updated_code, stepped_code, access_in, only, on_one, sequence, bound_code, decided_code}
+use Rattle.hs_lowering.specs.Performing.{after_length}
 use Rattle.hs_meaning.specs.Settings.{Setting, access_of}
 use Rattle.hs_tree.specs.Trees as tree
 use Rattle.hs_tree.specs.Trees.{RightValue, LeftValue, RightValues}
 use Rattle.hs_tree.specs.declared.head.Head.{Head}
 use Rattle.hs_tree.specs.declared.head.Variable.{Variable}
 use Rattle.hs_tree.specs.declared.head.VariableDecl.{VariableDecl}
-use Rattle.hs_lower_expressions.specs.EmittingLaws.{after_length}
 
 front : (n : ℕ) → 0 < suc n
 front n = omega arith

@@ -1,7 +1,7 @@
 -- What the definitions put at the end, in the steps of the code.
 --     item_is           what a variable starts with
 --     item_emitted      what an answer says of the steps, it says of those of the definition
-use Rattle.std.proofs.Common.{◌≡◌, ◌+◌, ℕ, Bool, true, false, List, [], ◌∷◌, ◌++◌, length, Option, Some, None, refl, arith, sym, ◌∙◌, ap, subst}
+use Rattle.std.proofs.Common.{◌≡◌, ◌+◌, ℕ, Bool, true, false, List, [], ◌∷◌, ◌++◌, length, Option, Some, None, refl, sym, ◌∙◌, ap, subst}
 use Rattle.std.specs.Prelude.{Result}
 use Rattle.std.proofs.lemmas.List.{append-nil}
 use Rattle.hs_code.specs.declared.function_code.Placed.{Placed}
@@ -10,7 +10,7 @@ use Rattle.hs_code.specs.declared.op.Object.TheVariants as object
 use Rattle.hs_code.specs.declared.op.Op.{Op}
 use Rattle.hs_code.specs.declared.op.Op.TheVariants as op
 use Rattle.hs_lower_expressions.specs.Emitting.{Emitted, limited, ◌>>=◌, emitted, right_emitted}
-use Rattle.hs_lower_expressions.specs.EmittingLaws.{then_emitted, operand_emitted, bind_same, bind_twice}
+use Rattle.hs_lower_expressions.specs.EmittingLaws.{then_emitted, operand_emitted, bind_same, bind_twice, two_more}
 use Rattle.hs_lowering.specs.Lowering.{Lowered, operand, access_in, right_code}
 use Rattle.hs_lowering.specs.Statements as code_of
 use Rattle.hs_lowering.specs.Statements.{only_at, given_dropped, constant_code, zero_code, scalar_code, scalars_started, value_started}
@@ -42,9 +42,6 @@ module _ (setting : Setting) (function : TypedFunction) (to : Target) where
   base_is : (its : Base) → code_of.object_of setting function its ≡ base_object its
   base_is (base.Global place) = refl
   base_is (base.Literal place) = refl
-
-  two_more : (depth : ℕ) → (depth + 1) + 1 ≡ depth + 2
-  two_more depth = omega arith
 
   constant_is : (its : Constant) (depth : ℕ) (ops : List Placed)
       → emitted (constant_code setting function to.piece to.at its) depth ops ≡ constant_made to its depth ops

@@ -224,13 +224,15 @@ module _ (setting : Setting) (variables : List VariableDecl) (piece : ℕ) where
         updated_code piece head (slot_of setting variables into) (access_in (access_of setting into))
         (numbers_changed piece head (op.Binary (binary.Arithmetic operator) kind) (op.Conv to)) (address_code into) (right_code from)
     right_code (tree.advance head stride into from) =
-        updated_code piece head (slot_of setting variables into) (access_in (access_of setting into)) (on_two piece head (op.Step stride true)) (address_code into) (right_code from)
+        updated_code piece head (slot_of setting variables into) (access_in (access_of setting into)) (on_two piece head (op.Step stride true))
+        (address_code into) (right_code from)
     -- a slot: Get, Dup, Num 1, the operation, Conv, Set, Drop; memory: the address, Dup, Load, Tuck, Num 1, the operation, Conv, Store, Drop
     right_code (tree.post_update head operator kind to into) =
         stepped_code piece head (slot_of setting variables into) (access_in (access_of setting into))
         (numbers_changed piece head (op.Binary (binary.Arithmetic operator) kind) (op.Conv to)) (address_code into)
     right_code (tree.post_advance head stride into) =
-        stepped_code piece head (slot_of setting variables into) (access_in (access_of setting into)) (on_two piece head (op.Step stride true)) (address_code into)
+        stepped_code piece head (slot_of setting variables into) (access_in (access_of setting into)) (on_two piece head (op.Step stride true))
+        (address_code into)
     -- the arguments in order, the decision of its routine, Call
     right_code (tree.call head place routine arguments) =
         all_code arguments (sequence (bound_code head routine) (only piece head (op.Call place)))

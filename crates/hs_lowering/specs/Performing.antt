@@ -6,7 +6,7 @@
 --     Turns its fact first stack left     operations that perform a step, from that stack to the one that is left for what the step gives
 --     Means its first                     they leave the value that the step gives above the stack
 --     thens, jumps, ..                    one after the other, a jump behind them, and so on
-use Rattle.std.proofs.Common.{◌≡◌, ◌≤◌, ℕ, suc, Bool, List, [], ◌∷◌, ◌++◌, slice_get, Some, refl, sym, ap, ◌∙◌, subst}
+use Rattle.std.proofs.Common.{◌≡◌, ◌≤◌, ℕ, suc, Bool, List, [], ◌∷◌, ◌++◌, slice_get, Some, refl, sym, ap, ◌∙◌, subst, ◌+◌, length, arith}
 use Rattle.hs_code.specs.declared.function_code.FunctionCode.{FunctionCode}
 use Rattle.hs_code.specs.declared.function_code.Placed.{Placed}
 use Rattle.hs_code.specs.declared.op.Op.{Op}
@@ -34,6 +34,11 @@ Any it = Unit {0}
 pub after_append : (start : ℕ) (first second : List Placed) → after start (first ++ second) ≡ after (after start first) second
 after_append start [] second = refl
 after_append start (its ∷ first) second = after_append (suc start) first second
+
+-- by as many as there are
+pub after_length : (start : ℕ) (its : List Placed) → after start its ≡ start + length its
+after_length start [] = omega arith
+after_length start (one ∷ rest) = after_length (suc start) rest ∙ omega arith
 
 -- the code has these from that number on
 abbrev pub Holds : FunctionCode → ℕ → List Placed → Type 0

@@ -48,6 +48,7 @@ module _ (setting : Setting) (machine now : Machine) (why : Stop) where
       -- whether there is a frame
       by_frame : (there : Bool) → has_frame (objects_for setting.types variables) machine ≡ there → now.output ≡ machine.output
       by_frame true is =
-          given_none (take parameters variables) (in_frame (bindings setting.types (length machine.objects) variables) (objects_for setting.types variables) machine)
+          given_none (take parameters variables)
+          (in_frame (bindings setting.types (length machine.objects) variables) (objects_for setting.types variables) machine)
           (rw is at does)
       by_frame false is = let stopped = rw is at does in ap (λ (m : Machine). m.output) stopped.1

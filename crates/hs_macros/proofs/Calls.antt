@@ -24,7 +24,8 @@ found_by macros token rest identifier hides definition first second third =
     λ i. if first i && not (second i) then found_defined token rest (third i) else stays
 
 -- a token that hides its name stays
-pub hides_itself : (macros : Definitions) (token : Hidden) (rest : List Hidden) → set.contains token.hides token.token.text ≡ true → found macros token rest ≡ stays
+pub hides_itself : (macros : Definitions) (token : Hidden) (rest : List Hidden) → set.contains token.hides token.token.text ≡ true
+    → found macros token rest ≡ stays
 hides_itself macros token rest second = found_by macros token rest _ true _ refl second refl ∙ never (is_identifier token.token)
   where
     -- it is never replaced

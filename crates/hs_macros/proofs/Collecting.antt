@@ -183,7 +183,8 @@ module _ (table : List (List ℕ)) where
       let pair : argument table supplied ≡ record { parameter = name; tokens = row tokens } =
       (λ i. record { parameter = named i; tokens = row (taken i) }) in
       let next : waiting table more ≡ record { parameter = name; tokens = row tokens } ∷ waiting table later =
-      ap (waiting table) pushed ∙ ap (map (argument table)) (reverse-append later (supplied ∷ [])) ∙ ap (λ (first : Argument). first ∷ waiting table later) pair in
+      ap (waiting table) pushed ∙ ap (map (argument table)) (reverse-append later (supplied ∷ []))
+      ∙ ap (λ (first : Argument). first ∷ waiting table later) pair in
       ap (with_later (paired others (map row rest))) next
       ∙ sym (paired-push others (map row rest) name (row tokens) (waiting table later))
       ∙ ap (λ (given' : List (List Hidden)). with_later (paired (others ++ name ∷ []) given') (waiting table later))

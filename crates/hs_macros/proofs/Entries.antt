@@ -1,5 +1,5 @@
 -- A list of entries as the finite map that contracts see: both answer a name alike, before and after a change.
-use Rattle.std.proofs.Common.{◌≡◌, ℕ, ◌+◌, Bool, true, false, not, cond, List, [], ◌∷◌, length, position, Option, None, Some, Vec, Global, map as map_list, nat_eq, nat_lt, refl, sym, ap, subst, ◌∙◌}
+use Rattle.std.proofs.Common.{◌≡◌, ℕ, ◌+◌, Bool, true, false, not, cond, List, [], ◌∷◌, length, position, Option, None, Some, map as map_list, nat_eq, nat_lt, refl, sym, ap, subst, ◌∙◌}
 use Rattle.std.specs.List.{position_or_len}
 use Rattle.std.specs.Str.{bytes_eq}
 use Rattle.std.proofs.lemmas.List.{length-map}
@@ -7,24 +7,8 @@ use Rattle.std.specs.Ordering.{nat_cmp, eq_by_cmp}
 use Rattle.std.specs.Cmp.Lexicographic.{slice_cmp, pointwise, bytes_decides, nat_list_cmp_total, nat_list_eq_equiv, texts_ties}
 use Rattle.std.specs.FinMap as map
 use Rattle.std.specs.Map.{lookup, KeepsOthers, IsKeyTest, AreApart}
+use Rattle.hs_base.specs.Keys.{Key, has_bytes, are_alike, lacks_other}
 use Rattle.hs_macros.specs.Numbers.{number_in}
-
--- what the map is keyed by
-abbrev pub Key : Type 0
-Key = Vec ℕ Global
-
--- the key has these bytes
-abbrev pub has_bytes : List ℕ → Key → Bool
-has_bytes name key = pointwise nat_eq name key.items
-
--- the two keys have the same bytes
-abbrev pub are_alike : Key → Key → Bool
-are_alike first second = pointwise nat_eq first.items second.items
-
--- a key of one name has not another
-apart : (name other : List ℕ) (key : Key) → pointwise nat_eq name other ≡ false → has_bytes name key ≡ true → has_bytes other key ≡ false
-apart name other key differ here =
-    nat_list_eq_equiv.symm other key.items ∙ sym (nat_list_eq_equiv.congr name key.items other here) ∙ differ
 
 -- the order of the finite map tells names apart by their bytes
 tied : (name other : List ℕ) → pointwise nat_eq name other ≡ eq_by_cmp (slice_cmp nat_cmp) other name
@@ -71,7 +55,7 @@ module _ {X : Type 0} where
   unfolding KeepsOthers
   kept name other old new others differ =
       let is_key : IsKeyTest are_alike (has_bytes other) = λ x y here. nat_list_eq_equiv.congr other x.items y.items here in
-      let is_apart : AreApart (has_bytes name) (has_bytes other) = λ key here. apart name other key differ here in
+      let is_apart : AreApart (has_bytes name) (has_bytes other) = λ key here. lacks_other name other key differ here in
       get-as_map other new ∙ others (has_bytes other) is_key is_apart ∙ sym (get-as_map other old)
 
   -- after a change at one name: that name has the new value, and the others keep theirs

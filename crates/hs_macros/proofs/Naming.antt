@@ -31,7 +31,8 @@ name_at : (names : List (List ℕ)) (name : List ℕ) (number : ℕ) → number_
 name_at names name number is = (bytes_decides name (get_or names number [])).0 (position-Some (bytes_eq name) names number [] is).1
 
 -- a name that has a number is in the list
-listed : (names : List (List ℕ)) (name : List ℕ) (number : ℕ) → number_in names name ≡ Some number → set.contains (set.from_list {R = slice_cmp nat_cmp} names) name ≡ true
+listed : (names : List (List ℕ)) (name : List ℕ) (number : ℕ) → number_in names name ≡ Some number
+    → set.contains (set.from_list {R = slice_cmp nat_cmp} names) name ≡ true
 listed names name number is =
     let there = position-Some (bytes_eq name) names number [] is in
     set.contains-from_list nat_list_cmp_total names name

@@ -141,7 +141,8 @@ IsRising-insert number numbers place within around rising =
 pub set_of-insert : (number : ℕ) (numbers : List ℕ) (place : ℕ) → set_of (insert numbers place number) ≡ set.insert (set_of numbers) number
 set_of-insert number numbers place = same_set _ _ (λ q.
     contains-set_of (insert numbers place number) q
-    ∙ sym (list_any-IsPermutation (λ other. eq_by_cmp nat_cmp q other) (number ∷ numbers) (insert numbers place number) (IsPermutation-insert numbers place number))
+    ∙ sym (list_any-IsPermutation (λ other. eq_by_cmp nat_cmp q other) (number ∷ numbers) (insert numbers place number)
+    (IsPermutation-insert numbers place number))
     ∙ sym (contains-set_of (number ∷ numbers) q))
 
 -- a number that the set holds adds nothing

@@ -9,25 +9,16 @@ use Rattle.std.specs.Str.{bytes_eq}
 use Rattle.std.specs.Cmp.Lexicographic.{nat_list_eq_equiv}
 use Rattle.std.proofs.Math.Bool.{or_assoc}
 use Rattle.std.proofs.lemmas.List.{take_more, map-append, length-map}
+use Rattle.hs_base.specs.Options.{or_else, or_else_assoc}
 use Rattle.hs_tokens.specs.declared.token.Token.{Token}
 use Rattle.hs_tokens.specs.Marks.{is_identifier}
 use Rattle.hs_macros.specs.Lines.{names_of}
 use Rattle.hs_macros.specs.Slots.{place_of, is_in}
 
--- the first, or else the second
-abbrev pub or_else : Option ℕ → Option ℕ → Option ℕ
-or_else None second = second
-or_else (Some place) second = Some place
-
 -- one place further on
 or_else-next : (first second : Option ℕ) → option_map suc (or_else first second) ≡ or_else (option_map suc first) (option_map suc second)
 or_else-next None second = refl
 or_else-next (Some place) second = refl
-
--- three in a row
-or_else_assoc : (first second third : Option ℕ) → or_else (or_else first second) third ≡ or_else first (or_else second third)
-or_else_assoc None second third = refl
-or_else_assoc (Some place) second third = refl
 
 -- the last name has the place at the end
 place_of-push : (name last : List ℕ) (names : List (List ℕ))
@@ -81,7 +72,8 @@ any_push test (first ∷ xs) x =
     ap (λ later. test first || later) (any_push test xs x) ∙ sym (or_assoc (test first) (list_any test xs) (test x))
 
 -- one more token: its text is put if it is an identifier
-pub is_in-step : (name : List ℕ) (tokens : List Token) (at : ℕ) (token : Token) (identifier old new : Bool) → at < length tokens → token ≡ get_or tokens at token
+pub is_in-step : (name : List ℕ) (tokens : List Token) (at : ℕ) (token : Token) (identifier old new : Bool) → at < length tokens
+    → token ≡ get_or tokens at token
     → is_identifier token ≡ identifier → new ≡ (if identifier then cond (bytes_eq token.text name) true old else old)
     → old ≡ is_in name (take at tokens) → new ≡ is_in name (take (at + 1) tokens)
 is_in-step name tokens at token identifier old new within is kind put so_far =

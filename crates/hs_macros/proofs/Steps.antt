@@ -129,10 +129,13 @@ module _ (names : List (List ℕ)) where
       ∙ ap (expanded macros left) tokens_ahead in
       let later : Expansion → Outcome = λ done'. called (expanded macros) (invocation names call)
       (ready names call.ready.items ++ record { parameter = next.parameter.now.name; tokens = done'.tokens } ∷ []) (waiting names rest.items) done'.left in
-      let whole : call_outcome names macros (done names before.items) call left ≡ and_then (expanded macros left (done names next.tokens.items)) (after_argument names macros last) =
-      ap (λ (arguments : List Argument). with_front (done names before.items) (called (expanded macros) (invocation names call) (ready names call.ready.items) arguments left))
+      let whole : call_outcome names macros (done names before.items) call left
+      ≡ and_then (expanded macros left (done names next.tokens.items)) (after_argument names macros last) =
+      ap (λ (arguments : List Argument). with_front (done names before.items)
+      (called (expanded macros) (invocation names call) (ready names call.ready.items) arguments left))
       (ap (waiting names) popped ∙ waiting-push rest.items next)
-      ∙ ap (with_front (done names before.items)) (used_first macros (invocation names call) (ready names call.ready.items) (waiting names rest.items) (argument names next) left used)
+      ∙ ap (with_front (done names before.items))
+      (used_first macros (invocation names call) (ready names call.ready.items) (waiting names rest.items) (argument names next) left used)
       ∙ front_then (done names before.items) (expanded macros left (done names next.tokens.items)) later in
       ap (λ (all : List Suspended). resumed names macros all (frame_outcome names macros (record { before = blank; tokens = tokens; left = left }))) pushed
       ∙ resumed-push macros calls last (frame_outcome names macros (record { before = blank; tokens = tokens; left = left }))
@@ -146,7 +149,8 @@ module _ (names : List (List ℕ)) where
   skips macros before call rest ready' next left popped pushed unused =
       ap (λ (arguments : List Argument). with_front before (called (expanded macros) (invocation names call) arguments (waiting names rest.items) left))
       (ap (ready names) pushed ∙ map-append (argument names) call.ready.items (next ∷ []))
-      ∙ ap (with_front before) (sym (unused_first macros (invocation names call) (ready names call.ready.items) (waiting names rest.items) (argument names next) left unused))
+      ∙ ap (with_front before)
+      (sym (unused_first macros (invocation names call) (ready names call.ready.items) (waiting names rest.items) (argument names next) left unused))
       ∙ ap (λ (arguments : List Argument). with_front before (called (expanded macros) (invocation names call) (ready names call.ready.items) arguments left))
       (sym (ap (waiting names) popped ∙ waiting-push rest.items next))
 
@@ -177,7 +181,8 @@ module _ (names : List (List ℕ)) where
       → call_outcome names macros before call left
       ≡ with_front before (placed_again (expanded macros) (invocation names call) (placed (invocation names call) (ready names call.ready.items)) answer)
   last_placed macros before call left answer none is =
-      ap (λ (arguments : List Supplied). with_front before (called (expanded macros) (invocation names call) (ready names call.ready.items) (waiting names arguments) left)) none
+      ap (λ (arguments : List Supplied). with_front before
+      (called (expanded macros) (invocation names call) (ready names call.ready.items) (waiting names arguments) left)) none
       ∙ ap (λ (after : Result Budget MacroError). with_front before
       (placed_again (expanded macros) (invocation names call) (placed (invocation names call) (ready names call.ready.items)) after)) (sym is)
 
@@ -218,12 +223,14 @@ module _ (names : List (List ℕ)) where
   pub same_waiting : (macros : Definitions) (before : List Hidden) (call : Call) (rest : Vec Supplied Global) (left : Budget) → rest.items ≡ call.waiting.items
       → call_outcome names macros before (record call { waiting = rest }) left ≡ call_outcome names macros before call left
   same_waiting macros before call rest left same =
-      ap (λ (arguments : List Supplied). with_front before (called (expanded macros) (invocation names call) (ready names call.ready.items) (waiting names arguments) left)) same
+      ap (λ (arguments : List Supplied). with_front before
+      (called (expanded macros) (invocation names call) (ready names call.ready.items) (waiting names arguments) left)) same
 
   -- a token that stays is done
   pub stays_done : (macros : Definitions) (before more : List Pending) (token : Pending) (rest : List Hidden) (left : Budget)
       → more ≡ before ++ token ∷ []
-      → with_front (done names more) (expanded macros left rest) ≡ with_front (done names before) (with_front (hidden names token ∷ []) (expanded macros left rest))
+      → with_front (done names more) (expanded macros left rest)
+      ≡ with_front (done names before) (with_front (hidden names token ∷ []) (expanded macros left rest))
   stays_done macros before more token rest left pushed =
       ap (λ (front : List Hidden). with_front front (expanded macros left rest)) (ap (done names) pushed ∙ map-append (hidden names) before (token ∷ []))
       ∙ front_front (done names before) (hidden names token ∷ []) (expanded macros left rest)
@@ -231,7 +238,8 @@ module _ (names : List (List ℕ)) where
   -- what begins at the next token, with those after it
   pub whole_at : (macros : Definitions) (before : List Hidden) (token : Pending) (rest : List Hidden) (left : Budget) (what : Found)
       → found macros (hidden names token) rest ≡ what
-      → with_front before (expanded macros left (hidden names token ∷ rest)) ≡ with_front before (expanded_at (expanded macros) left (hidden names token) rest what)
+      → with_front before (expanded macros left (hidden names token ∷ rest))
+      ≡ with_front before (expanded_at (expanded macros) left (hidden names token) rest what)
   whole_at macros before token rest left what is =
       ap (with_front before) (expanded-token macros left (hidden names token) rest
       ∙ ap (λ (found' : Found). expanded_at (expanded macros) left (hidden names token) rest found') is)
@@ -247,23 +255,28 @@ module _ (names : List (List ℕ)) where
       ≡ resumed names macros all (with_front (done names argument'.items) (expanded macros left []))
   ends macros calls all before argument' call ready' parameter left placed marked popped pushed =
       let waits : Suspended = record { before = before; call = call; parameter = parameter; placed = placed; marked = marked } in
-      let arguments : ready names ready'.items ≡ ready names call.ready.items ++ record { parameter = parameter.now.name; tokens = done names argument'.items } ∷ [] =
+      let arguments : ready names ready'.items ≡ ready names call.ready.items
+      ++ record { parameter = parameter.now.name; tokens = done names argument'.items } ∷ [] =
       ap (ready names) pushed ∙ map-append (argument names) call.ready.items (record { parameter = parameter; tokens = argument' } ∷ []) in
       sym (
       ap (λ (calls' : List Suspended). resumed names macros calls' (with_front (done names argument'.items) (expanded macros left []))) popped
       ∙ resumed-push macros calls waits (with_front (done names argument'.items) (expanded macros left []))
-      ∙ ap (λ (outcome : Outcome). resumed names macros calls (and_then outcome (after_argument names macros waits))) (whole_done macros (done names argument'.items) left)
+      ∙ ap (λ (outcome : Outcome). resumed names macros calls (and_then outcome (after_argument names macros waits)))
+      (whole_done macros (done names argument'.items) left)
       ∙ ap (λ (all' : List Argument). resumed names macros calls
       (with_front (done names before.items) (called (expanded macros) (invocation names call) all' (waiting names call.waiting.items) left)))
       (sym arguments))
 
   -- the invocation that begins at the token
-  pub whole_invoked : (macros : Definitions) (calls : List Suspended) (before : List Hidden) (token : Pending) (rest : List Hidden) (left : Budget) (call : Call)
+  pub whole_invoked : (macros : Definitions) (calls : List Suspended) (before : List Hidden) (token : Pending) (rest : List Hidden) (left : Budget)
+      (call : Call)
       → (found macros (hidden names token) rest ≡ invoked (invocation names call) (waiting names call.waiting.items)) × (call.ready.items ≡ [])
-      → resumed names macros calls (call_outcome names macros before call left) ≡ resumed names macros calls (with_front before (expanded macros left (hidden names token ∷ rest)))
+      → resumed names macros calls (call_outcome names macros before call left)
+      ≡ resumed names macros calls (with_front before (expanded macros left (hidden names token ∷ rest)))
   whole_invoked macros calls before token rest left call (is, fresh) =
       ap (resumed names macros calls) (
-      ap (λ (arguments : List Supplied). with_front before (called (expanded macros) (invocation names call) (ready names arguments) (waiting names call.waiting.items) left)) fresh
+      ap (λ (arguments : List Supplied). with_front before
+      (called (expanded macros) (invocation names call) (ready names arguments) (waiting names call.waiting.items) left)) fresh
       ∙ sym (whole_at macros before token rest left (invoked (invocation names call) (waiting names call.waiting.items)) is))
 
   -- a wrong one refuses the whole, at the token
@@ -291,14 +304,17 @@ module _ (names : List (List ℕ)) where
 
   -- no tokens are ahead of the frame
   pub frame_done : (macros : Definitions) (calls : List Suspended) (frame : Frame) → frame.tokens.items ≡ []
-      → resumed names macros calls (with_front (done names frame.before.items) (expanded macros frame.left [])) ≡ resumed names macros calls (frame_outcome names macros frame)
+      → resumed names macros calls (with_front (done names frame.before.items) (expanded macros frame.left []))
+      ≡ resumed names macros calls (frame_outcome names macros frame)
   frame_done macros calls frame none =
-      ap (λ (tokens : List Pending). resumed names macros calls (with_front (done names frame.before.items) (expanded macros frame.left (ahead names tokens)))) (sym none)
+      ap (λ (tokens : List Pending). resumed names macros calls (with_front (done names frame.before.items) (expanded macros frame.left (ahead names tokens))))
+      (sym none)
 
   -- the token stays, and the others are still ahead
   pub whole_stays : (macros : Definitions) (before : List Hidden) (token : Pending) (tokens rest : List Hidden) (left : Budget)
       → (found macros (hidden names token) rest ≡ stays) × (tokens ≡ rest)
-      → with_front before (with_front (hidden names token ∷ []) (expanded macros left tokens)) ≡ with_front before (expanded macros left (hidden names token ∷ rest))
+      → with_front before (with_front (hidden names token ∷ []) (expanded macros left tokens))
+      ≡ with_front before (expanded macros left (hidden names token ∷ rest))
   whole_stays macros before token tokens rest left (is, same) =
       ap (λ (tokens' : List Hidden). with_front before (with_front (hidden names token ∷ []) (expanded macros left tokens'))) same
       ∙ sym (whole_at macros before token rest left stays is)
@@ -309,7 +325,8 @@ module _ (names : List (List ℕ)) where
       → with_sources sources (replaced_by (resumed names macros calls (frame_outcome names macros frame))) ≡ Ok (record { tokens = sources; left = frame.left })
   all_done macros sources calls frame none given empty =
       ap (λ (calls' : List Suspended). with_sources sources (replaced_by (resumed names macros calls' (frame_outcome names macros frame)))) none
-      ∙ ap (λ (front : List Pending). with_sources sources (replaced_by (with_front (done names front) (expanded macros frame.left (ahead names frame.tokens.items))))) given
+      ∙ ap (λ (front : List Pending). with_sources sources
+      (replaced_by (with_front (done names front) (expanded macros frame.left (ahead names frame.tokens.items))))) given
       ∙ ap (λ (tokens : List Pending). with_sources sources (replaced_by (with_front [] (expanded macros frame.left (ahead names tokens))))) empty
       ∙ ap (λ (outcome : Outcome). with_sources sources (replaced_by outcome)) (whole_done macros [] frame.left)
       ∙ ap (λ (tokens : List SourceToken). Ok (record { tokens = tokens; left = frame.left })) (append-nil sources)
@@ -317,7 +334,9 @@ module _ (names : List (List ℕ)) where
   -- the next token, in front of those after it
   pub next_ahead : (macros : Definitions) (sources : List SourceToken) (calls : List Suspended) (frame : Frame) (rest : List Pending) (token : Pending)
       → frame.tokens.items ≡ rest ++ token ∷ []
-      → with_sources sources (replaced_by (resumed names macros calls (with_front (done names frame.before.items) (expanded macros frame.left (hidden names token ∷ ahead names rest)))))
+      → with_sources sources
+      (replaced_by (resumed names macros calls
+      (with_front (done names frame.before.items) (expanded macros frame.left (hidden names token ∷ ahead names rest)))))
       ≡ with_sources sources (replaced_by (resumed names macros calls (frame_outcome names macros frame)))
   next_ahead macros sources calls frame rest token popped =
       ap (λ (tokens : List Hidden). with_sources sources (replaced_by (resumed names macros calls

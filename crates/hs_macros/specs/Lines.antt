@@ -3,7 +3,6 @@
 --     form_of names           the names of a function-like macro's parameters
 --     parameters_of read      the parameters, and the tokens after them
 --     named line              the name, and its definition
---     Seen view result read  what a function returned is what the definition reads
 --     defined_by macros line  the macros with what the line defines
 use Rattle.std.specs.Prelude.{◌≡◌, ℕ, List, Vec, Option, None, Some, map, option_map}
 use Rattle.std.specs.Global.{Global}
@@ -28,11 +27,6 @@ parameters_of read = record { names = names_of read.names.items; behind = read.b
 -- the name, and its definition
 abbrev pub named : Line → Named
 named line = record { name = line.name.now; definition = record { parameters = form_of line.parameters; body = line.body.now } }
-
--- what a function returned, seen by view, is what the definition reads
-abbrev pub Seen : {X Y : Type 0} → (X → Y) → Option X → Option Y → Type 0
-Seen view None read = read ≡ None
-Seen view (Some x) read = read ≡ Some (view x)
 
 -- the macros with what the line defines
 abbrev pub defined_by : Definitions → Line → Definitions

@@ -64,7 +64,8 @@ module _ (names : List (List ℕ)) where
   -- what was found, and what follows it
   abbrev pub seen : Option Between → List Hidden → Option Collected
   seen None behind = None
-  seen (Some between) behind = Some (record { given = map (λ argument. done argument.items) between.given.items; close = hidden between.close; behind = behind })
+  seen (Some between) behind =
+      Some (record { given = map (λ argument. done argument.items) between.given.items; close = hidden between.close; behind = behind })
 
   -- an argument with its parameter
   abbrev pub argument : Supplied → Argument

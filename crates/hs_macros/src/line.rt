@@ -3,7 +3,8 @@
 ghost use Rattle.std.specs.Prelude.{◌≡◌, IfOk};
 ghost use Rattle.std.specs.List.{list_any};
 ghost use Rattle.hs_macros.specs.Definitions.{is_distinct, names_from, parameters_from, is_operator, with_body, with_definition, definition_from, definition_of};
-ghost use Rattle.hs_macros.specs.Lines.{names_of, form_of, parameters_of, named, Seen};
+ghost use Rattle.hs_base.specs.Options.{Seen};
+ghost use Rattle.hs_macros.specs.Lines.{names_of, form_of, parameters_of, named};
 
 use hs_tokens::{Token, is_identifier, is_mark};
 use std::alloc::{AllocError, Global};

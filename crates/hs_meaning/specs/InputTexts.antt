@@ -5,6 +5,7 @@
 --     refuse 1                     the number, from 1 to 4294967295, of an allocation that is refused
 --     hex_bytes text               the bytes that hexadecimal digits are
 --     number_in least most text    the decimal number that the text is, if it is in the range
+--     too_large                    a value that is past the range only grows with more digits
 --     word_of text                 the low 32 bits of the number that the text is
 --     item_of line                 what the line says, if it has one of the forms
 --     reading text                 the input, or the number of the first line that has no form
@@ -13,17 +14,14 @@ use Rattle.std.specs.Prelude.{◌≡◌, ℕ, ◌+◌, ◌*◌, ◌==◌, nat_eq
 use Rattle.std.specs.Char.{digit_value}
 use Rattle.std.specs.Int.{w32, cast_unsigned}
 use Rattle.std.specs.List.{slice_split, starts_with}
+use Rattle.hs_base.specs.Options.{◌>>=◌}
 use Rattle.hs_meaning.specs.declared.input.Input.{Input}
 use Rattle.hs_meaning.specs.declared.input_text.InputError.{InputError}
 use Rattle.hs_meaning.specs.declared.input_text.InputError.TheVariants.{BadInput, NoMemory}
 use Rattle.hs_meaning.specs.declared.input_text.line.Item.{Item}
 use Rattle.hs_meaning.specs.declared.input_text.line.Item.TheVariants.{Nothing, Bytes, Word, Refused}
-
-infixl 10 ◌>>=◌
--- nothing, or what follows from what was read
-abbrev pub ◌>>=◌ : {A B : Type 0} → Option A → (A → Option B) → Option B
-None >>= f = None
-(Some x) >>= f = f x
+use Rattle.std.proofs.lemmas.Bool.Decides.{nat_tests}
+use Rattle.std.proofs.Common.{◌<◌, refl, arith}
 
 -- the value of a digit of that base: 0 to 9, then the letters in either case
 abbrev pub digit : ℕ → ℕ → Option ℕ
@@ -62,6 +60,17 @@ begins_number (first ∷ second ∷ rest) = not (first == 48)
 abbrev pub within : ℕ → ℕ → Option ℕ → Option ℕ
 within least most None = None
 within least most (Some n) = if nat_le least n && nat_le n most then Some n else None
+
+-- a value only grows with more digits: if it is too large, the number is
+pub too_large : (least most value : ℕ) (rest : List ℕ) → most < value → within least most (value_after value rest) ≡ None
+too_large least most value [] large = grind (arith, nat_tests)
+too_large least most value (byte ∷ rest) large =
+    by_test (nat_lt (digit_value byte) 10) (too_large least most (value * 10 + digit_value byte) rest (omega arith))
+  where
+    by_test : (test : Bool) → within least most (value_after (value * 10 + digit_value byte) rest) ≡ None
+        → within least most ((if test then Some (digit_value byte) else None) >>= (λ ones. value_after (value * 10 + ones) rest)) ≡ None
+    by_test true later = later
+    by_test false later = refl
 
 -- the decimal number that the text is
 abbrev pub number_in : ℕ → ℕ → List ℕ → Option ℕ

@@ -7,7 +7,8 @@ use Rattle.std.proofs.lemmas.Bool.{cases_lt}
 use Rattle.std.proofs.lemmas.Bool.Decides.{nat_tests}
 use Rattle.std.proofs.lemmas.Fmt.{decimal_by_steps}
 use Rattle.std.proofs.lemmas.List.Elements.{All-nil, All-cons, All-head, All-push}
-use Rattle.hs_meaning.specs.InputTexts.{◌>>=◌, begins_number, digit, number_in, value_after}
+use Rattle.hs_base.specs.Options.{◌>>=◌}
+use Rattle.hs_meaning.specs.InputTexts.{begins_number, digit, number_in, value_after}
 
 -- the byte of a digit
 pub record IsDigit (byte : ℕ) : Type 0 where

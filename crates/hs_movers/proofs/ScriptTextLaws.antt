@@ -1,10 +1,9 @@
 -- What the readers of a script's text need of its definitions.
-use Rattle.std.proofs.Common.{◌≡◌, ℕ, suc, ◌==◌, ◌+◌, ◌-◌, ◌*◌, ◌<◌, ◌≤◌, length, replicate, drop, get_or, Bool, true, false, List, [], ◌∷◌, ◌++◌, Option, Some, None, refl, arith, append_assoc, ap, sym, ◌∙◌}
-use Rattle.std.specs.Prelude.{count_by, not, option_map, unwrap_or, nat_lt, if◌then◌else◌}
-use Rattle.std.specs.Char.{digit_value}
+use Rattle.std.proofs.Common.{◌≡◌, ℕ, suc, ◌==◌, ◌+◌, ◌-◌, ◌<◌, ◌≤◌, length, replicate, drop, get_or, Bool, false, List, [], ◌∷◌, ◌++◌, Option, Some, None, refl, arith, append_assoc, ap, sym, ◌∙◌}
+use Rattle.std.specs.Prelude.{not, option_map, unwrap_or}
 use Rattle.std.proofs.lemmas.Bool.Decides.{nat_tests}
 use Rattle.std.proofs.lemmas.List.{drop_more}
-use Rattle.std.proofs.lemmas.List.Sums.{count_by-le-length, prefix_len-le-length}
+use Rattle.std.proofs.lemmas.List.Sums.{prefix_len-le-length}
 use Rattle.std.proofs.lemmas.Iterator.{YieldsList}
 use Rattle.std.proofs.lemmas.Iterator.Consumers.{YieldsList-at, YieldsList-turn, YieldsList-end}
 use Rattle.std.proofs.lemmas.Iterator.Splits.{YieldsList-from_slice_split}
@@ -15,19 +14,9 @@ use Rattle.std.specs.Slice.Iter.{split_rest, split_done, split_callee, split_ste
 use Rattle.std.specs.declared.slice.Split.{Split}
 use denote.Param.Members.{Mut}
 use denote.Ref.{Bor}
-use Rattle.hs_meaning.specs.InputTexts.{◌>>=◌, number_in, value_after, within}
+use Rattle.hs_base.specs.Options.{◌>>=◌}
+use Rattle.hs_meaning.specs.InputTexts.{number_in}
 use Rattle.hs_movers.specs.ScriptTexts.{Read, added, item_of, numbers_in, read_from, then_line}
-
--- a value only grows with more digits: if it is too large, the number is
-pub too_large : (least most value : ℕ) (rest : List ℕ) → most < value → within least most (value_after value rest) ≡ None
-too_large least most value [] large = grind (arith, nat_tests)
-too_large least most value (byte ∷ rest) large =
-    by_test (nat_lt (digit_value byte) 10) (too_large least most (value * 10 + digit_value byte) rest (omega arith))
-  where
-    by_test : (test : Bool) → within least most (value_after (value * 10 + digit_value byte) rest) ≡ None
-        → within least most ((if test then Some (digit_value byte) else None) >>= (λ ones. value_after (value * 10 + ones) rest)) ≡ None
-    by_test true later = later
-    by_test false later = refl
 
 -- the place of a byte, or the end
 pub place_or_end : {A : Type 0} (test : A → Bool) (items : List A) → unwrap_or (position test items) (length items) ≡ position_or_len test items
@@ -88,7 +77,3 @@ module _ {F : Type 0} {g : Mut F (Bor ℕ × Unit {0}) Bool} {f : F} (stop : ℕ
   -- at its end, it was at each piece
   pub piece_end : {r : Option (Bor (List ℕ))} → r ≡ None → split_steps g t r u → length before ≡ length pieces
   piece_end {r = r} is step = (YieldsList-end gives_pieces before t yielded r u is step).1
-
--- a text has no more line feeds than bytes
-pub few_line_feeds : (text : List ℕ) → count_by (λ byte. byte == 10) text ≤ length text
-few_line_feeds text = count_by-le-length (λ byte. byte == 10) text

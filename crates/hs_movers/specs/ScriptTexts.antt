@@ -14,10 +14,11 @@ use Rattle.std.specs.Prelude.{◌≡◌, ◌≤◌, ℕ, zero, suc, ◌+◌, ◌
 use Rattle.std.specs.Fmt.{decimal}
 use Rattle.std.specs.List.{All as Each, position_or_len, slice_split}
 use Rattle.std.specs.Str.{bytes_eq}
+use Rattle.hs_base.specs.Options.{◌>>=◌}
 use Rattle.hs_heap.specs.declared.decision.Decision.{Decision}
 use Rattle.hs_heap.specs.declared.decision.Which.{Which}
 use Rattle.hs_heap.specs.declared.decision.Which.TheVariants.{All, These}
-use Rattle.hs_meaning.specs.InputTexts.{◌>>=◌, after, lines, number_in}
+use Rattle.hs_meaning.specs.InputTexts.{after, lines, number_in}
 use Rattle.hs_movers.specs.Movers.{no_block}
 use Rattle.hs_movers.specs.declared.script.Script.{Script}
 use Rattle.hs_movers.specs.declared.script_text.ScriptError.{ScriptError}

@@ -1,30 +1,14 @@
 -- What a map of names has at each name, after a change at one of them.
-use Rattle.std.proofs.Common.{◌≡◌, ℕ, Bool, true, false, List, [], ◌∷◌, Option, Vec, Global, nat_eq, refl, sym, subst, ◌∙◌, if◌then◌else◌}
+use Rattle.std.proofs.Common.{◌≡◌, ℕ, Bool, true, false, List, [], ◌∷◌, Option, nat_eq, refl, sym, subst, ◌∙◌, if◌then◌else◌}
 use Rattle.std.specs.Cmp.Lexicographic.{pointwise, bytes_decides, nat_list_eq_equiv}
 use Rattle.std.specs.Map.{lookup, KeepsOthers, IsKeyTest, AreApart}
+use Rattle.hs_base.specs.Keys.{Key, has_bytes, are_alike, lacks_other}
 use Rattle.hs_names.specs.Index.{by_bytes, at}
-
--- what a map is keyed by
-abbrev pub Key : Type 0
-Key = Vec ℕ Global
-
--- the key has these bytes
-abbrev pub has_bytes : List ℕ → Key → Bool
-has_bytes name key = pointwise nat_eq name key.items
-
--- the two keys have the same bytes
-abbrev pub are_alike : Key → Key → Bool
-are_alike first second = pointwise nat_eq first.items second.items
 
 -- the first entry of a name, whichever way the entries are seen
 pub at-by_bytes : (name : List ℕ) (entries : List (Key × ℕ)) → at name (by_bytes entries) ≡ lookup (has_bytes name) entries
 at-by_bytes name [] = refl
 at-by_bytes name (entry ∷ entries) = rw (at-by_bytes name entries) refl
-
--- a key of one name has not another
-apart : (name other : List ℕ) (key : Key) → pointwise nat_eq name other ≡ false → has_bytes name key ≡ true → has_bytes other key ≡ false
-apart name other key differ here =
-    nat_list_eq_equiv.symm other key.items ∙ sym (nat_list_eq_equiv.congr name key.items other here) ∙ differ
 
 -- the other names keep what they had
 kept : (name other : List ℕ) (old new : List (Key × ℕ)) → KeepsOthers are_alike (has_bytes name) old new → pointwise nat_eq name other ≡ false
@@ -32,7 +16,7 @@ kept : (name other : List ℕ) (old new : List (Key × ℕ)) → KeepsOthers are
 unfolding KeepsOthers
 kept name other old new others differ =
     let is_key : IsKeyTest are_alike (has_bytes other) = λ x y here. nat_list_eq_equiv.congr other x.items y.items here in
-    let is_apart : AreApart (has_bytes name) (has_bytes other) = λ key here. apart name other key differ here in
+    let is_apart : AreApart (has_bytes name) (has_bytes other) = λ key here. lacks_other name other key differ here in
     at-by_bytes other new ∙ others (has_bytes other) is_key is_apart ∙ sym (at-by_bytes other old)
 
 changed-if : (name other : List ℕ) (old new : List (Key × ℕ)) (value : Option ℕ) (same : Bool) → pointwise nat_eq name other ≡ same

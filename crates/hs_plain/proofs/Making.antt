@@ -1,13 +1,14 @@
 -- Blocks that are made as results.
-use Rattle.std.proofs.Common.{◌≡◌, refl, ap, sym, subst, ◌∙◌, ℕ, ◌+◌, pos, Bool, true, false, List, [], ◌∷◌, ◌++◌, length, drop, replicate, Some, Result, Ok, Err, slice_get, slice_set, rules, arith, tests, add-one}
+use Rattle.std.proofs.Common.{◌≡◌, refl, ap, sym, subst, ◌∙◌, ℕ, ◌+◌, pos, Bool, true, false, List, [], ◌∷◌, ◌++◌, length, drop, replicate, Some, Result, Ok, Err, slice_set, rules, arith, tests}
 use native.Mathlib.Numerals.{unary_clauses}
 use Rattle.std.proofs.lemmas.List.{append-nil, length-replicate}
 use Rattle.std.proofs.Math.ListN.{drop_of_length-le}
 use Rattle.hs_heap.specs.Blocks.{Block, new_block, place_for}
-use Rattle.hs_heap.specs.Memory.{block_at, put_block}
+use Rattle.hs_heap.specs.Memory.{put_block}
 use Rattle.hs_heap.specs.declared.cell.Cell.{Cell}
 use Rattle.hs_heap.specs.declared.cell.Cell.TheVariants.{Undefined, Byte}
 use Rattle.hs_heap.specs.declared.cell.Pointer.TheVariants.{Handle}
+use Rattle.hs_heap.specs.BlockLaws.{block_at_last}
 use Rattle.hs_meaning.specs.Accesses.{with_cells_from}
 use Rattle.hs_meaning.specs.Handles.{handle_if, with_block}
 use Rattle.hs_meaning.specs.Machine.{Machine, done, with_blocks}
@@ -18,19 +19,10 @@ use Rattle.hs_state.specs.Machines.{Does}
 use Rattle.hs_values.specs.declared.halt.Halt.{Halt}
 use Rattle.hs_values.specs.declared.halt.Halt.TheVariants.{Stopped, NoMemory}
 
--- the last of a list
-pub last_there : {A : Type 0} (items : List A) (it : A) → slice_get (items ++ it ∷ []) (length items) ≡ Some it
-last_there [] it = refl
-last_there (first ∷ items) it = last_there items it
-
 -- another one there
 pub last_set : {A : Type 0} (items : List A) (old new : A) → slice_set (items ++ old ∷ []) (length items) new ≡ items ++ new ∷ []
 last_set [] old new = refl
 last_set (first ∷ items) old new = ap (λ its. first ∷ its) (last_set items old new)
-
--- the block that was made last
-pub block_at_last : (blocks : List Block) (block : Block) → block_at (blocks ++ block ∷ []) (length blocks + 1) ≡ Some block
-block_at_last blocks block = rw add-one (last_there blocks block)
 
 -- another one in its place
 pub put_last : (blocks : List Block) (old new : Block) → put_block (blocks ++ old ∷ []) (length blocks + 1) new ≡ blocks ++ new ∷ []

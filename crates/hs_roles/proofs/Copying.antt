@@ -1,5 +1,5 @@
 -- Cells that are copied before they are written.
-use Rattle.std.proofs.Common.{◌≡◌, ℕ, ℤ, pos, negsuc, Bool, true, false, not, List, [], ◌∷◌, ◌++◌, length, Option, Some, None, Result, Ok, Err, refl, ap, sym, subst, ◌∙◌, slice_get, arith}
+use Rattle.std.proofs.Common.{◌≡◌, ℕ, ℤ, pos, negsuc, Bool, true, false, not, List, [], ◌∷◌, length, Option, Some, None, Result, Ok, Err, refl, ap, sym, subst, ◌∙◌, slice_get, arith}
 use Rattle.std.proofs.lemmas.Bool.Decides.{nat_tests}
 use Rattle.hs_heap.specs.Blocks.{Block, place_for}
 use Rattle.hs_heap.specs.Memory.{block_at}
@@ -10,7 +10,7 @@ use Rattle.hs_heap.specs.declared.cell.Spot as spot
 use Rattle.hs_heap.specs.declared.stop.HeapStop.{HeapStop}
 use Rattle.hs_meaning.specs.Accesses.{block_stops, by_stop, cells_at, cells_from, cells_of_block, cells_of_object, is_inside, object_stops, unless_stopped, use_stops, with_cells_at}
 use Rattle.hs_meaning.specs.Machine.{Machine, Object, has_ended}
-use Rattle.hs_meaning.specs.Stops.{Stops, first_stop, heap_stop, stops_if}
+use Rattle.hs_meaning.specs.Stops.{first_stop, heap_stop, stops_if, stops_before, stops_after}
 use Rattle.hs_meaning.specs.declared.outcome.Stop.TheVariants as stops
 use Rattle.hs_meaning.specs.declared.outcome.Stop.{Stop}
 use Rattle.hs_roles.proofs.Placing.{placed, taken}
@@ -19,18 +19,6 @@ use Rattle.hs_state.specs.Machines.{Does}
 use Rattle.hs_values.specs.Answers.{Halts, or_first, or_stop}
 use Rattle.hs_values.specs.declared.halt.Halt.TheVariants.{Stopped, NoMemory}
 use Rattle.hs_values.specs.declared.halt.Halt.{Halt}
-
--- a list of stops in front of another one
-stops_in_front : (stops later : Stops) (why : Stop) → first_stop stops ≡ Some why → first_stop (stops ++ later) ≡ Some why
-stops_in_front [] later why is = absurd (cc)
-stops_in_front (Some given ∷ stops) later why is = is
-stops_in_front (None ∷ stops) later why is = stops_in_front stops later why is
-
--- none of which applies
-stops_behind : (stops later : Stops) → first_stop stops ≡ None → first_stop (stops ++ later) ≡ first_stop later
-stops_behind [] later is = refl
-stops_behind (Some given ∷ stops) later is = absurd (cc)
-stops_behind (None ∷ stops) later is = stops_behind stops later is
 
 -- cells of an object that are inside
 inside : (at : ℤ) (count : ℕ) (cells : List Cell) → is_inside at count (length cells) ≡ true → length (cells_from at count cells) ≡ count
@@ -93,7 +81,7 @@ module _ (from to : Pointer) (count : ℕ) (machine : Machine) where
       by_why NoMemory stop is halts = tt
       by_why (Stopped given) None is halts = absurd halts
       by_why (Stopped given) (Some why) is halts =
-          rw (stops_in_front (use_stops from count machine) (use_stops to count machine) why is) (halts, refl)
+          rw (stops_before (use_stops from count machine) (use_stops to count machine) why is) (halts, refl)
 
   -- its cells are written
   pub then_written : (cells : List Cell) (new : Machine) (result : Result Unit Halt)
@@ -107,7 +95,7 @@ module _ (from to : Pointer) (count : ℕ) (machine : Machine) where
       by_stops None is halts =
           let long : length cells ≡ count = ap length halts ∙ as_many from count machine is
           in subst (λ (stop : Option Stop). Does (by_stop stop tt (with_cells_at to (cells_at from count machine) machine) machine) new result)
-          (sym (stops_behind (use_stops from count machine) (use_stops to count machine) is))
+          (sym (stops_after (use_stops from count machine) (use_stops to count machine) is))
           (subst (λ (its : List Cell). Does (by_stop (first_stop (use_stops to count machine)) tt (with_cells_at to its machine) machine) new result) halts
           (subst (λ (n : ℕ). Does (by_stop (first_stop (use_stops to n machine)) tt (with_cells_at to cells machine) machine) new result) long does))
       by_stops (Some why) is halts = absurd halts

@@ -1,19 +1,13 @@
 -- A block that is not emptied, since it is of the last life.
-use Rattle.std.proofs.Common.{◌≡◌, ℕ, zero, suc, ◌==◌, pos, Bool, true, false, List, Some, None, Result, Ok, Err, cond, refl, ap, sym, subst, ◌∙◌, slice_get, slice_set}
+use Rattle.std.proofs.Common.{◌≡◌, ℕ, zero, suc, ◌==◌, pos, Bool, true, false, List, Some, None, Result, Ok, Err, cond, refl, ap, sym, subst, ◌∙◌}
 use native.Mathlib.Numerals.{unary_clauses}
 use Rattle.std.proofs.lemmas.Bool.{eq-eqb}
-use Rattle.std.proofs.lemmas.List.{set-get_or}
-use Rattle.std.proofs.lemmas.Option.{get_or_from_slice_get}
 use Rattle.hs_heap.specs.Blocks.{Block, by_standing, emptied, master_of, standing}
 use Rattle.hs_heap.specs.Memory.{Memory, ActsAs, block_at, put_block}
 use Rattle.hs_heap.specs.declared.cell.Spot.{Spot}
 use Rattle.hs_heap.specs.declared.stop.HeapStop.{HeapStop}
+use Rattle.hs_heap.specs.BlockLaws.{same_there}
 use Rattle.hs_meaning.specs.Handles.{emptied_once}
-
--- what is there, put there again
-same_there : (blocks : List Block) (place : ℕ) (block : Block) → slice_get blocks place ≡ Some block → slice_set blocks place block ≡ blocks
-same_there blocks place block there =
-    subst (λ it. slice_set blocks place it ≡ blocks) (get_or_from_slice_get blocks place block block there) (set-get_or blocks place block)
 
 -- by its number
 pub same_block : (blocks : List Block) (number : ℕ) (block : Block) → block_at blocks number ≡ Some block → put_block blocks number block ≡ blocks

@@ -1,15 +1,12 @@
 -- Where cells are that a pointer into a block reaches.
-use Rattle.std.proofs.Common.{◌≡◌, ◌≤◌, ◌+◌, ℕ, ℤ, pos, negsuc, nat_le, Bool, true, false, not, ◌==◌, if◌then◌else◌, List, ◌++◌, length, take, drop, Result, Ok, Err, refl, ap, sym, ◌∙◌, arith}
+use Rattle.std.proofs.Common.{◌≡◌, ◌≤◌, ◌+◌, ℕ, ℤ, pos, negsuc, nat_le, Bool, true, false, not, ◌==◌, if◌then◌else◌, List, ◌++◌, length, take, drop, Ok, Err, refl, ap, sym, ◌∙◌, arith}
 use Rattle.std.proofs.Math.Seq.{take-add}
 use Rattle.std.proofs.lemmas.Bool.Decides.{nat_tests}
 use Rattle.std.proofs.lemmas.List.{length-drop, length-take-le, take-append-drop}
 use Rattle.hs_heap.specs.Blocks.{Block, is_disposed, place_for, range_at, reach}
-use Rattle.hs_heap.specs.declared.cell.Cell.{Cell}
 use Rattle.hs_heap.specs.declared.cell.Spot as spot
-use Rattle.hs_heap.specs.declared.presence.Presence.TheVariants.{Present, Emptied, Purged, Disposed}
-use Rattle.hs_heap.specs.declared.presence.Presence.{Presence}
 use Rattle.hs_heap.specs.declared.stop.HeapStop.TheVariants as stop
-use Rattle.hs_heap.specs.declared.stop.HeapStop.{HeapStop}
+use Rattle.hs_heap.specs.BlockLaws.{past_tests, reach_among}
 
 -- so many items, of a list that has them
 pub taken : {A : Type 0} (items : List A) (place count : ℕ) → place + count ≤ length items → length (take count (drop place items)) ≡ count
@@ -25,14 +22,6 @@ same_items items place count inside =
     ∙ ap (λ its. its ++ drop (place + count) items) (sym (take-add place count items))
     ∙ take-append-drop (place + count) items
 
--- all tests are passed
-passed : (disposed old stale : Bool) (place : Result ℕ HeapStop) (here : ℕ)
-    → (if disposed then Err stop.Disposed else if old then Err stop.Old else if stale then Err stop.Stale else place) ≡ Ok here → place ≡ Ok here
-passed true old stale place here is = absurd (cc)
-passed false true stale place here is = absurd (cc)
-passed false false true place here is = absurd (cc)
-passed false false false place here is = is
-
 -- a test of a range that is passed
 in_range : (at count size here : ℕ) (test : Bool) → test ≡ nat_le (at + count) size → (if test then Ok at else Err stop.Range) ≡ Ok here
     → (at ≡ here) × (here + count ≤ size)
@@ -46,18 +35,11 @@ ranged (pos at) count size here is =
     in (ap pos both.0, both.1)
 ranged (negsuc at) count size here is = absurd (cc)
 
--- what is reached is there
-reached : (presence : Presence) (cells : List Cell) → reach presence cells ≤ length cells
-reached Present cells = omega arith
-reached Emptied cells = omega arith
-reached Purged cells = omega arith
-reached Disposed cells = omega arith
-
 -- where a use begins, so many cells are there
 pub placed : (its : spot.Spot) (count here : ℕ) (block : Block) → place_for its count block ≡ Ok here
     → (its.offset ≡ pos here) × (here + count ≤ length block.cells)
 placed its count here block is =
     let both = ranged its.offset count (reach block.presence block.cells) here
-    (passed (is_disposed block.presence) (not (its.life == block.life)) (not (its.epoch == block.epoch)) _ here is)
-    in let there = reached block.presence block.cells
+    (past_tests (is_disposed block.presence) (not (its.life == block.life)) (not (its.epoch == block.epoch)) _ here is)
+    in let there = reach_among block.presence block.cells
     in (both.0, omega arith)

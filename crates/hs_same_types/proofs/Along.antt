@@ -1,18 +1,10 @@
 -- Along the table of types: what stands for the types so far, with one type more, and after the last one.
-use Rattle.std.proofs.Common.{◌≡◌, ◌<◌, ◌+◌, ℕ, zero, suc, List, [], ◌∷◌, ◌++◌, drop, length, slice_get, get_or, Some, None, refl, sym, ap, ◌∙◌, arith}
-use Rattle.std.proofs.Math.Seq.{drop-cons}
+use Rattle.std.proofs.Common.{◌≡◌, ◌+◌, ℕ, zero, suc, List, [], ◌∷◌, ◌++◌, drop, length, slice_get, Some, None, refl, sym, ap, ◌∙◌, arith}
 use Rattle.std.proofs.lemmas.List.{length-append}
 use Rattle.indexmap.specs.IndexMap.{insert_entry}
 use Rattle.hs_same_types.specs.Representatives.{same_row, type_of, next_row, types_of}
 use Rattle.hs_types.specs.declared.row.Row.{Row}
 use Rattle.hs_types.specs.declared.row.TypeId.{TypeId}
-
--- what is left begins with the item of that place
-pub drop_item : {A : Type 0} → (xs : List A) (place : ℕ) (it : A) → place < length xs → it ≡ get_or xs place it
-    → drop place xs ≡ it ∷ drop (place + 1) xs
-drop_item xs place it within is =
-    let next : suc place ≡ place + 1 = omega arith in
-    drop-cons xs place it within ∙ ap (λ first. first ∷ drop (suc place) xs) (sym is) ∙ ap (λ n. it ∷ drop n xs) next
 
 -- the same, where the place is looked up
 drop_there : {A : Type 0} → (xs : List A) (place : ℕ) (it : A) → slice_get xs place ≡ Some it → drop place xs ≡ it ∷ drop (suc place) xs

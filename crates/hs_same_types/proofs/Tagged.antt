@@ -1,18 +1,14 @@
 -- The first struct of a tag, and what stands for structs by the indexes of tags.
 use Rattle.std.proofs.Common.{◌≡◌, ℕ, suc, Bool, true, false, List, [], ◌∷◌, ◌++◌, length, Option, Some, None, refl, ap, ◌∙◌, if◌then◌else◌}
+use Rattle.hs_base.specs.Options.{or_else_assoc, or_else}
 use Rattle.hs_names.specs.Index.{at}
-use Rattle.hs_same_types.specs.Representatives.{or_else, is_tagged, tagged, named, struct_of, structs_of, first_at}
+use Rattle.hs_same_types.specs.Representatives.{is_tagged, tagged, named, struct_of, structs_of, first_at}
 use Rattle.hs_same_types.specs.Tags.{Places, IsByTag, if_tagged, named_by, structs_by}
 use Rattle.hs_tree.specs.Representatives.{or_itself}
 use Rattle.hs_typer.specs.Origins.{has_body}
 use Rattle.hs_typer.specs.declared.origins.Origin.{Origin}
 use Rattle.hs_typer.specs.declared.origins.Origins.{Origins}
 use Rattle.hs_types.specs.TypeTables.{TypeTable}
-
--- the first of three
-or_else_assoc : (a b c : Option ℕ) → or_else (or_else a b) c ≡ or_else a (or_else b c)
-or_else_assoc None b c = refl
-or_else_assoc (Some number) b c = refl
 
 -- the first of a list is its first item, or else that of the rest
 first_or_rest : (b : Bool) (number : ℕ) (rest : Option ℕ) → or_else (if b then Some number else None) rest ≡ (if b then Some number else rest)

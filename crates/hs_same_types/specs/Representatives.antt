@@ -7,6 +7,7 @@
 --     representatives types o             of all structs and all types
 use Rattle.std.specs.Prelude.{ℕ, suc, Bool, true, false, ◌&&◌, ◌||◌, List, [], ◌∷◌, ◌++◌, length, Option, Some, None, if◌then◌else◌}
 use Rattle.indexmap.specs.IndexMap.{insert_entry}
+use Rattle.hs_base.specs.Options.{or_else}
 use Rattle.hs_tree.specs.Representatives.{or_itself, struct_for, type_for}
 use Rattle.hs_tree.specs.declared.representatives.Representatives.{Representatives}
 use Rattle.hs_typer.specs.Origins.{are_one_tag, has_body, kept_for}
@@ -41,11 +42,6 @@ is_tagged all types name number it = are_one_tag it.tag (Some name) && (all || h
 abbrev pub tagged : Bool → TypeTable → List ℕ → ℕ → List Origin → Option ℕ
 tagged all types name number [] = None
 tagged all types name number (it ∷ rest) = if is_tagged all types name number it then Some number else tagged all types name (suc number) rest
-
--- the first one, or else the second
-abbrev pub or_else : Option ℕ → Option ℕ → Option ℕ
-or_else None second = second
-or_else (Some number) second = Some number
 
 -- A tag without a body in its unit is compatible with the same tag of another unit (own): the first that has its body stands for it.
 abbrev pub named : TypeTable → List Origin → Option (List ℕ) → Option ℕ

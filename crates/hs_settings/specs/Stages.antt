@@ -1,10 +1,10 @@
 -- Stages that read files one after another, where the first that fails ends them. Own to this project.
 --     Then first next reads result     the first stage, and then the next one, of what the first gave
 --     no_more, then_on                 a stage that fails, and one after another
-use Rattle.std.specs.Prelude.{◌≡◌, ◌⊎◌, List, [], ◌∷◌, ◌++◌, Result, Ok, Err}
-use Rattle.std.proofs.Common.{subst, refl, inl, inr}
+use Rattle.std.specs.Prelude.{◌≡◌, ◌⊎◌, List, ◌++◌, Result, Ok, Err}
+use Rattle.std.proofs.Common.{refl, inl, inr}
 use Rattle.hs_base.specs.Files.{Read}
-use Rattle.hs_base.specs.Reads.{Leads, MadeReads}
+use Rattle.hs_base.specs.Reads.{MadeReads, Leads_append}
 
 -- If the first stage gives something, the next one follows, with the reads after those of the first; if not, its error is the answer.
 abbrev pub Then : {A B E : Type 0} → (List Read → Result A E → Type 0) → (A → List Read → Result B E → Type 0)
@@ -14,12 +14,6 @@ Then {A} first next reads (Ok it) =
 Then {A} first next reads (Err error) =
     first reads (Err error)
     ⊎ ((front rest : List Read) × (given : A) × (reads ≡ front ++ rest) × first front (Ok given) × next given rest (Err error))
-
--- reads after reads
-pub Leads_append : {F : Type 0} (leads : F → Read → F → Type 0) (one mid last : F) (front rest : List Read) → Leads leads one front mid
-    → Leads leads mid rest last → Leads leads one (front ++ rest) last
-Leads_append leads one mid last [] rest led on = subst (λ it. Leads leads it rest last) led on
-Leads_append leads one mid last (read ∷ front) rest led on = (led.0, led.1, Leads_append leads led.0 mid last front rest led.2 on)
 
 module _ {F A B E : Type 0} (leads : F → Read → F → Type 0) (first : List Read → Result A E → Type 0)
     (next : A → List Read → Result B E → Type 0) where

@@ -1,5 +1,5 @@
 -- Loads and stores, from what their parts answer.
-use Rattle.std.proofs.Common.{◌≡◌, ◌≤◌, ◌+◌, ◌==◌, nat_le, not, if◌then◌else◌, ℤ, pos, negsuc, ℕ, zero, suc, Bool, true, false, List, [], ◌∷◌, ◌++◌, length, take, drop, slice_get, Option, Some, None, Result, Ok, Err, refl, sym, ap, ◌∙◌, subst, arith, length-take, length-drop}
+use Rattle.std.proofs.Common.{◌≡◌, ◌≤◌, ◌+◌, ◌==◌, nat_le, not, if◌then◌else◌, ℤ, pos, negsuc, ℕ, zero, suc, Bool, true, false, List, [], ◌∷◌, length, take, drop, slice_get, Option, Some, None, Result, Ok, Err, refl, sym, ap, ◌∙◌, subst, arith, length-take, length-drop}
 use Rattle.std.specs.Prelude.{IfSome}
 use Rattle.std.specs.List.{list_all, list_any}
 use Rattle.std.proofs.lemmas.Bool.{leb-true}
@@ -11,34 +11,21 @@ use Rattle.hs_heap.specs.declared.cell.Cell.TheVariants.{Byte}
 use Rattle.hs_heap.specs.declared.cell.Pointer.{Pointer}
 use Rattle.hs_heap.specs.declared.cell.Pointer.TheVariants.{Fixed, Spot}
 use Rattle.hs_heap.specs.declared.cell.Spot as spot
-use Rattle.hs_heap.specs.declared.presence.Presence.{Presence}
-use Rattle.hs_heap.specs.declared.presence.Presence.TheVariants.{Present, Emptied, Purged, Disposed}
 use Rattle.hs_heap.specs.declared.stop.HeapStop.{HeapStop}
 use Rattle.hs_heap.specs.declared.stop.HeapStop.TheVariants as heap
+use Rattle.hs_heap.specs.BlockLaws.{reach_among}
 use Rattle.hs_meaning.specs.Accesses.{block_stops, by_stop, cells_from, cells_of_block, start_at, unless_stopped, use_stops, cells_at, with_cells_at, cells_loaded, loaded, stored}
 use Rattle.hs_meaning.specs.Machine.{Machine, Done, done, stopped, and_then}
-use Rattle.hs_meaning.specs.Stops.{Stops, first_stop, heap_stop}
+use Rattle.hs_meaning.specs.Stops.{first_stop, heap_stop, stops_before, stops_after}
 use Rattle.hs_meaning.specs.Values.{Value, Access, of_number, of_pointer, of_struct, length_of, load_stops, value_in, store_stop, cells_for, is_byte, is_undefined, number, number_in}
 use Rattle.hs_meaning.specs.declared.outcome.Stop.{Stop}
-use Rattle.hs_state.specs.Machines.{Does}
+use Rattle.hs_state.specs.Machines.{Does, does_by_stop}
 use Rattle.hs_types.specs.declared.integer.Integer.{Integer}
 use Rattle.hs_values.specs.Answers.{Halts, or_stop, or_first}
 use Rattle.hs_values.specs.declared.halt.Halt.{Halt}
-use Rattle.hs_values.specs.declared.halt.Halt.TheVariants.{Stopped, NoMemory}
+use Rattle.hs_values.specs.declared.halt.Halt.TheVariants.{Stopped}
 
 -- ---- stops
-
--- one of the first list comes before those of the second
-stops_before : (stops later : Stops) (why : Stop) → first_stop stops ≡ Some why → first_stop (stops ++ later) ≡ Some why
-stops_before [] later why is = absurd (cc)
-stops_before (Some first ∷ stops) later why is = is
-stops_before (None ∷ stops) later why is = stops_before stops later why is
-
--- which counts if there is none in the first
-stops_after : (stops later : Stops) → first_stop stops ≡ None → first_stop (stops ++ later) ≡ first_stop later
-stops_after [] later is = refl
-stops_after (Some first ∷ stops) later is = absurd (cc)
-stops_after (None ∷ stops) later is = stops_after stops later is
 
 -- an answer that was refused
 refused : {A : Type 0} (stop : Option Stop) (it : A) (why : Stop) → or_stop stop it ≡ Err why → stop ≡ Some why
@@ -49,16 +36,6 @@ refused (Some given) it why is = cc
 given : {A : Type 0} (stop : Option Stop) (it answer : A) → or_stop stop it ≡ Ok answer → (stop ≡ None) × (it ≡ answer)
 given None it answer is = (refl, cc)
 given (Some why) it answer is = absurd (cc)
-
--- an operation that leaves the machine as it is
-answered : {A : Type 0} (stop : Option Stop) (it : A) (machine : Machine) (result : Result A Halt) → Halts (or_stop stop it) result
-    → Does (by_stop stop it machine machine) machine result
-answered None it machine (Ok value) is = (is, refl)
-answered None it machine (Err (Stopped why)) is = absurd is
-answered None it machine (Err NoMemory) is = tt
-answered (Some why) it machine (Ok value) is = absurd is
-answered (Some why) it machine (Err (Stopped stop)) is = (is, refl)
-answered (Some why) it machine (Err NoMemory) is = tt
 
 -- what was given is what is done
 does_so : {A : Type 0} (wanted : Done A) (machine : Machine) (given : A) → Does wanted machine (Ok given) → wanted ≡ done given machine
@@ -92,7 +69,7 @@ module _ (access : Access) (its : Pointer) (machine : Machine) where
       → Does (cells_loaded access its machine) machine result
   reached result none is =
       rw (stops_after (use_stops its (length_of access) machine) (load_stops access (cells_at its (length_of access) machine)) none)
-      (answered _ _ machine result is)
+      (does_by_stop _ _ machine result is)
 
   -- by an answer that has the cells
   pub not_lent : (why : Stop) → or_first (use_stops its (length_of access) machine) (cells_at its (length_of access) machine) ≡ Err why
@@ -132,13 +109,6 @@ ranged (pos start) count size at is =
     (both.1, omega (arith, leb-true (start + count) size both.0, both.1))
 ranged (negsuc start) count size at is = absurd (cc)
 
--- which are cells of the block
-reaches : (presence : Presence) (cells : List Cell) → reach presence cells ≤ length cells
-reaches Present cells = omega arith
-reaches Emptied cells = omega arith
-reaches Purged cells = omega arith
-reaches Disposed cells = omega arith
-
 -- so many cells are among those of the block
 inside : (its : spot.Spot) (count : ℕ) (block : Block) (at : ℕ) → place_for its count block ≡ Ok at
     → (start_at its.offset ≡ at) × (at + count ≤ length block.cells)
@@ -147,7 +117,7 @@ inside its count block at is =
     let same = unless (not (its.life == block.life)) _ _ at alive in
     let fresh = unless (not (its.epoch == block.epoch)) _ _ at same in
     let range = ranged its.offset count (reach block.presence block.cells) at fresh in
-    (range.0, omega (arith, range.1, reaches block.presence block.cells))
+    (range.0, omega (arith, range.1, reach_among block.presence block.cells))
 
 -- so many are lent
 lent_long : (its : spot.Spot) (count : ℕ) (block : Block) (place : Result ℕ HeapStop) (cells : List Cell) → place_for its count block ≡ place

@@ -107,7 +107,8 @@ parameters_seen v = parameters_row _ (hidden-the_row-Parameter-1 v)
     ∙ ap (λ its. parameters_from (map view_parameter its)) (items_hidden-the_row-Parameter-1 v)
 
 -- A type name after a pointer has the view of the type name.
-pub boxed_type_seen : (it : TypeName) → tree.typed_as (view_specifiers (hidden-the_row-Specifier-0 it.specifiers)) (view_declarator it.declarator) ≡ view_type it
+pub boxed_type_seen : (it : TypeName)
+    → tree.typed_as (view_specifiers (hidden-the_row-Specifier-0 it.specifiers)) (view_declarator it.declarator) ≡ view_type it
 boxed_type_seen it = ap (λ specification. tree.typed_as specification (view_declarator it.declarator)) (specifiers_seen it.specifiers)
 
 -- The view of members is made of their two lists.

@@ -6,16 +6,11 @@
 use Rattle.std.specs.Prelude.{ℕ, zero, suc, ℤ, pos, negsuc, nat_le, Bool, true, false, ◌&&◌, ◌||◌, List, codes, Option, Some, None, if◌then◌else◌}
 use Rattle.std.specs.Str.{bytes_eq}
 use Rattle.toml.specs.Data.{Data, Members, no_members, member, get_member, as_bool, as_integer, as_str, as_table}
+use Rattle.hs_base.specs.Options.{◌>>=◌}
 use Rattle.hs_table.specs.declared.role.Role.{Role}
 use Rattle.hs_table.specs.declared.routine.Routine.{Routine}
 use Rattle.hs_table.specs.Tables.{is_identifier, is_plain}
 use Rattle.hs_table_text.specs.Roles.{role_named}
-
-infixl 10 ◌>>=◌
--- nothing, or what follows from what is there
-abbrev pub ◌>>=◌ : {A B : Type 0} → Option A → (A → Option B) → Option B
-None >>= f = None
-(Some x) >>= f = f x
 
 -- the Boolean of a key; false if the key is absent
 abbrev pub flag_in : Option Data → Option Bool

@@ -6,11 +6,12 @@ use Rattle.std.specs.Prelude.{nat_le, if◌then◌else◌}
 use Rattle.std.specs.List.{list_all}
 use Rattle.std.proofs.lemmas.Bool.{and_parts, and_from, le-leb}
 use Rattle.toml.specs.Data.{Data, Members, no_members, member, is_before as is_before_members, get_member, as_integer, as_table}
+use Rattle.hs_base.specs.Options.{◌>>=◌}
 use Rattle.hs_table.specs.declared.role.Role.{Role}
 use Rattle.hs_table.specs.declared.routine.Routine.{Routine}
 use Rattle.hs_table.specs.Tables.{IsTable, is_before, is_identifier, is_plain, is_right, names_ascend}
 use Rattle.hs_table_text.specs.declared.error.TableError.{TableError}
-use Rattle.hs_table_text.specs.Entries.{◌>>=◌, are_known_keys, entry_of, flag_in, number_in, plain_number, role_in, routine_with}
+use Rattle.hs_table_text.specs.Entries.{are_known_keys, entry_of, flag_in, number_in, plain_number, role_in, routine_with}
 use Rattle.hs_table_text.specs.Texts.{in_front, routines_in}
 
 -- each key is before the next one, in the order of their bytes

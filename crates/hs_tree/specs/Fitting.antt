@@ -35,6 +35,7 @@ use Rattle.hs_types.specs.declared.row.Row.TheVariants as row
 use Rattle.hs_types.specs.declared.row.TypeId.{TypeId}
 use Rattle.hs_tree.specs.Inside.{Node, right, left, Phrase, of_statement, of_declaration, EachRight, EachBlock, EachExpression, IfAny}
 use Rattle.hs_tree.specs.Objects.{IsField, number_in, FitsStart, FitsGlobal}
+use Rattle.std.proofs.Common.{refl, ap}
 
 -- the variable of an object of static storage duration
 abbrev pub variable_of_global : Option Global → Option VariableDecl
@@ -220,6 +221,11 @@ FitParameters alike (id ∷ ids) (tree.more_values e rest) = alike (type_of e) i
 abbrev pub types_of : List VariableDecl → List TypeId
 types_of [] = []
 types_of (variable ∷ variables) = variable.type_id ∷ types_of variables
+
+-- as many types as variables
+pub count_types : (its : List VariableDecl) → length (types_of its) ≡ length its
+count_types [] = refl
+count_types (it ∷ its) = ap suc (count_types its)
 
 -- a call with these arguments and of that type fits the parameters and the result
 abbrev pub FitsSignature : (TypeId → TypeId → Type 0) → List TypeId → TypeId → RightValues → TypeId → Type 0

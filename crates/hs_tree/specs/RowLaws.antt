@@ -1,6 +1,6 @@
 -- The view of a row of a list is made of the views of the list's entries.
 --     rights_from, statements_from     the list of these entries
---     rights_seen, statements_seen     the row of a vector
+--     rights_seen, statements_seen     the row of a vector; statements_row: any row of statements
 --     block_seen                       a block that is put together
 use Rattle.std.proofs.Common.{◌≡◌, List, [], ◌∷◌, map, refl, ap, ◌∙◌, Vec}
 use Rattle.std.specs.Global.{Global}
@@ -39,7 +39,7 @@ abbrev pub statements_from : List OneStatement → TypedStatements
 statements_from [] = tree.no_statements
 statements_from (one_statement labels it ∷ rest) = tree.more_statements labels it (statements_from rest)
 
-statements_row : (m : _) (row : Row_of-Labelled m) → view_statements row ≡ statements_from (map view_labelled (items-the_row-Labelled m row))
+pub statements_row : (m : _) (row : Row_of-Labelled m) → view_statements row ≡ statements_from (map view_labelled (items-the_row-Labelled m row))
 statements_row _ end_of-Labelled = refl
 statements_row _ (more_of-Labelled labels it rest) = ap (tree.more_statements labels.items (view_statement it)) (statements_row _ rest)
 

@@ -2,6 +2,7 @@
 use Rattle.std.proofs.Common.{◌≡◌, ℕ, Bool, true, false, ◌||◌, nat_eq, List, [], ◌∷◌, ◌++◌, Option, Some, refl, ap, sym, ◌∙◌, if◌then◌else◌}
 use Rattle.std.specs.Prelude.{is_some}
 use Rattle.std.specs.Cmp.Lexicographic.{pointwise}
+use Rattle.hs_base.specs.Tests.{or_again}
 use Rattle.hs_typer.specs.Specifiers.{has_member, member_as}
 use Rattle.hs_names.specs.Index.{at, Puts}
 use Rattle.hs_types.specs.declared.body.Member.{Member}
@@ -11,16 +12,12 @@ or-false : (b : Bool) → (b || false) ≡ b
 or-false true = refl
 or-false false = refl
 
-or-again : (first second third : Bool) → (first || (second || third)) ≡ ((first || second) || third)
-or-again true second third = refl
-or-again false second third = refl
-
 has_member-last : (name : List ℕ) (members : List Member) (member : Member)
     → has_member name (members ++ member ∷ []) ≡ (has_member name members || pointwise nat_eq member.name name)
 has_member-last name [] member = or-false (pointwise nat_eq member.name name)
 has_member-last name (first ∷ members) member =
     ap (λ it. pointwise nat_eq first.name name || it) (has_member-last name members member)
-    ∙ or-again (pointwise nat_eq first.name name) (has_member name members) (pointwise nat_eq member.name name)
+    ∙ or_again (pointwise nat_eq first.name name) (has_member name members) (pointwise nat_eq member.name name)
 
 put-if : (same : Bool) (had : Option ℕ) (before : Bool) → is_some had ≡ before → is_some (if same then Some 0 else had) ≡ (before || same)
 put-if true had true is = refl

@@ -1,9 +1,9 @@
--- Layouts: the fields of a struct lie apart, inside it and aligned.
-use Rattle.std.proofs.Common.{◌≡◌, ◌≤◌, ◌<◌, ◌+◌, ◌%◌, ℕ, zero, suc, Bool, true, false, List, [], ◌∷◌, map, Option, Some, None, refl, ap, sym, if◌then◌else◌, arith}
+-- Layouts: what is laid out is the body of the struct, and what is too large is refused.
+use Rattle.std.proofs.Common.{◌≡◌, ◌≤◌, ◌<◌, ◌+◌, ℕ, zero, suc, Bool, true, false, List, [], ◌∷◌, map, Option, Some, None, refl, ap, sym, if◌then◌else◌, arith}
 use Rattle.std.proofs.lemmas.Bool.Decides.{nat_tests}
 use Rattle.std.specs.Prelude.{slice_get, nat_le}
-use Rattle.hs_types.specs.Layouts.{most_bytes, rounded_up, placed, offsets_from, end_from, hold_characters, struct_size, struct_layout}
-use Rattle.hs_types.specs.TypeTables.{TypeTable, IsBody, AreApart, AreInside, AreAligned, HaveLayouts, fields_from, layouts_of, layout_of, body_from, laid, measured, measured_first}
+use Rattle.hs_types.specs.Layouts.{most_bytes, placed, offsets_from, end_from, struct_size, struct_layout}
+use Rattle.hs_types.specs.TypeTables.{TypeTable, IsBody, HaveLayouts, fields_from, layouts_of, layout_of, body_from, laid, measured, measured_first}
 use Rattle.std.specs.Prelude.{Ok, Err}
 use Rattle.hs_types.specs.declared.body.Measured.{Measured}
 use Rattle.hs_types.specs.declared.body.Member.{Member}
@@ -11,96 +11,7 @@ use Rattle.hs_types.specs.declared.types.TypeEnd.TheVariants as end
 use Rattle.hs_types.specs.declared.body.Body.{Body}
 use Rattle.hs_types.specs.declared.body.Field.{Field}
 use Rattle.hs_types.specs.declared.layout.Layout.{Layout}
-
--- the first place that the alignment allows is not before the free one
-pub placed-after : (at : ℕ) (layout : Layout) → at ≤ placed at layout
-placed-after at layout = by-even layout.even where
-  by-even : (b : Bool) → at ≤ (if b then rounded_up at else at)
-  by-even true = omega arith
-  by-even false = omega arith
-
--- an even place
-placed-even : (at : ℕ) (layout : Layout) → layout.even ≡ true → placed at layout % 2 ≡ 0
-placed-even at layout even = rw even (omega arith)
-
--- members only take more
-pub end_from-after : (free : ℕ) (members : List Layout) → free ≤ end_from free members
-end_from-after free [] = omega arith
-end_from-after free (member ∷ members) =
-    omega (arith, placed-after free member, end_from-after (placed free member + member.size) members)
-
--- the offsets of fields that are laid out from there on
-abbrev Laid : ℕ → List Field → Type 0
-Laid free fields = map (λ field. field.offset) fields ≡ offsets_from free (map (λ field. field.layout) fields)
-
-laid-first : (free : ℕ) (field : Field) (fields : List Field) → Laid free (field ∷ fields) → field.offset ≡ placed free field.layout
-laid-first free field fields laid = search laid
-
-laid-rest : (free : ℕ) (field : Field) (fields : List Field) → Laid free (field ∷ fields)
-    → Laid (placed free field.layout + field.layout.size) fields
-laid-rest free field fields laid = search laid
-
--- each field lies at the first place that is free or after it
-after : (free : ℕ) (fields : List Field) → Laid free fields → (place : ℕ) (field : Field) → slice_get fields place ≡ Some field → free ≤ field.offset
-after free [] laid place field at = absurd cc
-after free (it ∷ fields) laid zero field at =
-    let same : it ≡ field = cc in
-    rw (← same, laid-first free it fields laid) (placed-after free it.layout)
-after free (it ∷ fields) laid (suc place) field at =
-    omega (arith, placed-after free it.layout, after (placed free it.layout + it.layout.size) fields (laid-rest free it fields laid) place field at)
-
--- the fields end before the next ones begin
-pub apart : (free : ℕ) (fields : List Field) → Laid free fields → AreApart fields
-apart free [] laid place later field other before at at' = absurd cc
-apart free (it ∷ fields) laid zero zero field other before at at' = absurd (omega (arith, before))
-apart free (it ∷ fields) laid zero (suc later) field other before at at' =
-    let same : it ≡ field = cc in
-    rw (← same, laid-first free it fields laid)
-    (after (placed free it.layout + it.layout.size) fields (laid-rest free it fields laid) later other at')
-apart free (it ∷ fields) laid (suc place) zero field other before at at' = absurd (omega (arith, before))
-apart free (it ∷ fields) laid (suc place) (suc later) field other before at at' =
-    apart (placed free it.layout + it.layout.size) fields (laid-rest free it fields laid) place later field other (omega (arith, before)) at at'
-
--- a field that is to be aligned lies at an even byte
-aligned : (free : ℕ) (fields : List Field) → Laid free fields → AreAligned fields
-aligned free [] laid place field at even = absurd cc
-aligned free (it ∷ fields) laid zero field at even =
-    let same : it ≡ field = cc in
-    rw (← same, laid-first free it fields laid) (placed-even free it.layout (rw same even))
-aligned free (it ∷ fields) laid (suc place) field at even =
-    aligned (placed free it.layout + it.layout.size) fields (laid-rest free it fields laid) place field at even
-
--- each field ends before the last one does, or with it
-inside : (free : ℕ) (fields : List Field) → Laid free fields → (place : ℕ) (field : Field) → slice_get fields place ≡ Some field
-    → field.offset + field.layout.size ≤ end_from free (map (λ it. it.layout) fields)
-inside free [] laid place field at = absurd cc
-inside free (it ∷ fields) laid zero field at =
-    let same : it ≡ field = cc in
-    rw (← same, laid-first free it fields laid)
-    (end_from-after (placed free it.layout + it.layout.size) (map (λ it. it.layout) fields))
-inside free (it ∷ fields) laid (suc place) field at =
-    inside (placed free it.layout + it.layout.size) fields (laid-rest free it fields laid) place field at
-
--- rounding up only adds
-pub end_from-size : (members : List Layout) → end_from 0 members ≤ struct_size members
-end_from-size members = by-characters (hold_characters members) where
-  by-characters : (b : Bool) → end_from 0 members ≤ (if b then end_from 0 members else rounded_up (end_from 0 members))
-  by-characters true = omega arith
-  by-characters false = omega arith
-
--- the three laws of the body of a struct
-pub body_apart : (types : TypeTable) (body : Body) → IsBody types body → AreApart body.fields
-body_apart types body is = apart 0 body.fields is.offsets
-
--- inside it
-pub body_inside : (types : TypeTable) (body : Body) → IsBody types body → AreInside body.fields body.layout.size
-body_inside types body is place field at =
-    let whole : body.layout.size ≡ struct_size (map (λ it. it.layout) body.fields) = ap (λ it. it.size) is.layout in
-    rw whole (omega (arith, inside 0 body.fields is.offsets place field at, end_from-size (map (λ it. it.layout) body.fields)))
-
--- and aligned
-pub body_aligned : (types : TypeTable) (body : Body) → IsBody types body → AreAligned body.fields
-body_aligned types body is = aligned 0 body.fields is.offsets
+use Rattle.hs_types.specs.LayoutLaws.{end_after, end_size}
 
 -- What is laid out so far, and what is left, are the fields of the struct.
 fields_from-laid : (free : ℕ) (members : List Measured)
@@ -160,7 +71,7 @@ pub laid_too_large : (free : ℕ) (member : Measured) (members all : List Measur
 laid_too_large free member members all same past =
     too-large-if all (nat_le (struct_size (layouts_of all)) most_bytes) refl
     (omega
-    (arith, past, same, end_from-after (placed free member.layout + member.layout.size) (layouts_of members), end_from-size (layouts_of all)))
+    (arith, past, same, end_after (placed free member.layout + member.layout.size) (layouts_of members), end_size (layouts_of all)))
 
 abbrev first_measured : Member → Layout → Measured
 first_measured member layout = record { name = member.name; type_id = member.type_id; layout = layout }

@@ -1,5 +1,3 @@
-mod Places
-mod Tables
 mod Layouts
 mod Measures
 mod Indexing

@@ -1,7 +1,9 @@
 pub mod Growing
 pub mod Integers
+pub mod LayoutLaws
 pub mod Layouts
 pub mod Members
 pub mod Refusals
 pub mod Rows
+pub mod TableLaws
 pub mod TypeTables

@@ -10,7 +10,6 @@ use Rattle.std.proofs.Common.{◌≡◌, ◌⊎◌, inl, inr, ℕ, zero, suc, Li
 use Rattle.std.proofs.lemmas.List.{append_assoc, append-nil}
 use Rattle.std.specs.List.{list_any}
 use Rattle.std.specs.Prelude.{nat_eq}
-use Rattle.hs_expressions.specs.Laws.Grown.{grows_row}
 use Rattle.hs_fitting.specs.Claims.{AreObjects, category_at, category_in}
 use Rattle.hs_linkage.specs.declared.translator.StaticObject.{StaticObject}
 use Rattle.hs_linkage.specs.declared.translator.Translator.{Translator}
@@ -26,6 +25,7 @@ use Rattle.hs_types.specs.declared.layout.Layout.{Layout}
 use Rattle.hs_types.specs.declared.row.Row.{Row}
 use Rattle.hs_types.specs.declared.row.Row.TheVariants as row
 use Rattle.hs_types.specs.declared.row.TypeId.{TypeId}
+use Rattle.hs_types.specs.TableLaws.{grows_row}
 use Rattle.hs_typing.specs.Ends.{or_same, finished_row, finished_object, global_of, globals_of, sized_global, sized_globals, taken_globals}
 use Rattle.hs_typing.specs.Programs.{parts_of, assembled}
 

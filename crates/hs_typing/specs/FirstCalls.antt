@@ -5,7 +5,7 @@
 --     first_called                    the first ones are such types
 use Rattle.std.proofs.Common.{◌≡◌, ◌<◌, ◌⊎◌, inl, inr, ℕ, zero, suc, true, List, [], ◌∷◌, length, slice_get, Option, Some, None, refl, sym, ap, subst, ◌∙◌, arith}
 use Rattle.std.specs.List.{AllByRecursion}
-use Rattle.std.specs.Prelude.{slice_set}
+use Rattle.hs_base.specs.Entries.{set_either, set_there, set_length, replaced_stays}
 use Rattle.hs_expressions.specs.Roles.{fits_role}
 use Rattle.hs_fitting.specs.Claims.{Claims, IsOfClaim, IsCallClaimed}
 use Rattle.hs_table.specs.declared.routine.Routine.{Routine}
@@ -16,41 +16,6 @@ use Rattle.hs_typing.specs.Ends.{no_types, with_call, first_types}
 
 -- ---- the types of the first calls
 
--- an entry of a list where one is replaced
-replaced_or : {A : Type 0} → (xs : List A) (place : ℕ) (y : A) (k : ℕ) (x : A) → slice_get (slice_set xs place y) k ≡ Some x
-    → ((k ≡ place) × (y ≡ x)) ⊎ (slice_get xs k ≡ Some x)
-replaced_or [] place y k x found = inr found
-replaced_or (z ∷ xs) zero y zero x found = inl (refl, cc)
-replaced_or (z ∷ xs) zero y (suc k) x found = inr found
-replaced_or (z ∷ xs) (suc place) y zero x found = inr found
-replaced_or (z ∷ xs) (suc place) y (suc k) x found = further (replaced_or xs place y k x found)
-  where
-    -- one place further
-    further : ((k ≡ place) × (y ≡ x)) ⊎ (slice_get xs k ≡ Some x) → ((suc k ≡ suc place) × (y ≡ x)) ⊎ (slice_get xs k ≡ Some x)
-    further (inl here) = inl (ap suc here.0, here.1)
-    further (inr there) = inr there
-
--- that one
-replaced_here : {A : Type 0} → (xs : List A) (place : ℕ) (x y : A) → slice_get xs place ≡ Some x → slice_get (slice_set xs place y) place ≡ Some y
-replaced_here [] place x y found = absurd cc
-replaced_here (z ∷ xs) zero x y found = refl
-replaced_here (z ∷ xs) (suc place) x y found = replaced_here xs place x y found
-
--- any other one
-replaced_other : {A : Type 0} → (xs : List A) (place : ℕ) (old y : A) (k : ℕ) (x : A) → slice_get xs place ≡ Some old → (old ≡ x → ⊥)
-    → slice_get xs k ≡ Some x → slice_get (slice_set xs place y) k ≡ Some x
-replaced_other [] place old y k x at other found = absurd cc
-replaced_other (z ∷ xs) zero old y zero x at other found = absurd (other cc)
-replaced_other (z ∷ xs) zero old y (suc k) x at other found = found
-replaced_other (z ∷ xs) (suc place) old y zero x at other found = found
-replaced_other (z ∷ xs) (suc place) old y (suc k) x at other found = replaced_other xs place old y k x at other found
-
--- as many entries
-replaced_count : {A : Type 0} → (xs : List A) (place : ℕ) (y : A) → length (slice_set xs place y) ≡ length xs
-replaced_count [] place y = refl
-replaced_count (z ∷ xs) zero y = refl
-replaced_count (z ∷ xs) (suc place) y = ap suc (replaced_count xs place y)
-
 -- one for each routine
 pub none_count : (table : List Routine) → length (no_types table) ≡ length table
 none_count [] = refl
@@ -59,7 +24,7 @@ none_count (it ∷ rest) = ap suc (none_count rest)
 -- with one call more
 call_count : (done : List (Option TypeId)) (it : RoutineCall) (found : Option (Option TypeId)) → length (with_call done it found) ≡ length done
 call_count done it None = refl
-call_count done it (Some None) = replaced_count done it.routine (Some it.type_id)
+call_count done it (Some None) = set_length done it.routine (Some it.type_id)
 call_count done it (Some (Some id)) = refl
 
 -- with all of them
@@ -73,7 +38,7 @@ call_stays : (done : List (Option TypeId)) (it : RoutineCall) (found : Option (O
     → slice_get done it.routine ≡ found → slice_get done number ≡ Some (Some id) → slice_get (with_call done it found) number ≡ Some (Some id)
 call_stays done it None number id at known = known
 call_stays done it (Some None) number id at known =
-    replaced_other done it.routine None (Some it.type_id) number (Some id) at (λ same. cc) known
+    replaced_stays done it.routine None (Some it.type_id) number (Some id) at (λ same. cc) known
 call_stays done it (Some (Some other)) number id at known = known
 
 -- after all calls
@@ -98,7 +63,7 @@ entry_within (x ∷ xs) (suc place) within is = let less : place < length xs = o
 call_known : (done : List (Option TypeId)) (it : RoutineCall) (found : Option (Option TypeId)) → slice_get done it.routine ≡ found
     → it.routine < length done → HasFirst (with_call done it found) it
 call_known done it None at within = absurd (entry_within done it.routine within at)
-call_known done it (Some None) at within = (it.type_id, replaced_here done it.routine None (Some it.type_id) at)
+call_known done it (Some None) at within = (it.type_id, set_there done it.routine None (Some it.type_id) at)
 call_known done it (Some (Some id)) at within = (id, at)
 
 -- each call has one
@@ -130,18 +95,18 @@ module _ (types : TypeTable) (its : Claims) (table : List Routine) where
 
   -- that of a call
   new_called : (done : List (Option TypeId)) (it : RoutineCall) (number : ℕ) (id : TypeId) → AreCalled done → IsCallClaimed types its table it
-      → ((number ≡ it.routine) × (Some it.type_id ≡ Some id)) ⊎ (slice_get done number ≡ Some (Some id)) → IsCalled number id
-  new_called done it number id are is (inl here) =
+      → (slice_get done number ≡ Some (Some id)) ⊎ ((number ≡ it.routine) × (Some it.type_id ≡ Some id)) → IsCalled number id
+  new_called done it number id are is (inl there) = are number id there
+  new_called done it number id are is (inr here) =
       let same : it.type_id ≡ id = cc in
       subst (IsCalled number) same (subst (λ place. IsCalled place it.type_id) (sym here.0) is)
-  new_called done it number id are is (inr there) = are number id there
 
   -- with one call more
   call_called : (done : List (Option TypeId)) (it : RoutineCall) (found : Option (Option TypeId)) → AreCalled done → IsCallClaimed types its table it
       → AreCalled (with_call done it found)
   call_called done it None are is = are
   call_called done it (Some None) are is = λ number id known.
-      new_called done it number id are is (replaced_or done it.routine (Some it.type_id) number (Some id) known)
+      new_called done it number id are is (set_either done it.routine (Some it.type_id) number (Some id) known)
   call_called done it (Some (Some id)) are is = are
 
   -- with all of them

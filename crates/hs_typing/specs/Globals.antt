@@ -5,7 +5,7 @@
 use Rattle.std.proofs.Common.{◌≡◌, inl, inr, ℕ, suc, List, [], ◌∷◌, Option, Some, None, IsTrue, is_some, refl, sym, subst}
 use Rattle.std.specs.List.{AllByRecursion}
 use Rattle.std.specs.Prelude.{◌||◌}
-use Rattle.hs_expressions.specs.Laws.Reached.{all_so}
+use Rattle.hs_base.specs.Entries.{all_so}
 use Rattle.hs_fitting.specs.Claims.{Claims, Endures, IsObjectRight}
 use Rattle.hs_linkage.specs.declared.translator.StaticObject.{StaticObject}
 use Rattle.hs_linkage.specs.declared.translator.Translator.{Translator}

@@ -2,8 +2,9 @@
 --     structs_at              what stands for the struct of a number
 --     first_stands            for a struct with its body that is the first one of its brace
 --     joined_at_end           so one struct stands for two of one brace, and no struct has got a body since all units were typed
-use Rattle.std.proofs.Common.{◌≡◌, ℕ, zero, suc, ◌+◌, true, List, [], ◌∷◌, ◌++◌, length, slice_get, Some, is_some, refl, sym, ap, subst, ◌∙◌, if◌then◌else◌, arith}
+use Rattle.std.proofs.Common.{◌≡◌, ℕ, zero, suc, ◌+◌, true, List, [], ◌∷◌, ◌++◌, length, slice_get, Some, is_some, sym, ap, subst, ◌∙◌, if◌then◌else◌, arith}
 use Rattle.std.proofs.lemmas.List.{length-append}
+use Rattle.hs_base.specs.Entries.{entry_stays, last_there}
 use Rattle.hs_expressions.specs.Laws.Traced.{HasFirst, IsTracedAt}
 use Rattle.hs_fitting.specs.Exact.{AreJoined}
 use Rattle.hs_fitting.specs.Sameness.{HasBody}
@@ -21,18 +22,6 @@ use Rattle.hs_typing.specs.Ends.{taken_globals}
 use Rattle.hs_typing.specs.Finishing.{program_at_end, globals_add}
 
 -- ---- what stands for each struct
-
--- the last one of a list
-last_at : {A : Type 0} → (its : List A) (it : A) → slice_get (its ++ it ∷ []) (length its) ≡ Some it
-last_at [] it = refl
-last_at (first ∷ rest) it = last_at rest it
-
--- those before it
-before_last : {A : Type 0} → (its : List A) (last : A) (number : ℕ) (it : A) → slice_get its number ≡ Some it
-    → slice_get (its ++ last ∷ []) number ≡ Some it
-before_last [] last number it at = absurd cc
-before_last (first ∷ rest) last zero it at = at
-before_last (first ∷ rest) last (suc number) it at = before_last rest last number it at
 
 -- numbers
 none_more : (a : ℕ) → a ≡ a + 0
@@ -53,7 +42,7 @@ module _ (types : TypeTable) (o : Origins) where
   done_stay done [] number first at = at
   done_stay done (it ∷ rest) number first at =
       done_stay (done ++ struct_of types o (length done) it ∷ []) rest number first
-      (before_last done (struct_of types o (length done) it) number first at)
+      (entry_stays done (struct_of types o (length done) it ∷ []) number first at)
 
   -- the struct of that number, behind those that are done
   pub structs_at : (done : List ℕ) (its : List Origin) (number : ℕ) (it : Origin) → slice_get its number ≡ Some it
@@ -63,7 +52,7 @@ module _ (types : TypeTable) (o : Origins) where
       let same : first ≡ it = cc in
       subst (λ n. slice_get (structs_of types o done (first ∷ rest)) n ≡ Some (struct_of types o n it)) (none_more (length done))
       (done_stay (done ++ struct_of types o (length done) first ∷ []) rest (length done) (struct_of types o (length done) first)
-      (last_at done (struct_of types o (length done) first)) ∙ ap (λ it. Some (struct_of types o (length done) it)) same)
+      (last_there done (struct_of types o (length done) first)) ∙ ap (λ it. Some (struct_of types o (length done) it)) same)
   structs_at done (first ∷ rest) (suc number) it at =
       let all : List ℕ = done ++ struct_of types o (length done) first ∷ [] in
       subst (λ n. slice_get (structs_of types o all rest) n ≡ Some (struct_of types o n it))

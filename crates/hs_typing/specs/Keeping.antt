@@ -6,9 +6,11 @@ use Rattle.std.specs.Prelude.{◌==◌, codes}
 use Rattle.std.specs.Cmp.Lexicographic.{same_text}
 use Rattle.std.proofs.lemmas.Bool.Decides.{nat_tests}
 use Rattle.std.specs.List.{AllByRecursion}
+use Rattle.hs_base.specs.Tests.{true_false, or_true, both_tests}
+use Rattle.hs_base.specs.Options.{some_same}
+use Rattle.hs_base.specs.Entries.{all_so}
 use Rattle.hs_expressions.specs.Binding.{IsBoundNode}
 use Rattle.hs_expressions.specs.Binding.Keeping.{IsBound}
-use Rattle.hs_expressions.specs.Laws.Reached.{all_so}
 use Rattle.hs_fitting.specs.Bodies.{first_same, rest_same}
 use Rattle.hs_fitting.specs.Claims.{no_claims, Endures}
 use Rattle.hs_fitting.specs.Exact.{AreJoined}
@@ -19,7 +21,6 @@ use Rattle.hs_fitting.specs.Names.{names_of, defined_names, functions_are_named}
 use Rattle.hs_fitting.specs.Phrases.{IsRightPhrase}
 use Rattle.hs_fitting.specs.ProgramWalks.{Came, Coming, program_comes}
 use Rattle.hs_fitting.specs.Splitting.{right_so, expressions_so, block_so}
-use Rattle.hs_fitting.specs.Tests.{true_false, or_true, both_tests, some_same}
 use Rattle.hs_fitting.specs.Units.{all_stay}
 use Rattle.hs_fitting.specs.UnitWalks.{IsRightFunction}
 use Rattle.hs_fitting.specs.Works.{Given}

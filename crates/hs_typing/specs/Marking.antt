@@ -8,8 +8,8 @@ use Rattle.std.proofs.lemmas.Bool.Decides.{nat_tests}
 use Rattle.std.specs.List.{AllByRecursion, list_any}
 use Rattle.std.specs.Prelude.{nat_eq, ◌||◌}
 use Rattle.indexmap.specs.IndexSet.{insert_key}
+use Rattle.hs_base.specs.Tests.{or_true}
 use Rattle.hs_fitting.specs.Claims.{IsMarkedIn}
-use Rattle.hs_fitting.specs.Tests.{or_true}
 use Rattle.hs_linkage.specs.declared.translator.StaticObject.{StaticObject}
 use Rattle.hs_linkage.specs.declared.translator.Translator.{Translator}
 use Rattle.hs_tree.specs.Classes.{same_field, is_taken_anywhere}
@@ -171,7 +171,8 @@ module _ (m : Translator) (functions : List TypedFunction) (main : ℕ) where
 
   -- each of them
   each_marked : (its : List Taken) → AllByRecursion (IsPlaceTaken (taken_globals [] m.typer.taken)) its
-      → AllByRecursion (IsFieldIn same_at_end (taken_fields same_at_end [] m.typer.taken)) its → AllByRecursion (IsMarkedIn (program_at_end m functions main)) its
+      → AllByRecursion (IsFieldIn same_at_end (taken_fields same_at_end [] m.typer.taken)) its
+      → AllByRecursion (IsMarkedIn (program_at_end m functions main)) its
   each_marked [] places fields = tt
   each_marked (it ∷ rest) places fields = (one_marked it places.0 fields.0, each_marked rest places.1 fields.1)
 

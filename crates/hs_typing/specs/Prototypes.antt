@@ -11,8 +11,9 @@ use Rattle.std.proofs.Common.{◌≡◌, ◌≤◌, ◌<◌, ℕ, zero, suc, tru
 use Rattle.std.proofs.lemmas.List.{append_assoc, append-nil}
 use Rattle.std.proofs.lemmas.Option.{slice_get_within}
 use Rattle.std.specs.List.{AllByRecursion}
+use Rattle.hs_base.specs.Entries.{all_so}
 use Rattle.hs_expressions.specs.Binding.{IsList, IsSignature, AllAlike, IsLike, IsLikeBy, IsPrototype, IsNotedCall}
-use Rattle.hs_expressions.specs.Laws.Reached.{all_so, prefix_self}
+use Rattle.hs_expressions.specs.Laws.Reached.{prefix_self}
 use Rattle.hs_expressions.specs.Roles.{fits_routine}
 use Rattle.hs_fitting.specs.Claims.{Claims, IsClaimed, AreFulfilled, Endures, IsCallClaimed}
 use Rattle.hs_fitting.specs.Entities.{IsAmong}

@@ -1,6 +1,5 @@
 -- Reading the tokens of a straight program from left to right. Each function gives what it read and the tokens after it, or
 -- nothing; `Grammar.antt` has the relation that decides what is right.
---     Seen view result read              what a function returned is what reading gives
 --     first_at, mark_at, marks_at         any token, one with a given text, several with given texts
 --     is_at text tokens                   the first token has that text
 --     numeral, number_at                  a number in its one form, at most `most`
@@ -14,6 +13,7 @@ use Rattle.std.specs.Str.{bytes_eq}
 use Rattle.std.specs.Str.Parse.{digits_value}
 use Rattle.hs_base.specs.declared.pos.Pos.{Pos}
 use Rattle.hs_base.specs.Text.{is_digit}
+use Rattle.hs_base.specs.Options.{◌>>=◌}
 use Rattle.hs_tree.specs.Straight.Names.{begins_with_letter}
 use Rattle.hs_tree.specs.Straight.Fine.{is_declared, is_fine_name, is_fine_step}
 use Rattle.hs_tokens.specs.declared.token.SourceToken.{SourceToken}
@@ -25,17 +25,6 @@ use Rattle.hs_tree.specs.declared.straight.tree.Expr.{Expr}
 use Rattle.hs_tree.specs.declared.straight.tree.Expr.TheVariants as expr
 use Rattle.hs_tree.specs.declared.straight.tree.Step.{Step}
 use Rattle.hs_tree.specs.declared.straight.tree.Step.TheVariants as step
-
--- what a function returned, seen by view, is what reading gives
-abbrev pub Seen : {X Y : Type 0} → (X → Y) → Option X → Option Y → Type 0
-Seen view None read = read ≡ None
-Seen view (Some x) read = read ≡ Some (view x)
-
-infixl 10 ◌>>=◌
--- nothing, or what follows from what was read
-abbrev pub ◌>>=◌ : {A B : Type 0} → Option A → (A → Option B) → Option B
-None >>= f = None
-(Some x) >>= f = f x
 
 -- the first token, whichever it is
 unfoldable pub first_at : List SourceToken → Option (Token × List SourceToken)

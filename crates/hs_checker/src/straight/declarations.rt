@@ -1,7 +1,8 @@
 //! Reads the declarations of a straight program.
 
 ghost use Rattle.std.specs.Prelude.{◌≡◌, ◌≤◌, ◌+◌, length, IfOk, IfSome, IfNone};
-ghost use Rattle.hs_checker.specs.Straight.Reading.{Seen, second_star_at, kind_at, declaration_at};
+ghost use Rattle.hs_base.specs.Options.{Seen};
+ghost use Rattle.hs_checker.specs.Straight.Reading.{second_star_at, kind_at, declaration_at};
 ghost use Rattle.hs_checker.specs.Straight.Rows.{AreDeclarations, NoDeclarations};
 
 use crate::straight::marks::{first, is_at, mark};

@@ -1,7 +1,8 @@
 //! Reads values: a letter, a load through a pointer, or a number.
 
 ghost use Rattle.std.specs.Prelude.{◌≡◌, ◌<◌, ◌^◌, length};
-ghost use Rattle.hs_checker.specs.Straight.Reading.{Seen, word_value, word_at, load_at, expr_at};
+ghost use Rattle.hs_base.specs.Options.{Seen};
+ghost use Rattle.hs_checker.specs.Straight.Reading.{word_value, word_at, load_at, expr_at};
 
 use crate::straight::marks::{first, is_at, mark};
 use crate::straight::names::{begins_with_letter, number_of, variable};

@@ -1,7 +1,8 @@
 //! Reads tokens of given texts.
 
 ghost use Rattle.std.specs.Prelude.{◌≡◌, map};
-ghost use Rattle.hs_checker.specs.Straight.Reading.{Seen, first_at, mark_at, marks_at, is_at};
+ghost use Rattle.hs_base.specs.Options.{Seen};
+ghost use Rattle.hs_checker.specs.Straight.Reading.{first_at, mark_at, marks_at, is_at};
 
 use hs_base::Pos;
 use hs_tokens::{SourceToken, Token};

@@ -6,7 +6,8 @@ ghost use Rattle.std.specs.Str.{bytes_eq};
 ghost use Rattle.hs_base.specs.Text.{is_word_byte};
 ghost use Rattle.hs_tree.specs.Straight.Names.{begins_with_letter, is_identifier, is_name, reserved};
 ghost use Rattle.hs_tree.specs.Straight.Fine.{is_taken, is_fine_name};
-ghost use Rattle.hs_checker.specs.Straight.Reading.{Seen, number_of, variable_at};
+ghost use Rattle.hs_base.specs.Options.{Seen};
+ghost use Rattle.hs_checker.specs.Straight.Reading.{number_of, variable_at};
 
 use crate::straight::marks::first;
 use hs_base::{is_letter, is_word_byte};

@@ -3,7 +3,8 @@
 ghost use Rattle.std.specs.Prelude.{◌≡◌, ◌≤◌, IfSome};
 ghost use Rattle.std.specs.List.{list_all};
 ghost use Rattle.hs_base.specs.Text.{is_digit};
-ghost use Rattle.hs_checker.specs.Straight.Reading.{Seen, is_numeral, numeral, number_at};
+ghost use Rattle.hs_base.specs.Options.{Seen};
+ghost use Rattle.hs_checker.specs.Straight.Reading.{is_numeral, numeral, number_at};
 
 use crate::straight::marks::first;
 use hs_base::is_digit;

@@ -2,7 +2,8 @@
 
 ghost use Rattle.std.specs.Prelude.{◌≡◌, ◌<◌, ◌^◌, length, [], IsTrue, IfOk, IfSome, IfNone};
 ghost use Rattle.hs_tree.specs.Straight.Fine.{kind_eq, is_declared, assigns, was_assigned, is_readable, is_fine_expr, is_fine_step, are_fine_names};
-ghost use Rattle.hs_checker.specs.Straight.Reading.{Seen, handle_at, lock_at, unlock_at, putchar_at, store_at, new_handle_at, derive_at, set_at, source_at, assign_at, form_at, step_at};
+ghost use Rattle.hs_base.specs.Options.{Seen};
+ghost use Rattle.hs_checker.specs.Straight.Reading.{handle_at, lock_at, unlock_at, putchar_at, store_at, new_handle_at, derive_at, set_at, source_at, assign_at, form_at, step_at};
 ghost use Rattle.hs_checker.specs.Straight.Rows.{AreSteps, NoSteps};
 
 use crate::straight::exprs::expr;

@@ -151,13 +151,15 @@ types::struct_specifier-returns-in_err-left-clause-read g t c =
     rw (exit.1, exit.2) (fails_along c.in_err-left.field-0.0 (struct_at c.args.known.now c.args.at c.args.tag c.args.rest.now)
     (mark_at (codes "}") c.in_ok-members.close.now)
     (λ none.
-    struct_close_none c.args.known.now c.args.at c.args.tag c.args.rest.now c.in-Some.brace c.in-Some.behind.now its c.in_ok-members.close.now c.in-Some.ensures.read c.in_ok-members.ensures.read none)
+    struct_close_none c.args.known.now c.args.at c.args.tag c.args.rest.now c.in-Some.brace c.in-Some.behind.now its c.in_ok-members.close.now
+    c.in-Some.ensures.read c.in_ok-members.ensures.read none)
     c.in_err-left.ensures.read)
 
 -- all of it
 pub types::struct_specifier-returns-clause-read : goal.types::struct_specifier-returns-clause-read
 types::struct_specifier-returns-clause-read g t c =
     let its : List OneMember = map view_member c.in_ok-members.members.items in
-    struct_whole c.args.known.now c.args.at c.args.tag c.args.rest.now c.in-Some.brace c.in-Some.behind.now its c.in_ok-members.close.now c.in_ok-left.field-0-0 c.in_ok-left.left.now
+    struct_whole c.args.known.now c.args.at c.args.tag c.args.rest.now c.in-Some.brace c.in-Some.behind.now its c.in_ok-members.close.now c.in_ok-left.field-0-0
+    c.in_ok-left.left.now
     c.in-Some.ensures.read c.in_ok-members.ensures.read c.in_ok-left.ensures.read
     ∙ ap (λ its. Some (tree.struct_body c.args.at c.args.tag c.in-Some.brace its, c.in_ok-left.left.now)) (sym (members_seen c.in_ok-members.members))

@@ -4,6 +4,7 @@
 --     up_unary, up_cast, ..       from rank to rank
 use Rattle.std.proofs.Common.{◌≡◌, ℕ, zero, suc, ◌≤◌, Bool, true, false, List, [], ◌∷◌, ◌++◌, length, Some, None, refl, ap, ◌∙◌, arith}
 use Rattle.std.specs.Prelude.{◌+◌, nat_le, if◌then◌else◌}
+use Rattle.hs_base.specs.Options.{◌>>=◌}
 use Rattle.hs_tokens.specs.declared.token.SourceToken.{SourceToken}
 use Rattle.hs_syntax.specs.Operators.{precedence_of}
 use Rattle.hs_syntax.specs.Phrases.{rank}
@@ -15,7 +16,7 @@ use Rattle.hs_expr_parser.specs.Ahead.{stops}
 use Rattle.hs_expr_parser.specs.Goals as goal
 use Rattle.hs_expr_parser.specs.Goals.{Goal, Tree}
 use Rattle.hs_expr_parser.specs.Recursion.{Read}
-use Rattle.hs_expr_parser.specs.Reading.{Known, Shorter, ◌>>=◌, going_on, rule, Operand, Branches, Assigned, joined, suffix_rule, suffixes_rule, cast_rule, operand_rule, climb_rule, binary_rule, branches_rule, conditional_rule, value_rule, assignment_rule, another_rule, commas_rule, expression_rule}
+use Rattle.hs_expr_parser.specs.Reading.{Known, Shorter, going_on, rule, Operand, Branches, Assigned, joined, suffix_rule, suffixes_rule, cast_rule, operand_rule, climb_rule, binary_rule, branches_rule, conditional_rule, value_rule, assignment_rule, another_rule, commas_rule, expression_rule}
 use Rattle.hs_expr_parser.specs.Laws.Plain as plain
 use Rattle.hs_expr_parser.specs.Laws.Recursions.{Short}
 use Rattle.hs_expr_parser.specs.Laws.Stopping.{looser, suffix_none, operand_none, branches_none, value_none, another_none}

@@ -5,13 +5,14 @@
 --     literals_short, pointers_short, ..    what is left after what may stand in front
 use Rattle.std.proofs.Common.{◌≡◌, ℕ, suc, ◌<◌, ◌≤◌, Bool, true, false, List, [], ◌∷◌, length, Option, Some, None, refl, ap, subst, ◌∙◌, arith}
 use Rattle.std.specs.Prelude.{if◌then◌else◌, option_map, codes}
+use Rattle.hs_base.specs.Options.{◌>>=◌}
 use Rattle.hs_tokens.specs.declared.token.SourceToken.{SourceToken}
 use Rattle.hs_tokens.specs.declared.place.Place.{Place}
 use Rattle.hs_syntax.specs.declared.word.Word.{Word}
 use Rattle.hs_syntax.specs.declared.operators.Pointer.{Pointer}
 use Rattle.hs_expr_parser.specs.Ahead.{place_if, word_of, is_keyword, first_at, mark_at, name_at, is_literal, literals_at}
 use Rattle.hs_expr_parser.specs.Recursion.{Read}
-use Rattle.hs_expr_parser.specs.Reading.{◌>>=◌, going_on, tag_at, with_pointer, pointer_of, pointers_at, void_alone}
+use Rattle.hs_expr_parser.specs.Reading.{going_on, tag_at, with_pointer, pointer_of, pointers_at, void_alone}
 
 -- the same is read, and fewer tokens than the bound are left
 pub record Alike {A : Type 0} (bound : ℕ) (one other : Read A) : Type 0 where

@@ -5,6 +5,7 @@
 use Rattle.std.proofs.Common.{◌≡◌, ◌≤◌, true, false, List, [], ◌∷◌, ◌++◌, Some, None, refl, ap, ◌∙◌, append_assoc, arith}
 use Rattle.std.specs.Prelude.{codes}
 use Rattle.std.proofs.lemmas.List.{append-nil}
+use Rattle.hs_base.specs.Options.{◌>>=◌}
 use Rattle.hs_tokens.specs.declared.token.SourceToken.{SourceToken}
 use Rattle.hs_tokens.specs.declared.token.TokenKind.TheVariants.{Punctuator}
 use Rattle.hs_syntax.specs.Forms.{◌⨾◌, mark, nothing_at_all, IsOf}
@@ -16,7 +17,7 @@ use Rattle.hs_syntax.specs.Trees.{Expression, Expressions}
 use Rattle.hs_expr_parser.specs.Ahead.{place_of, is_punctuator, is_mark_ahead, mark_at, stops, is_below, joins}
 use Rattle.hs_expr_parser.specs.Goals as goal
 use Rattle.hs_expr_parser.specs.Recursion.{Read}
-use Rattle.hs_expr_parser.specs.Reading.{Known, Shorter, ◌>>=◌, going_on, suffix_rule, call_rule, arguments_rule}
+use Rattle.hs_expr_parser.specs.Reading.{Known, Shorter, going_on, suffix_rule, call_rule, arguments_rule}
 use Rattle.hs_expr_parser.specs.Laws.Along.{Whole, stays}
 use Rattle.hs_expr_parser.specs.Laws.Apart.{with_text, split, one_token}
 use Rattle.hs_expr_parser.specs.Laws.Primaries.{ReadsAll, mark_reads, closes, behind, ranked, bracketed, suffix_all, not_closed}

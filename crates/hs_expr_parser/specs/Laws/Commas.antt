@@ -3,12 +3,13 @@
 --     entries_end, entries_more       the last entry, and one with more after it
 use Rattle.std.proofs.Common.{◌≡◌, false, List, [], ◌∷◌, ◌++◌, Some, None, ap, ◌∙◌, append_assoc}
 use Rattle.std.specs.Prelude.{codes}
+use Rattle.hs_base.specs.Options.{◌>>=◌}
 use Rattle.hs_tokens.specs.declared.token.SourceToken.{SourceToken}
 use Rattle.hs_tokens.specs.declared.token.TokenKind.TheVariants.{Punctuator}
 use Rattle.hs_syntax.specs.Forms.{Form, ◌⨾◌, mark, IsOf}
 use Rattle.hs_expr_parser.specs.Ahead.{is_mark_ahead, mark_at}
 use Rattle.hs_expr_parser.specs.Recursion.{Read}
-use Rattle.hs_expr_parser.specs.Reading.{◌>>=◌, going_on}
+use Rattle.hs_expr_parser.specs.Reading.{going_on}
 use Rattle.hs_expr_parser.specs.Laws.Apart.{with_text}
 use Rattle.hs_expr_parser.specs.Laws.Enclosed.{Headed, headed}
 use Rattle.hs_expr_parser.specs.Laws.FirstTokens.{mark_missing}

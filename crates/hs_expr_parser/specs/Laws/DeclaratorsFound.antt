@@ -9,6 +9,7 @@ use Rattle.std.proofs.lemmas.Bool.{and_parts, and_from, cases_Bool}
 use Rattle.std.proofs.lemmas.Bool.Decides.{nat_tests}
 use Rattle.std.proofs.lemmas.List.{append-nil}
 use Rattle.std.specs.Str.{bytes_eq}
+use Rattle.hs_base.specs.Options.{◌>>=◌}
 use Rattle.hs_tokens.specs.Marks.{is_same_kind}
 use Rattle.hs_tokens.specs.declared.token.SourceToken.{SourceToken}
 use Rattle.hs_tokens.specs.declared.token.TokenKind.TheVariants.{Identifier, Punctuator}
@@ -23,7 +24,7 @@ use Rattle.hs_syntax.specs.declared.operators.Basic.TheVariants.{Void}
 use Rattle.hs_tokens.specs.declared.place.Place.{Place}
 use Rattle.hs_syntax.specs.declared.word.Word.{Word}
 use Rattle.hs_expr_parser.specs.Ahead.{place_of, is_punctuator, is_keyword, is_mark_ahead, mark_at, place_if, name_of, name_at}
-use Rattle.hs_expr_parser.specs.Reading.{Known, Shorter, ◌>>=◌, pointers_at, begins_list, inside_rule, nothing_there, base_by, base_rule, length_rule, void_alone, list_rule, directs_rule, declarator_rule, declarators_rule, parameter_rule, parameters_rule, type_rule, member_rule_of, members_rule, constant_rule, constants_rule}
+use Rattle.hs_expr_parser.specs.Reading.{Known, Shorter, pointers_at, begins_list, inside_rule, nothing_there, base_by, base_rule, length_rule, void_alone, list_rule, directs_rule, declarator_rule, declarators_rule, parameter_rule, parameters_rule, type_rule, member_rule_of, members_rule, constant_rule, constants_rule}
 use Rattle.hs_expr_parser.specs.Found.{IsFound}
 use Rattle.hs_expr_parser.specs.Laws.Yields.{Yields, none_gives, some_gives, then_gives, so_then_gives, going_gives, if_gives, so_gives}
 use Rattle.hs_expr_parser.specs.Laws.Spelled.{Begins, Goes, is_behind, form_again, nothing_begins, then_begins, when_begins, token_begins, place_begins, goes_begins}

@@ -5,6 +5,7 @@
 use Rattle.std.proofs.Common.{◌≡◌, ◌≤◌, Bool, true, false, List, [], ◌∷◌, ◌++◌, Some, None, refl, ap, sym, ◌∙◌, inl, inr}
 use Rattle.std.specs.Prelude.{◌&&◌, ◌||◌, not, codes, if◌then◌else◌}
 use Rattle.std.proofs.lemmas.Bool.{cases_Bool}
+use Rattle.hs_base.specs.Options.{◌>>=◌}
 use Rattle.hs_tokens.specs.declared.token.SourceToken.{SourceToken}
 use Rattle.hs_tokens.specs.declared.token.TokenKind.TheVariants.{Identifier, Punctuator}
 use Rattle.hs_syntax.specs.Forms.{when, word, nothing_at_all, keyword_at, IsOf}
@@ -25,7 +26,7 @@ use Rattle.hs_syntax.specs.declared.word.Word.{Word}
 use Rattle.hs_expr_parser.specs.Ahead.{place_of, is_punctuator, is_ahead, is_mark_ahead, mark_at, name_of, begins_specifier, stops, is_below, joins}
 use Rattle.hs_expr_parser.specs.Goals as goal
 use Rattle.hs_expr_parser.specs.Recursion.{Read}
-use Rattle.hs_expr_parser.specs.Reading.{Known, Shorter, ◌>>=◌, going_on, pointers_at, begins_list, base_by, filled, inside_rule, nothing_there, base_rule, length_rule, list_rule, void_alone, directs_rule, declarator_rule, declarators_rule, expression_rule, with_pointer, pointer_of}
+use Rattle.hs_expr_parser.specs.Reading.{Known, Shorter, going_on, pointers_at, begins_list, base_by, filled, inside_rule, nothing_there, base_rule, length_rule, list_rule, void_alone, directs_rule, declarator_rule, declarators_rule, expression_rule, with_pointer, pointer_of}
 use Rattle.hs_expr_parser.specs.Laws.Along.{Whole, Longer}
 use Rattle.hs_expr_parser.specs.Laws.Apart.{with_text, token_is, when_parts, one_token}
 use Rattle.hs_expr_parser.specs.Laws.Commas.{after_comma, entries_end, entries_more}

@@ -6,6 +6,7 @@ use Rattle.std.proofs.Common.{◌≡◌, ℕ, Bool, true, false, List, [], ◌�
 use Rattle.std.specs.Prelude.{codes, not, ◌&&◌, ◌||◌}
 use Rattle.std.specs.Str.{bytes_eq}
 use Rattle.std.proofs.lemmas.Bool.{and_parts, or_parts, or_cases, not-true}
+use Rattle.hs_base.specs.Tests.{or_false}
 use Rattle.hs_tokens.specs.KindLaws.{kind_is}
 use Rattle.hs_tokens.specs.Marks.{is_same_kind}
 use Rattle.hs_tokens.specs.declared.token.SourceToken.{SourceToken}
@@ -178,7 +179,3 @@ named_free known source is =
     let word = among_all (λ text. IsWord (as_word source text)) specifier_words source.token.text among (all_words source) in
     let same : as_word source source.token.text ≡ source = λ i. record source { token = record source.token { kind = sym kind i } } in
     subst IsWord same word
-  where
-    or_false : (one : Bool) → (one || false) ≡ true → one ≡ true
-    or_false true is = refl
-    or_false false is = is

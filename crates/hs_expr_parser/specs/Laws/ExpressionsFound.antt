@@ -76,7 +76,8 @@ cast_operand least e it within sources is =
 record IsOperand (known : Known) (least most : ℕ) (it : Operand) (tokens rest : List SourceToken) : Type 0 where
   above : nat_le least (precedence_of it.operator) ≡ true
   below : nat_le (precedence_of it.operator) most ≡ true
-  begins : Begins (form.mark_at it.at (binary_text it.operator) ⨾ as_operand (suc (precedence_of it.operator)) it.right (expression_form known it.right)) tokens rest
+  begins : Begins (form.mark_at it.at (binary_text it.operator) ⨾ as_operand (suc (precedence_of it.operator)) it.right (expression_form known it.right)) tokens
+      rest
 
 -- the tokens have a front that is of the form, if there may be an operator of that precedence
 pub record BeginsWithin (least : ℕ) (it : Form) (tokens rest : List SourceToken) : Type 0 where

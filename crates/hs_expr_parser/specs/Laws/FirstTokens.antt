@@ -9,19 +9,20 @@ use Rattle.std.specs.Prelude.{◌&&◌, ◌||◌, not, codes, if◌then◌else�
 use Rattle.std.specs.Str.{bytes_eq}
 use Rattle.std.proofs.lemmas.Slice.Eq.{bytes_eq-Decides}
 use Rattle.std.proofs.lemmas.Bool.{and_parts, cases_Bool, or_parts}
+use Rattle.hs_base.specs.Tests.{and_again}
 use Rattle.hs_tokens.specs.KindLaws.{kind_is}
 use Rattle.hs_tokens.specs.Marks.{is_same_kind}
 use Rattle.hs_tokens.specs.declared.token.SourceToken.{SourceToken}
 use Rattle.hs_tokens.specs.declared.token.TokenKind.{TokenKind}
 use Rattle.hs_tokens.specs.declared.token.TokenKind.TheVariants.{Identifier, Number, Character, Literal, Punctuator}
-use Rattle.hs_syntax.specs.Forms.{Piece, Form, ◌⨾◌, Spells, IsOf}
+use Rattle.hs_syntax.specs.Forms.{Piece, Form, ◌⨾◌, Spells}
 use Rattle.hs_syntax.specs.Grammar.{specifier_form, specification_form, members_form, constants_form, declarator_form, direct_form}
 use Rattle.hs_syntax.specs.Names.{is_among, is_name, is_type_name, keywords}
 use Rattle.hs_syntax.specs.Operators.{dropped_text}
 use Rattle.hs_syntax.specs.Parts.{pointers_form}
 use Rattle.hs_syntax.specs.Phrases.{is_type, begins_none, begins_parameters, dropped_words, specifier_words, has_specifiers, has_members, has_constants, has_declarators}
 use Rattle.hs_syntax.specs.Trees as tree
-use Rattle.hs_syntax.specs.Trees.{Specified, Specification, Members, Constants, Declared, Declarators, Directly}
+use Rattle.hs_syntax.specs.Trees.{Specified, Specification, Members, Constants, Declared, Directly}
 use Rattle.hs_syntax.specs.declared.operators.Dropped.{Dropped}
 use Rattle.hs_syntax.specs.declared.operators.Dropped.TheVariants as dropped
 use Rattle.hs_syntax.specs.declared.operators.Pointer.{Pointer}
@@ -53,13 +54,9 @@ mark_missing text (source ∷ rest) is = rw is refl
 -- of three phrases the first two, or the last two, are one
 pub grouped : (one other last : Form) → (one ⨾ other ⨾ last) ≡ ((one ⨾ other) ⨾ last)
 grouped one other last = λ i. record {
-  fits = and_assoc one.fits other.fits last.fits i;
+  fits = and_again one.fits other.fits last.fits i;
   pieces = sym (append_assoc one.pieces other.pieces last.pieces) i;
 }
-  where
-    and_assoc : (one other last : Bool) → (one && (other && last)) ≡ ((one && other) && last)
-    and_assoc true other last = refl
-    and_assoc false other last = refl
 
 -- ---- words
 

@@ -4,6 +4,7 @@ use Rattle.std.proofs.Common.{◌≡◌, ℕ, suc, ◌≤◌, true, false, List,
 use Rattle.std.specs.Prelude.{◌+◌, nat_le, codes, if◌then◌else◌}
 use Rattle.std.proofs.lemmas.Bool.Decides.{nat_tests}
 use Rattle.std.proofs.lemmas.List.{append-nil}
+use Rattle.hs_base.specs.Options.{◌>>=◌}
 use Rattle.hs_tokens.specs.declared.token.SourceToken.{SourceToken}
 use Rattle.hs_tokens.specs.declared.token.TokenKind.TheVariants.{Punctuator}
 use Rattle.hs_syntax.specs.Forms.{◌⨾◌, when, mark, mark_at as mark_form, IsOf}
@@ -21,7 +22,7 @@ use Rattle.hs_tokens.specs.declared.place.Place.{Place}
 use Rattle.hs_expr_parser.specs.Ahead.{place_of, mark_at, binary_of, assign_of, stops, is_below, joins, is_ahead, begins_specifier}
 use Rattle.hs_expr_parser.specs.Goals as goal
 use Rattle.hs_expr_parser.specs.Recursion.{Read}
-use Rattle.hs_expr_parser.specs.Reading.{Known, Shorter, ◌>>=◌, going_on, Operand, Branches, Assigned, joined, operand_by, operand_rule, climb_rule, binary_rule, branches_rule, conditional_rule, value_by, value_rule, assignment_rule, another_rule, commas_rule, expression_rule}
+use Rattle.hs_expr_parser.specs.Reading.{Known, Shorter, going_on, Operand, Branches, Assigned, joined, operand_by, operand_rule, climb_rule, binary_rule, branches_rule, conditional_rule, value_by, value_rule, assignment_rule, another_rule, commas_rule, expression_rule}
 use Rattle.hs_expr_parser.specs.Laws.Along.{Whole, Longer, Reads, longer_along, longer_on, reads_along, climb_longer, climb_stop, commas_longer, commas_stop}
 use Rattle.hs_expr_parser.specs.Laws.Apart.{with_text, split, when_parts, one_token}
 use Rattle.hs_expr_parser.specs.Laws.Primaries.{ReadsAll, mark_reads, ranked, behind}
@@ -171,7 +172,8 @@ binary_form_all {known = known} {table = table} whole left operator at right rea
     let parts = behind (as_operand (precedence_of operator) left (expression_form known left))
     (mark_form at (binary_text operator) ⨾ as_operand (suc (precedence_of operator)) right (expression_form known right)) front fits in
     let low = ranked (2 + precedence_of operator) left (expression_form known left) parts.front parts.first in
-    let back = split (mark_form at (binary_text operator)) (as_operand (suc (precedence_of operator)) right (expression_form known right)) parts.back parts.second in
+    let back =
+    split (mark_form at (binary_text operator)) (as_operand (suc (precedence_of operator)) right (expression_form known right)) parts.back parts.second in
     let one = one_token Punctuator (binary_text operator) (Some at) back.front back.first in
     let high = ranked (2 + suc (precedence_of operator)) right (expression_form known right) back.back back.second in
     let tail : List SourceToken = back.back ++ rest in

@@ -4,6 +4,7 @@
 use Rattle.std.proofs.Common.{◌≡◌, ℕ, zero, suc, ◌<◌, ◌≤◌, Bool, true, false, List, [], ◌∷◌, length, Option, Some, None, ◌∙◌, inl, inr, arith}
 use Rattle.std.specs.Prelude.{nat_lt, if◌then◌else◌, codes, ◌||◌, ◌++◌}
 use Rattle.std.proofs.lemmas.Bool.{cases_Bool}
+use Rattle.hs_base.specs.Options.{◌>>=◌}
 use Rattle.hs_tokens.specs.declared.token.SourceToken.{SourceToken}
 use Rattle.hs_tokens.specs.declared.token.TokenKind.{TokenKind}
 use Rattle.hs_tokens.specs.declared.token.TokenKind.TheVariants.{Identifier, Number, Character, Literal, Punctuator}
@@ -27,7 +28,7 @@ use Rattle.hs_expr_parser.specs.Ahead.{place_of, is_mark_ahead, name_of, prefix_
 use Rattle.hs_expr_parser.specs.Goals as goal
 use Rattle.hs_expr_parser.specs.Goals.{Goal, Tree}
 use Rattle.hs_expr_parser.specs.Recursion.{below}
-use Rattle.hs_expr_parser.specs.Reading.{◌>>=◌, Known, Shorter, parens_rule, primary_by, primary_rule, index_rule, call_rule, member_rule, suffix_rule, suffixes_rule, postfix_rule, operand_at, type_in_parens, sizeof_rule, unary_by, unary_rule, cast_rule, operand_by, operand_rule, climb_rule, binary_rule, branches_rule, conditional_rule, value_by, value_rule, assignment_rule, another_rule, commas_rule, expression_rule, arguments_rule, tag_at, tagged, struct_by, enum_by, specifier_by, specifier_rule, specifiers_rule, some_specifiers_rule, pointers_at, filled, inside_rule, nothing_there, base_by, base_rule, length_rule, list_rule, directs_rule, declarator_rule, declarators_rule, parameter_rule, parameters_rule, type_rule, member_rule_of, members_rule, constant_rule, constants_rule, rule, reading}
+use Rattle.hs_expr_parser.specs.Reading.{Known, Shorter, parens_rule, primary_by, primary_rule, index_rule, call_rule, member_rule, suffix_rule, suffixes_rule, postfix_rule, operand_at, type_in_parens, sizeof_rule, unary_by, unary_rule, cast_rule, operand_by, operand_rule, climb_rule, binary_rule, branches_rule, conditional_rule, value_by, value_rule, assignment_rule, another_rule, commas_rule, expression_rule, arguments_rule, tag_at, tagged, struct_by, enum_by, specifier_by, specifier_rule, specifiers_rule, some_specifiers_rule, pointers_at, filled, inside_rule, nothing_there, base_by, base_rule, length_rule, list_rule, directs_rule, declarator_rule, declarators_rule, parameter_rule, parameters_rule, type_rule, member_rule_of, members_rule, constant_rule, constants_rule, rule, reading}
 use Rattle.hs_expr_parser.specs.Laws.Bound.{Alike, alike_none, alike_some, alike_more, alike_bind, alike_going, alike_if, alike_mark, alike_name, alike_void, literals_short, pointers_short, tag_short}
 use Rattle.hs_expr_parser.specs.Laws.Recursions.{Short, IsByRules}
 use Rattle.hs_expr_parser.specs.Laws.Rounds.{asks, fixed_by_rules}

@@ -9,6 +9,7 @@ use Rattle.std.proofs.lemmas.List.{append-nil}
 use Rattle.std.proofs.lemmas.Slice.Eq.{bytes_eq-Decides}
 use Rattle.std.proofs.lemmas.Bool.{and_parts, cases_Bool}
 use Rattle.std.proofs.lemmas.Bool.Decides.{nat_tests}
+use Rattle.hs_base.specs.Options.{◌>>=◌}
 use Rattle.hs_constants.specs.Characters.{character_value}
 use Rattle.hs_constants.specs.Numbers.{number_value}
 use Rattle.hs_constants.specs.Strings.{string_value}
@@ -33,7 +34,7 @@ use Rattle.hs_syntax.specs.declared.word.Word.{Word}
 use Rattle.hs_expr_parser.specs.Ahead.{place_of, word_of, is_punctuator, is_mark_ahead, mark_at, name_at, literals_at, stops, is_below, joins, begins_specifier, is_ahead}
 use Rattle.hs_expr_parser.specs.Goals as goal
 use Rattle.hs_expr_parser.specs.Recursion.{Read}
-use Rattle.hs_expr_parser.specs.Reading.{Known, Shorter, ◌>>=◌, going_on, primary_rule, suffix_rule, suffixes_rule, postfix_rule, expression_rule}
+use Rattle.hs_expr_parser.specs.Reading.{Known, Shorter, going_on, primary_rule, suffix_rule, suffixes_rule, postfix_rule, expression_rule}
 use Rattle.hs_expr_parser.specs.Laws.Along.{Whole, Longer, longer_along, longer_on, suffixes_longer}
 use Rattle.hs_expr_parser.specs.Laws.Apart.{with_text, token_is, split, when_parts, one_token}
 use Rattle.hs_expr_parser.specs.Laws.Bound.{literals_short}

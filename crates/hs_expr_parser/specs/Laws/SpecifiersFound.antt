@@ -157,7 +157,8 @@ module _ (known : Known) (table : Shorter) (found : IsFound known table) where
 
       by_first : (stored : Option Storage) (ignored : Option Dropped) (simple : Option Basic) → storage_of source ≡ stored → dropped_of source ≡ ignored
           → basic_of source ≡ simple
-          → Yields (λ (it : Specified) after. Begins (in_list known typed it) (source ∷ rest) after) (specifier_by known table stored ignored simple source rest)
+          → Yields (λ (it : Specified) after. Begins (in_list known typed it) (source ∷ rest) after)
+          (specifier_by known table stored ignored simple source rest)
       by_first (Some it) ignored simple a b c =
           let so = token_of Identifier storage_text (storage.Typedef ∷ storage.Extern ∷ storage.Static ∷ []) source it a in
           some_gives (tree.storage it (place_of source)) rest

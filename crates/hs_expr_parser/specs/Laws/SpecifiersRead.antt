@@ -7,6 +7,8 @@ use Rattle.std.specs.Str.{bytes_eq}
 use Rattle.std.proofs.lemmas.List.{append-nil}
 use Rattle.std.proofs.lemmas.Slice.Eq.{bytes_eq-Decides}
 use Rattle.std.proofs.lemmas.Bool.{cases_Bool}
+use Rattle.hs_base.specs.Options.{◌>>=◌}
+use Rattle.hs_base.specs.Tests.{or_again}
 use Rattle.hs_tokens.specs.declared.token.SourceToken.{SourceToken}
 use Rattle.hs_tokens.specs.declared.token.TokenKind.TheVariants.{Identifier, Punctuator}
 use Rattle.hs_syntax.specs.Forms.{Form, ◌⨾◌, when, word, mark, mark_at as mark_form, IsOf}
@@ -29,7 +31,7 @@ use Rattle.hs_syntax.specs.declared.word.Word.{Word}
 use Rattle.hs_expr_parser.specs.Ahead.{place_of, word_of, is_punctuator, is_ahead, is_mark_ahead, name_at, begins_specifier, storage_of, dropped_of, basic_of, storage_words, dropped_words, basic_words}
 use Rattle.hs_expr_parser.specs.Goals as goal
 use Rattle.hs_expr_parser.specs.Recursion.{Read}
-use Rattle.hs_expr_parser.specs.Reading.{Known, Shorter, ◌>>=◌, going_on, tag_at, struct_by, enum_by, specifier_by, specifier_rule, specifiers_rule, members_rule, constants_rule}
+use Rattle.hs_expr_parser.specs.Reading.{Known, Shorter, going_on, tag_at, struct_by, enum_by, specifier_by, specifier_rule, specifiers_rule, members_rule, constants_rule}
 use Rattle.hs_expr_parser.specs.Laws.Along.{Whole}
 use Rattle.hs_expr_parser.specs.Laws.Apart.{with_text, token_is, when_parts, one_token, first_when}
 use Rattle.hs_expr_parser.specs.Laws.Enclosed.{headed, enclosed}
@@ -420,11 +422,7 @@ more_specifiers_all {known = known} {table = table} whole it its reads others ty
     let parts = behind (when (not (typed && is_named_type it)) (specifier_form known it)) (specification_form known (typed || is_type it) its) front fits in
     let allowed = when_parts (not (typed && is_named_type it)) (specifier_form known it) parts.front parts.first in
     let on = others (typed || is_type it) (earlier ++ it ∷ []) parts.back rest parts.second
-    (ap (λ test. is_ahead (begins_specifier known test) rest) (sym (or_assoc typed (is_type it) (is_typed its))) ∙ ends) ahead in
+    (ap (λ test. is_ahead (begins_specifier known test) rest) (sym (or_again typed (is_type it) (is_typed its))) ∙ ends) ahead in
     let read = more_by whole it its typed earlier (front ++ rest) parts.front parts.back rest reads (parts.whole rest) allowed.1
     (not_true (typed && is_named_type it) allowed.0) (no_brace_behind known (typed || is_type it) its parts.back rest parts.second on.1 ahead) on.0 in
     (read.0, λ has. read.1)
-  where
-    or_assoc : (one other last : Bool) → (one || (other || last)) ≡ ((one || other) || last)
-    or_assoc true other last = refl
-    or_assoc false other last = refl

@@ -124,7 +124,8 @@ operand_by_none : (table : Shorter) (least most : ℕ) (found : Option BinaryOpe
     → binary_of source ≡ found → is_below (2 + least) (joins source) ≡ true → operand_by table least most found (place_of source) rest ≡ None
 operand_by_none table least most None source rest is stops = refl
 operand_by_none table least most (Some it) source rest is stops =
-    let same : joins source ≡ Some (2 + precedence_of it) = ap joins (operator_is Punctuator binary_text binary_operators source it is) ∙ binary_joins it source in
+    let same : joins source ≡ Some (2 + precedence_of it) =
+    ap joins (operator_is Punctuator binary_text binary_operators source it is) ∙ binary_joins it source in
     let low : is_below (2 + least) (Some (2 + precedence_of it)) ≡ true = ap (is_below (2 + least)) (sym same) ∙ stops in
     let loose : nat_le least (precedence_of it) ≡ false = grind (arith, nat_tests) in
     rw loose refl

@@ -6,6 +6,7 @@ use Rattle.std.proofs.Common.{◌≡◌, ℕ, true, false, List, [], ◌∷◌, 
 use Rattle.std.specs.Prelude.{◌&&◌, not, codes, if◌then◌else◌}
 use Rattle.std.specs.Str.{bytes_eq}
 use Rattle.std.proofs.lemmas.Bool.{and_parts}
+use Rattle.hs_base.specs.Options.{◌>>=◌}
 use Rattle.hs_tokens.specs.declared.token.SourceToken.{SourceToken}
 use Rattle.hs_syntax.specs.Forms.{Form, ◌⨾◌, when, IsOf}
 use Rattle.hs_syntax.specs.Grammar.{specification_form, declarator_form, parameters_form}
@@ -18,7 +19,7 @@ use Rattle.hs_syntax.specs.Trees.{NamedType, Specified, Specification, Declared,
 use Rattle.hs_expr_parser.specs.Ahead.{is_punctuator, is_ahead, is_mark_ahead, begins_specifier}
 use Rattle.hs_expr_parser.specs.Goals as goal
 use Rattle.hs_expr_parser.specs.Recursion.{Read}
-use Rattle.hs_expr_parser.specs.Reading.{Known, Shorter, ◌>>=◌, some_specifiers_rule, declarator_rule, parameter_rule, parameters_rule}
+use Rattle.hs_expr_parser.specs.Reading.{Known, Shorter, some_specifiers_rule, declarator_rule, parameter_rule, parameters_rule}
 use Rattle.hs_expr_parser.specs.Laws.Along.{Whole}
 use Rattle.hs_expr_parser.specs.Laws.Apart.{when_parts}
 use Rattle.hs_expr_parser.specs.Laws.Commas.{after_comma, entries_end, entries_more}

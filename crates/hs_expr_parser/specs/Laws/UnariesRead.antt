@@ -4,6 +4,7 @@ use Rattle.std.proofs.Common.{◌≡◌, ℕ, ◌≤◌, Bool, true, false, List
 use Rattle.std.specs.Prelude.{◌&&◌, codes}
 use Rattle.std.proofs.lemmas.Bool.{cases_Bool}
 use Rattle.std.proofs.lemmas.Bool.Decides.{nat_tests}
+use Rattle.hs_base.specs.Options.{◌>>=◌}
 use Rattle.hs_tokens.specs.Marks.{is_same_kind}
 use Rattle.hs_tokens.specs.declared.token.SourceToken.{SourceToken}
 use Rattle.hs_tokens.specs.declared.token.TokenKind.TheVariants.{Identifier, Literal, Punctuator}
@@ -23,7 +24,7 @@ use Rattle.hs_tokens.specs.declared.place.Place.{Place}
 use Rattle.hs_expr_parser.specs.Ahead.{place_of, is_punctuator, is_mark_ahead, is_ahead, binary_of, assign_of, postfix_marks, joins_by, stops, is_below, joins, begins_type, begins_specifier}
 use Rattle.hs_expr_parser.specs.Goals as goal
 use Rattle.hs_expr_parser.specs.Recursion.{Read}
-use Rattle.hs_expr_parser.specs.Reading.{Known, Shorter, ◌>>=◌, operand_at, type_in_parens, sizeof_rule, unary_rule, cast_rule}
+use Rattle.hs_expr_parser.specs.Reading.{Known, Shorter, operand_at, type_in_parens, sizeof_rule, unary_rule, cast_rule}
 use Rattle.hs_expr_parser.specs.Laws.Along.{Whole, Reads, reads_along}
 use Rattle.hs_expr_parser.specs.Laws.Apart.{with_text, split, one_token}
 use Rattle.hs_expr_parser.specs.Expected.{ReadsType}

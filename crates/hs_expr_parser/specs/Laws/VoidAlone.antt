@@ -5,6 +5,7 @@ use Rattle.std.proofs.Common.{◌≡◌, ℕ, Bool, true, false, List, [], ◌�
 use Rattle.std.specs.Prelude.{◌&&◌, not, codes}
 use Rattle.std.specs.Str.{bytes_eq}
 use Rattle.std.proofs.lemmas.Bool.{and_parts}
+use Rattle.hs_base.specs.Options.{◌>>=◌}
 use Rattle.hs_tokens.specs.Marks.{is_same_kind}
 use Rattle.hs_tokens.specs.declared.token.SourceToken.{SourceToken}
 use Rattle.hs_tokens.specs.declared.token.TokenKind.TheVariants.{Identifier, Punctuator}
@@ -22,7 +23,7 @@ use Rattle.hs_syntax.specs.declared.operators.Storage.TheVariants as storage
 use Rattle.hs_tokens.specs.declared.place.Place.{Place}
 use Rattle.hs_expr_parser.specs.Ahead.{is_keyword, is_mark_ahead, mark_at, place_if}
 use Rattle.hs_expr_parser.specs.Recursion.{Read}
-use Rattle.hs_expr_parser.specs.Reading.{Known, ◌>>=◌, void_alone}
+use Rattle.hs_expr_parser.specs.Reading.{Known, void_alone}
 use Rattle.hs_expr_parser.specs.Laws.Apart.{when_parts, one_token}
 use Rattle.hs_expr_parser.specs.Laws.FirstTokens.{mark_missing, declarator_opens, declarator_no_mark, nothing_is, specification_word, word_no_mark}
 use Rattle.hs_expr_parser.specs.Laws.Primaries.{behind}

@@ -2,10 +2,11 @@
 --     Yields Holds it      whatever is read, this holds of it and of the tokens after it
 use Rattle.std.proofs.Common.{◌≡◌, Bool, true, false, List, Some, None, refl, ap, subst}
 use Rattle.std.specs.Prelude.{if◌then◌else◌}
+use Rattle.hs_base.specs.Options.{◌>>=◌}
 use Rattle.hs_tokens.specs.declared.token.SourceToken.{SourceToken}
 use Rattle.hs_expr_parser.specs.Recursion.{Read, Table}
 use Rattle.hs_expr_parser.specs.Laws.Recursions.{Fact, Always}
-use Rattle.hs_expr_parser.specs.Reading.{◌>>=◌, going_on}
+use Rattle.hs_expr_parser.specs.Reading.{going_on}
 
 -- whatever is read, this holds of it and of the tokens after it
 pub record Yields {A : Type 0} (Holds : A → List SourceToken → Type 0) (it : Read A) : Type 0 where

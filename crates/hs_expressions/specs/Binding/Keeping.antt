@@ -6,11 +6,12 @@
 use Rattle.std.proofs.Common.{◌≡◌, Bool, true, false, List, [], ◌∷◌, ◌++◌, Result, Ok, Err, refl, ap, sym, subst, ◌∙◌, if◌then◌else◌}
 use Rattle.std.specs.List.{AllByRecursion}
 use Rattle.std.proofs.lemmas.List.{append_assoc}
+use Rattle.hs_base.specs.Entries.{all_appended, all_so}
 use Rattle.hs_expressions.specs.Binding.{IsBoundNode, BindsAs, BindsName, IsNotedCall, IsNotedAddress}
 use Rattle.hs_expressions.specs.Laws.{IsConstant, IsPrefix, IsScoped}
 use Rattle.hs_expressions.specs.Laws.Always.{Reaching, Always, gives_always, looks_always, of_types_always, then_always, on_types_always}
 use Rattle.hs_expressions.specs.Laws.Grown.{lifted_grows, loaded_grows}
-use Rattle.hs_expressions.specs.Laws.Reached.{IsAllowedAt, Reaches, all_appended, all_so, prefix_then, scoped_after}
+use Rattle.hs_expressions.specs.Laws.Reached.{IsAllowedAt, Reaches, prefix_then, scoped_after}
 use Rattle.hs_expressions.specs.Operations.{value_of}
 use Rattle.hs_typer.specs.Steps.{Step, then_with, ◌>>=◌, give, kept, with_types, look, of_types, lifted}
 use Rattle.hs_typer.specs.declared.type_error.TypeError.{TypeError}

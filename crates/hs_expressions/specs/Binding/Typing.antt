@@ -3,6 +3,7 @@
 --     typing_binds                                          the law
 use Rattle.std.proofs.Common.{List, [], ◌∷◌, ◌++◌, Option, Some, None, subst}
 use Rattle.std.specs.Prelude.{slice_get}
+use Rattle.hs_base.specs.Entries.{all_so}
 use Rattle.hs_expressions.specs.Binding.{IsBoundNode, IsList, IsSignature, IsDefined, BindsAs, BindsName, IsBoundOperand, TypingBinds}
 use Rattle.hs_expressions.specs.Binding.Calls.{AreBound, call_operand_keeps}
 use Rattle.hs_expressions.specs.Binding.Keeping.{Giving, Keeps, IsBound, IsBoundIn, plain_bound, gives_keeps, looks_keeps, of_types_keeps, then_keeps, so_keeps, nothing_keeps, either_keeps, value_keeps}
@@ -11,7 +12,6 @@ use Rattle.hs_expressions.specs.Expressions.{typed, typed_all, typed_lefts}
 use Rattle.hs_expressions.specs.Laws.{Extends}
 use Rattle.hs_expressions.specs.Laws.Always.{unevaluated_always}
 use Rattle.hs_expressions.specs.Laws.Extending.{typed_always, type_named_always, typing_extends}
-use Rattle.hs_expressions.specs.Laws.Reached.{all_so}
 use Rattle.hs_expressions.specs.Operations.{as_value, as_object, binary_of, is_arrow, member_operand, takes_object, prefix_value, postfix_of, assignment_of}
 use Rattle.hs_typer.specs.Primaries.{named, number_of, character_of}
 use Rattle.hs_typer.specs.declared.typer.Entity.{Entity}

@@ -5,10 +5,11 @@
 --     then_always, value_always, unevaluated_always, prototype_always    steps of others
 use Rattle.std.proofs.Common.{◌≡◌, ◌≤◌, ℕ, suc, Bool, true, false, List, [], Result, Ok, Err, refl, sym, ap, ◌∙◌, if◌then◌else◌, arith}
 use Rattle.std.specs.List.{AllByRecursion}
+use Rattle.hs_base.specs.Entries.{all_so}
 use Rattle.hs_expressions.specs.Expressions.{enter, ending, prototype}
 use Rattle.hs_expressions.specs.Laws.{HasMore, IsTagAt, IsScoped}
 use Rattle.hs_expressions.specs.Laws.Grown.{Growing, lifted_grows, loaded_grows}
-use Rattle.hs_expressions.specs.Laws.Reached.{IsAllowedAt, Reaches, all_so, left_entered, reaches_self, reaches_then, reaches_types, scoped_after, reaches_wider}
+use Rattle.hs_expressions.specs.Laws.Reached.{IsAllowedAt, Reaches, left_entered, reaches_self, reaches_then, reaches_types, scoped_after, reaches_wider}
 use Rattle.hs_expressions.specs.Laws.Traced.{traced_left}
 use Rattle.hs_expressions.specs.Operations.{value_of}
 use Rattle.hs_typer.specs.Steps.{Step, then_with, ◌>>=◌, ◌>>◌, give, refuse, kept, with_types, look, of_types, on_types, lifted, restored, unevaluated}
@@ -54,7 +55,7 @@ scoped_inside s scoped =
     }
 
 -- What ends leaves the names and the tags as they were.
-same_more : {E : Type 0} → (Holds : Declared E → Type 0) (old new : Scoped E) → new ≡ old → HasMore Holds old new
+pub same_more : {E : Type 0} → (Holds : Declared E → Type 0) (old new : Scoped E) → new ≡ old → HasMore Holds old new
 same_more Holds old new same = ([], tt, same)
 
 module _ (allowed : Entity → Type 0) where

@@ -2,7 +2,6 @@
 use Rattle.std.proofs.Common.{◌≡◌, ℕ, Bool, true, false, List, ◌++◌, [], ◌∷◌, Result, Ok, Err, refl, ap, subst, if◌then◌else◌}
 use Rattle.std.specs.List.{AllByRecursion}
 use Rattle.hs_expressions.specs.Laws.Always.{refuses_always}
-use Rattle.hs_expressions.specs.Laws.Grown.{grows_row}
 use Rattle.hs_expressions.specs.Laws.Keeping.{Giving, Keeps, of_types_keeps, then_keeps, so_keeps}
 use Rattle.hs_expressions.specs.Laws.Leaves.{addressed_always, call_with_always}
 use Rattle.hs_expressions.specs.Laws.Operating.{operators, stepped_typed}
@@ -33,6 +32,7 @@ use Rattle.hs_types.specs.Growing.{grows_then}
 use Rattle.hs_types.specs.TypeTables.{TypeTable, with_row, IsRight, Grows}
 use Rattle.hs_types.specs.declared.row.Row.TheVariants as row
 use Rattle.hs_types.specs.declared.row.TypeId.{TypeId}
+use Rattle.hs_types.specs.TableLaws.{grows_row}
 
 -- the arguments of an answer
 abbrev arguments_in : Result (TypeId × List RightValue) TypeError → List RightValue
@@ -93,11 +93,13 @@ module _ (program : TypedProgram) (function : TypedFunction) (sound : IsRight pr
       )
       else Err (Clash it.head.at it.name)
       )
-  routine_gives true it number p s = λ grows more are. ((arguments_readable program function p.1 are, tt, tt), each_of program function p.1 (arguments_typed program function p.1 are))
+  routine_gives true it number p s =
+      λ grows more are. ((arguments_readable program function p.1 are, tt, tt), each_of program function p.1 (arguments_typed program function p.1 are))
   routine_gives false it number p s = tt
 
   bound_gives : (its : Bound) (it : Designator) (p : TypeId × List RightValue) (s : Typer) → Giving program (IsCalled p.1) (bound_call its it p s)
-  bound_gives (bound.Function number) it p s = λ grows more are. ((arguments_readable program function p.1 are, tt, tt), each_of program function p.1 (arguments_typed program function p.1 are))
+  bound_gives (bound.Function number) it p s =
+      λ grows more are. ((arguments_readable program function p.1 are, tt, tt), each_of program function p.1 (arguments_typed program function p.1 are))
   bound_gives (bound.Routine number) it p s = routine_gives (fits_role s.types s.table number it.head.type_id) it number p s
   bound_gives bound.Nothing it p s = tt
 
@@ -130,7 +132,8 @@ module _ (program : TypedProgram) (function : TypedFunction) (sound : IsRight pr
       record { always = refuses_always (Untyped (head_of_operand (operand.object it)).at); gives = λ s scoped counts knows. tt }
   call_operand_keeps (operand.function it) arguments =
       then_keeps
-      (of_types_keeps {holds = λ its. AreTyped arguments → AreArguments program function its.1} (λ types. lifted (called types it.head.at it.head.type_id arguments))
+      (of_types_keeps {holds = λ its. AreTyped arguments → AreArguments program function its.1}
+      (λ types. lifted (called types it.head.at it.head.type_id arguments))
       (λ types grows p given are.
       called_given types grows it.head.at it.head.type_id arguments (called types it.head.at it.head.type_id arguments) refl p given are))
       (λ its. so_keeps (λ made is converted are. is (converted are)) (call_with_keeps it its))

@@ -6,6 +6,7 @@ use Rattle.std.proofs.Common.{◌≡◌, ◌≤◌, ◌⊎◌, inl, inr, ℕ, Bo
 use Rattle.std.proofs.lemmas.Bool.Decides.{nat_tests}
 use Rattle.std.specs.Prelude.{◌==◌, slice_get, slice_set}
 use Rattle.indexmap.specs.IndexMap.{insert_entry}
+use Rattle.hs_base.specs.Entries.{set_either, set_other, set_length}
 use Rattle.hs_expressions.specs.Laws.Traced.{HasBodyIn, HasFirst, IsTraced, HasBrace, Traces}
 use Rattle.hs_names.specs.Scopes.{Declared}
 use Rattle.hs_tokens.specs.declared.place.Place.{Place}
@@ -17,7 +18,6 @@ use Rattle.hs_typer.specs.declared.typer.Tag.{Tag}
 use Rattle.hs_typer.specs.declared.typer.Tag.TheVariants as tag
 use Rattle.hs_types.specs.TypeTables.{TypeTable}
 use Rattle.hs_types.specs.declared.body.Body.{Body}
-use Rattle.hs_expressions.specs.Laws.Entries.{set_either, set_other, set_length}
 use Rattle.hs_expressions.specs.Laws.Origins.{HasNoBrace}
 
 -- ---- its brace

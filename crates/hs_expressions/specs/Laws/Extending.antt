@@ -32,7 +32,7 @@ use Rattle.hs_types.specs.declared.body.Member.{Member}
 use Rattle.hs_types.specs.declared.row.TypeId.{TypeId}
 
 -- the type that specifiers name
-type_always : {step : Step Specifiers} → (first : Place) → Always IsConstant step → Always IsConstant (type_by first step)
+pub type_always : {step : Step Specifiers} → (first : Place) → Always IsConstant step → Always IsConstant (type_by first step)
 type_always first is = then_always is (λ its. looks_always (λ s. type_from first its))
 
 -- the value of a constant

@@ -1,9 +1,8 @@
 -- The table of types grows with every type, list and body that is put into it.
 --     GrowsPlainly old new      the table has grown, and has the same structs
 --     Growing types given       so has the table that is given, if one is
-use Rattle.std.proofs.Common.{◌≡◌, ℕ, zero, suc, Bool, true, false, ◌&&◌, ◌||◌, List, [], ◌∷◌, ◌++◌, Option, Some, None, Result, Ok, Err, refl, ap, ◌∙◌, if◌then◌else◌}
-use Rattle.std.specs.Prelude.{slice_get, slice_set, is_some, not}
-use Rattle.std.specs.List.{list_any}
+use Rattle.std.proofs.Common.{◌≡◌, ℕ, Bool, true, false, ◌&&◌, ◌||◌, List, [], ◌∷◌, ◌++◌, Option, Some, None, Result, Ok, Err, refl, ◌∙◌, if◌then◌else◌}
+use Rattle.std.specs.Prelude.{slice_get, is_some, not}
 use Rattle.hs_typer.specs.Declarators.{is_function_row, is_array_row, added, untyped_end, derived_of, derived_from, formed_onto, formed, parameter_row, parameter_of, parameter_type, with_first, listed_onto, listed}
 use Rattle.hs_typer.specs.Specifiers.{has_member, member_as, with_member_of, with_member}
 use Rattle.hs_typer.specs.Steps.{lifted}
@@ -20,11 +19,9 @@ use Rattle.hs_syntax.specs.declared.word.Word.{Word}
 use Rattle.hs_tokens.specs.declared.place.Place.{Place}
 use Rattle.hs_tree.specs.Kinds.{is_readable, element}
 use Rattle.hs_tree.specs.Trees as tree
-use Rattle.hs_tree.specs.Trees.{RightValue, LeftValue, type_of_left, head_of_left}
+use Rattle.hs_tree.specs.Trees.{LeftValue, type_of_left, head_of_left}
 use Rattle.hs_types.specs.Growing.{grows_self, grows_then}
-use Rattle.hs_types.specs.TypeTables.{TypeTable, body_in, constants_in, row_of, layout_of, with_row, with_list, list_id_of, row_of_element, with_result, arrayed, measured, laid_if, with_body, with_laid, awaits_body, completed, with_struct, with_enumeration, with_constants, enumerated, Grows}
-use Rattle.hs_types.specs.contracts.row.ParametersPartialEq.TheImpl as parameters_eq
-use Rattle.hs_types.specs.contracts.row.RowPartialEq.TheImpl as row_eq
+use Rattle.hs_types.specs.TypeTables.{TypeTable, row_of, layout_of, with_row, with_list, list_id_of, row_of_element, with_result, arrayed, measured, laid_if, with_laid, awaits_body, completed, with_constants, enumerated, Grows}
 use Rattle.hs_types.specs.declared.body.Body.{Body}
 use Rattle.hs_types.specs.declared.body.Enumerator.{Enumerator}
 use Rattle.hs_types.specs.declared.body.Member.{Member}
@@ -36,111 +33,7 @@ use Rattle.hs_types.specs.declared.row.Row.TheVariants as row
 use Rattle.hs_types.specs.declared.row.TypeId.{TypeId}
 use Rattle.hs_types.specs.declared.types.TypeEnd.{TypeEnd}
 use Rattle.hs_types.specs.declared.types.TypeEnd.TheVariants as end
-
--- an entry stays if the list goes on after it
-appended_stays : {A : Type 0} → (xs ys : List A) (k : ℕ) (x : A) → slice_get xs k ≡ Some x → slice_get (xs ++ ys) k ≡ Some x
-appended_stays [] ys k x found = absurd cc
-appended_stays (y ∷ xs) ys zero x found = found
-appended_stays (y ∷ xs) ys (suc k) x found = appended_stays xs ys k x found
-
--- and if another one is put in
-inserted_if : {A : Type 0} → (b : Bool) (xs : List A) (y : A) (k : ℕ) (x : A) → slice_get xs k ≡ Some x
-    → slice_get (if b then xs else xs ++ y ∷ []) k ≡ Some x
-inserted_if true xs y k x found = found
-inserted_if false xs y k x found = appended_stays xs (y ∷ []) k x found
-
--- or another one is replaced
-replaced_stays : {A : Type 0} → (xs : List A) (n : ℕ) (old y : A) (k : ℕ) (x : A) → slice_get xs n ≡ Some old → ¬ (old ≡ x)
-    → slice_get xs k ≡ Some x → slice_get (slice_set xs n y) k ≡ Some x
-replaced_stays [] n old y k x at other found = absurd cc
-replaced_stays (z ∷ xs) zero old y zero x at other found = absurd (other cc)
-replaced_stays (z ∷ xs) zero old y (suc k) x at other found = found
-replaced_stays (z ∷ xs) (suc n) old y zero x at other found = found
-replaced_stays (z ∷ xs) (suc n) old y (suc k) x at other found = replaced_stays xs n old y k x at other found
-
--- a body that has come, and constants
-body_before : (its : Option (Option Body)) (body : Body) → body_in its ≡ Some body → its ≡ Some (Some body)
-body_before None body is = absurd cc
-body_before (Some it) body is = ap Some is
-
-constants_before : (its : Option (Option (List Enumerator))) (constants : List Enumerator) → constants_in its ≡ Some constants
-    → its ≡ Some (Some constants)
-constants_before None constants is = absurd cc
-constants_before (Some it) constants is = ap Some is
-
--- what waits for its body has none yet
-awaits_none : {A : Type 0} → (its : Option (Option A)) → awaits_body its ≡ true → its ≡ Some None
-awaits_none None awaits = absurd cc
-awaits_none (Some None) awaits = refl
-awaits_none (Some (Some it)) awaits = absurd cc
-
--- with a type more
-pub grows_row : (its : Row) (types : TypeTable) → Grows types (with_row its types)
-grows_row its types =
-    record {
-      rows = λ place it at. inserted_if (list_any ((row_eq.ghosts).eq its) types.rows) types.rows its place it at;
-      lists = λ place it is. is;
-      bodies = λ number body is. is;
-      constants = λ number its is. is;
-    }
-
--- with a list of parameter types more
-pub grows_list : (list : Parameters) (types : TypeTable) → Grows types (with_list list types)
-grows_list list types =
-    record {
-      rows = λ place it at. at;
-      lists = λ place it at. inserted_if (list_any ((parameters_eq.ghosts).eq list) types.lists) types.lists list place it at;
-      bodies = λ number body is. is;
-      constants = λ number its is. is;
-    }
-
--- with a struct more, whose body comes later
-pub grows_struct : (types : TypeTable) → Grows types (with_struct types)
-grows_struct types =
-    record {
-      rows = λ place it is. is;
-      lists = λ place it is. is;
-      bodies = λ number body is. ap body_in
-          (appended_stays types.structs (None ∷ []) number (Some body) (body_before (slice_get types.structs number) body is));
-      constants = λ number its is. is;
-    }
-
--- with an enumeration more
-pub grows_enumeration : (types : TypeTable) → Grows types (with_enumeration types)
-grows_enumeration types =
-    record {
-      rows = λ place it is. is;
-      lists = λ place it is. is;
-      bodies = λ number body is. is;
-      constants = λ number its is. ap constants_in
-          (appended_stays types.enumerations (None ∷ []) number (Some its) (constants_before (slice_get types.enumerations number) its is));
-    }
-
--- with the constants of an enumeration that had none
-grows_constants : (types : TypeTable) (number : ℕ) (constants : List Enumerator) → slice_get types.enumerations number ≡ Some None
-    → Grows types (with_constants number constants types)
-grows_constants types number constants incomplete =
-    record {
-      rows = λ place it is. is;
-      lists = λ place it is. is;
-      bodies = λ other body is. is;
-      constants = λ other its is. ap constants_in
-          (replaced_stays types.enumerations number None (Some constants) other (Some its) incomplete (λ same. cc)
-          (constants_before (slice_get types.enumerations other) its is));
-    }
-
--- with the body of a struct that had none
-grows_body : (types : TypeTable) (number : ℕ) (body : Body) → slice_get types.structs number ≡ Some None
-    → Grows types (with_body number body types)
-grows_body types number body incomplete =
-    record {
-      rows = λ place it is. is;
-      lists = λ place it is. is;
-      bodies = λ other its is. ap body_in
-          (replaced_stays types.structs number None (Some body) other (Some its) incomplete (λ same. cc)
-          (body_before (slice_get types.structs other) its is));
-      constants = λ number its is. is;
-    }
+use Rattle.hs_types.specs.TableLaws.{awaits_none, grows_row, grows_list, grows_constants, grows_body}
 
 -- the table that is given, if one is, has grown
 abbrev pub GrowsTo : {E : Type 0} → TypeTable → Result TypeTable E → Type 0

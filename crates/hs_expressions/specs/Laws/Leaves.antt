@@ -5,7 +5,7 @@ use Rattle.hs_typer.specs.Declarators.{parameter_type, listed, word_of, place_of
 use Rattle.hs_typer.specs.Declaring.{list_of, declare_parameter, parameter}
 use Rattle.hs_expressions.specs.Laws.{IsConstant, IsTagAt}
 use Rattle.hs_expressions.specs.Laws.Always.{Reaching, Always, Anything, gives_always, refuses_always, of_types_always, on_types_always, then_always, and_always}
-use Rattle.hs_expressions.specs.Laws.Grown.{Growing, GrowsTo, plain_self, plain_row, grows_struct, grows_enumeration, arrayed_grows, enumerated_grows, listed_grows, parameter_type_grows}
+use Rattle.hs_expressions.specs.Laws.Grown.{Growing, GrowsTo, plain_self, plain_row, arrayed_grows, enumerated_grows, listed_grows, parameter_type_grows}
 use Rattle.hs_expressions.specs.Laws.Braces.{firsts_traced, enumeration_first, enumeration_later}
 use Rattle.hs_expressions.specs.Laws.Origins.{traced_struct}
 use Rattle.hs_expressions.specs.Laws.Reached.{IsAllowedAt, prefix_self, prefix_if, more_self, more_one, reaches_self, reaches_types, reaches_named, reaches_names, reaches_noted, reaches_further}
@@ -52,6 +52,7 @@ use Rattle.hs_types.specs.declared.row.Row.TheVariants as row
 use Rattle.hs_types.specs.declared.row.TypeId.{TypeId}
 use Rattle.hs_types.specs.declared.types.TypeEnd.{TypeEnd}
 use Rattle.hs_types.specs.declared.types.TypeEnd.TheVariants as end
+use Rattle.hs_types.specs.TableLaws.{grows_struct, grows_enumeration}
 
 -- a body begins in the unit where it stands
 pub met_unit : (at : Place) (it : Tag) (brace : Brace) (o : Origins) → (met at it brace o).unit ≡ o.unit

@@ -7,6 +7,7 @@ use Rattle.std.proofs.lemmas.Bool.Decides.{nat_tests}
 use Rattle.std.proofs.lemmas.List.{length-append}
 use Rattle.std.specs.List.{AllByRecursion}
 use Rattle.std.specs.Prelude.{◌==◌, slice_get, slice_set, is_some}
+use Rattle.hs_base.specs.Entries.{last_either, entry_stays, same_below, set_there, set_other, set_length}
 use Rattle.hs_expressions.specs.Laws.Traced.{HasBodyIn, HasFirst, IsOwnTag, IsTraced, Traces}
 use Rattle.hs_names.specs.Scopes.{Declared}
 use Rattle.hs_typer.specs.declared.origins.Brace.{Brace}
@@ -15,7 +16,6 @@ use Rattle.hs_typer.specs.declared.origins.Origins.{Origins}
 use Rattle.hs_typer.specs.declared.typer.Tag.{Tag}
 use Rattle.hs_types.specs.TypeTables.{body_in}
 use Rattle.hs_types.specs.declared.body.Body.{Body}
-use Rattle.hs_expressions.specs.Laws.Entries.{last_either, still_there, same_below, set_there, set_other, set_length}
 
 -- ---- a struct more
 
@@ -25,7 +25,7 @@ body_still structs ys k is = by_entry (slice_get structs k) refl is
   where
     by_entry : (o : Option (Option Body)) → slice_get structs k ≡ o → IsTrue (is_some (body_in o)) → HasBodyIn (structs ++ ys) k
     by_entry None same is = absurd cc
-    by_entry (Some it) same is = subst (λ o. IsTrue (is_some (body_in o))) (sym (still_there structs ys k it same)) is
+    by_entry (Some it) same is = subst (λ o. IsTrue (is_some (body_in o))) (sym (entry_stays structs ys k it same)) is
 
 -- numbers
 one_more : (a b : ℕ) → a ≡ b → a + 1 ≡ b + 1
@@ -58,7 +58,7 @@ traced_struct base structs o tags more it unit none own is = (
     owned = own is.there is.owned;
   },
   record {
-    braces = λ number brace has. (has.0, still_there o.structs (it ∷ []) number has.0 has.1, has.2);
+    braces = λ number brace has. (has.0, entry_stays o.structs (it ∷ []) number has.0 has.1, has.2);
     closed = λ number less. same_below structs (None ∷ []) number (below_base number base (length structs) less is.there);
   },
 )

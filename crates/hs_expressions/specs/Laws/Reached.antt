@@ -9,6 +9,7 @@ use Rattle.std.specs.List.{AllByRecursion}
 use Rattle.std.proofs.lemmas.Bool.Decides.{nat_tests}
 use Rattle.std.proofs.lemmas.List.{append_assoc, append-nil}
 use native.Mathlib.Numerals.{unary_clauses}
+use Rattle.hs_base.specs.Entries.{all_appended, all_so}
 use Rattle.hs_expressions.specs.Laws.Grown.{GrowsPlainly}
 use Rattle.hs_expressions.specs.Laws.Traced.{TracedTo, traced_self, traced_then, traced_same}
 use Rattle.hs_expressions.specs.Laws.{HasMore, IsTagAt, IsPrefix, AreOutside, IsScoped}
@@ -21,18 +22,6 @@ use Rattle.hs_typer.specs.declared.typer.Typer.{Typer}
 use Rattle.hs_names.specs.Scopes.{Scoped, Declared, declared, entered, left, outside}
 use Rattle.hs_types.specs.Growing.{grows_self, grows_then}
 use Rattle.hs_types.specs.TypeTables.{TypeTable, Grows}
-
--- of two lists
-pub all_appended : {A : Type 0} → (holds : A → Type 0) (xs ys : List A) → AllByRecursion holds xs → AllByRecursion holds ys
-    → AllByRecursion holds (xs ++ ys)
-all_appended holds [] ys is is' = is'
-all_appended holds (x ∷ xs) ys is is' = (is.0, all_appended holds xs ys is.1 is')
-
--- and what follows from it
-pub all_so : {A : Type 0} → (holds holds' : A → Type 0) → ((x : A) → holds x → holds' x) → (xs : List A) → AllByRecursion holds xs
-    → AllByRecursion holds' xs
-all_so holds holds' so [] is = tt
-all_so holds holds' so (x ∷ xs) is = (so x is.0, all_so holds holds' so xs is.1)
 
 -- more at the end, by none and by some after others
 pub prefix_self : {A : Type 0} → (xs : List A) → IsPrefix xs xs

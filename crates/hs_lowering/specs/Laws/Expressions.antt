@@ -353,7 +353,8 @@ module _ (program : CodeProgram) (variables : List VariableDecl) (bound : ℕ) (
           on_one_turns head (op.Offset bytes) (operation.offset bytes) refl (λ at a below s. refl) _ _ stack stack (value_turns its fits.1 stack)
 
       -- the values of arguments, and what is done with them
-      pub all_turns : (arguments : RightValues) → EachOf (FitsCall program) arguments → (last : Lowered) → (f : List Value → Step Value) (stack : List Value) (left : Value → List Value)
+      pub all_turns : (arguments : RightValues) → EachOf (FitsCall program) arguments → (last : Lowered)
+          → (f : List Value → Step Value) (stack : List Value) (left : Value → List Value)
           → ((values : List Value) → CountOf arguments values → Turning' last Any (f values) (onto values stack) left)
           → Turning' (all_code program.setting variables piece arguments last) Any (values_of program.setting again arguments >>= f) stack left
       all_turns tree.no_values fits last f stack left behind =
@@ -367,7 +368,8 @@ module _ (program : CodeProgram) (variables : List VariableDecl) (bound : ℕ) (
           (λ a so. all_turns rest fits.1 last (λ values. f (a ∷ values)) (a ∷ stack) left (λ values are. behind (a ∷ values) are)))
 
       -- the left operands of a comma, and what follows them
-      pub dropped_turns : (head : Head) (lefts : RightValues) → EachOf (FitsCall program) lefts → (last : Lowered) → (f : Step Value) (stack : List Value) (left : Value → List Value)
+      pub dropped_turns : (head : Head) (lefts : RightValues) → EachOf (FitsCall program) lefts → (last : Lowered)
+          → (f : Step Value) (stack : List Value) (left : Value → List Value)
           → Turning' last Any f stack left
           → Turning' (dropped_code program.setting variables piece head lefts last) Any (each_of program.setting again lefts >> f) stack left
       dropped_turns head tree.no_values fits last f stack left behind =

@@ -5,9 +5,9 @@
 --     Rest count at                       control that comes there with nothing on the stack finds the operands of that many operations
 --     Passes its                          so does control that comes to these operations, if it does behind them
 --     declarations_pass                   the law: the declarations of a block
-use Rattle.std.proofs.Common.{◌≡◌, ℕ, zero, suc, ◌+◌, ◌==◌, Bool, true, false, ◌&&◌, ◌||◌, List, [], ◌∷◌, length, slice_get, Option, Some, None, IsTrue, is_some, if◌then◌else◌, refl, sym, ap, ◌∙◌, subst, arith}
-use Rattle.std.proofs.lemmas.Bool.Decides.{nat_tests}
+use Rattle.std.proofs.Common.{◌≡◌, ℕ, zero, suc, ◌+◌, ◌==◌, Bool, true, false, ◌&&◌, ◌||◌, List, [], ◌∷◌, length, slice_get, Option, Some, None, IsTrue, is_some, if◌then◌else◌, refl, sym, ap, ◌∙◌, subst}
 use Rattle.std.specs.List.{AllByRecursion}
+use Rattle.hs_base.specs.Tests.{second_test, same_number}
 use Rattle.hs_code.specs.Codes.{scope_of}
 use Rattle.hs_code.specs.Stacks.{Scope, Kind, kind_of, kind_in, slot_kind}
 use Rattle.hs_code.specs.Stacks as stacks
@@ -124,18 +124,9 @@ only_scalar types id is = row_only types (found_within (length types.rows) types
 
 -- ---- constants of scalars
 
--- what the test says
-same_number : (n m : ℕ) → (n == m) ≡ true → n ≡ m
-same_number n m is = grind (arith, nat_tests, is)
-
 -- the same number is the same type
 same_type : (one other : TypeId) → (one.number == other.number) ≡ true → one ≡ other
 same_type one other is = ap (λ n. record { number = n }) (same_number one.number other.number is)
-
--- both hold
-second_holds : (a b : Bool) → (a && b) ≡ true → b ≡ true
-second_holds true b is = is
-second_holds false b is = absurd cc
 
 -- if there is one, it is of that type
 abbrev pub FitsConstant : TypedProgram → TypeId → Option constant_part.Part → Type 0
@@ -152,7 +143,7 @@ constant_fits program id its (part ∷ parts) fits = by (is_for its part) refl (
         → FitsConstant program its.type_id (or_later b part (part_for its parts))
     by true so later =
         subst (λ id. IsConstant program id part.value)
-        (same_type part.type_id its.type_id (second_holds (part.offset == its.offset) (part.type_id.number == its.type_id.number) so)) fits.0.1
+        (same_type part.type_id its.type_id (second_test (part.offset == its.offset) (part.type_id.number == its.type_id.number) so)) fits.0.1
     by false so later = later
 
 -- ---- values

@@ -3,6 +3,7 @@
 --     calls_fit                        each call of a typed program has as many arguments as there are parameters
 use Rattle.std.proofs.Common.{◌≡◌, ◌≤◌, ℕ, zero, suc, List, [], ◌∷◌, length, take, slice_get, Option, Some, None, refl, sym, subst, arith}
 use Rattle.std.specs.List.{AllByRecursion}
+use Rattle.hs_base.specs.Entries.{all_by_both}
 use Rattle.hs_code_run.specs.Steps.{arguments_of, routine_arguments}
 use Rattle.hs_lowering.specs.Laws.Expressions.{HasAsMany, FitsFunction as FitsCodeFunction, FitsRoutine as FitsCodeRoutine, FitsCall}
 use Rattle.hs_lowering.specs.Laws.Jobs.{program_code, FitsAll}
@@ -19,12 +20,6 @@ use Rattle.hs_tree.specs.declared.function.Prototype.{Prototype}
 use Rattle.hs_tree.specs.declared.head.VariableDecl.{VariableDecl}
 use Rattle.hs_types.specs.declared.row.TypeId.{TypeId}
 
--- of the items of a list
-zipped : {A : Type 0} → (first second both : A → Type 0) → ((it : A) → first it → second it → both it) → (its : List A)
-    → AllByRecursion first its → AllByRecursion second its → AllByRecursion both its
-zipped first second both so [] is also = tt
-zipped first second both so (it ∷ rest) is also = (so it is.0 also.0, zipped first second both so rest is.1 also.1)
-
 -- ---- of expressions
 
 module _ (first second both : Node → Type 0) (so : (node : Node) → first node → second node → both node) where
@@ -36,35 +31,53 @@ module _ (first second both : Node → Type 0) (so : (node : Node) → first nod
     right_both (tree.decay head array) is also = (so (right (tree.decay head array)) is.0 also.0, left_both array is.1 also.1)
     right_both (tree.address head object) is also = (so (right (tree.address head object)) is.0 also.0, left_both object is.1 also.1)
     right_both (tree.cast head operand) is also = (so (right (tree.cast head operand)) is.0 also.0, right_both operand is.1 also.1)
-    right_both (tree.convert_number head kind operand) is also = (so (right (tree.convert_number head kind operand)) is.0 also.0, right_both operand is.1 also.1)
+    right_both (tree.convert_number head kind operand) is also =
+        (so (right (tree.convert_number head kind operand)) is.0 also.0, right_both operand is.1 also.1)
     right_both (tree.convert_pointer head operand) is also = (so (right (tree.convert_pointer head operand)) is.0 also.0, right_both operand is.1 also.1)
-    right_both (tree.unary head operator kind operand) is also = (so (right (tree.unary head operator kind operand)) is.0 also.0, right_both operand is.1 also.1)
+    right_both (tree.unary head operator kind operand) is also =
+        (so (right (tree.unary head operator kind operand)) is.0 also.0, right_both operand is.1 also.1)
     right_both (tree.not head operand) is also = (so (right (tree.not head operand)) is.0 also.0, right_both operand is.1 also.1)
-    right_both (tree.arithmetic head operator kind a b) is also = (so (right (tree.arithmetic head operator kind a b)) is.0 also.0, right_both a is.1 also.1, right_both b is.2 also.2)
-    right_both (tree.comparison head operator kind a b) is also = (so (right (tree.comparison head operator kind a b)) is.0 also.0, right_both a is.1 also.1, right_both b is.2 also.2)
-    right_both (tree.compare_pointers head operator a b) is also = (so (right (tree.compare_pointers head operator a b)) is.0 also.0, right_both a is.1 also.1, right_both b is.2 also.2)
+    right_both (tree.arithmetic head operator kind a b) is also =
+        (so (right (tree.arithmetic head operator kind a b)) is.0 also.0, right_both a is.1 also.1, right_both b is.2 also.2)
+    right_both (tree.comparison head operator kind a b) is also =
+        (so (right (tree.comparison head operator kind a b)) is.0 also.0, right_both a is.1 also.1, right_both b is.2 also.2)
+    right_both (tree.compare_pointers head operator a b) is also =
+        (so (right (tree.compare_pointers head operator a b)) is.0 also.0, right_both a is.1 also.1, right_both b is.2 also.2)
     right_both (tree.is_nil head equal pointer) is also = (so (right (tree.is_nil head equal pointer)) is.0 also.0, right_both pointer is.1 also.1)
-    right_both (tree.step head stride pointer_first a b) is also = (so (right (tree.step head stride pointer_first a b)) is.0 also.0, right_both a is.1 also.1, right_both b is.2 also.2)
-    right_both (tree.difference head size a b) is also = (so (right (tree.difference head size a b)) is.0 also.0, right_both a is.1 also.1, right_both b is.2 also.2)
+    right_both (tree.step head stride pointer_first a b) is also =
+        (so (right (tree.step head stride pointer_first a b)) is.0 also.0, right_both a is.1 also.1, right_both b is.2 also.2)
+    right_both (tree.difference head size a b) is also =
+        (so (right (tree.difference head size a b)) is.0 also.0, right_both a is.1 also.1, right_both b is.2 also.2)
     right_both (tree.and head a b) is also = (so (right (tree.and head a b)) is.0 also.0, right_both a is.1 also.1, right_both b is.2 also.2)
     right_both (tree.or head a b) is also = (so (right (tree.or head a b)) is.0 also.0, right_both a is.1 also.1, right_both b is.2 also.2)
-    right_both (tree.conditional head test taken otherwise) is also =
-        (so (right (tree.conditional head test taken otherwise)) is.0 also.0, right_both test is.1 also.1, right_both taken is.2 also.2, right_both otherwise is.3 also.3)
-    right_both (tree.comma head lefts last) is also = (so (right (tree.comma head lefts last)) is.0 also.0, all_both lefts is.1 also.1, right_both last is.2 also.2)
-    right_both (tree.assign head into from) is also = (so (right (tree.assign head into from)) is.0 also.0, left_both into is.1 also.1, right_both from is.2 also.2)
+    right_both (tree.conditional head test taken otherwise) is also = (
+      so (right (tree.conditional head test taken otherwise)) is.0 also.0,
+      right_both test is.1 also.1,
+      right_both taken is.2 also.2,
+      right_both otherwise is.3 also.3,
+    )
+    right_both (tree.comma head lefts last) is also =
+        (so (right (tree.comma head lefts last)) is.0 also.0, all_both lefts is.1 also.1, right_both last is.2 also.2)
+    right_both (tree.assign head into from) is also =
+        (so (right (tree.assign head into from)) is.0 also.0, left_both into is.1 also.1, right_both from is.2 also.2)
     right_both (tree.update head operator kind to into from) is also =
         (so (right (tree.update head operator kind to into from)) is.0 also.0, left_both into is.1 also.1, right_both from is.2 also.2)
-    right_both (tree.advance head stride into from) is also = (so (right (tree.advance head stride into from)) is.0 also.0, left_both into is.1 also.1, right_both from is.2 also.2)
-    right_both (tree.post_update head operator kind to into) is also = (so (right (tree.post_update head operator kind to into)) is.0 also.0, left_both into is.1 also.1)
+    right_both (tree.advance head stride into from) is also =
+        (so (right (tree.advance head stride into from)) is.0 also.0, left_both into is.1 also.1, right_both from is.2 also.2)
+    right_both (tree.post_update head operator kind to into) is also =
+        (so (right (tree.post_update head operator kind to into)) is.0 also.0, left_both into is.1 also.1)
     right_both (tree.post_advance head stride into) is also = (so (right (tree.post_advance head stride into)) is.0 also.0, left_both into is.1 also.1)
-    right_both (tree.call head number routine arguments) is also = (so (right (tree.call head number routine arguments)) is.0 also.0, all_both arguments is.1 also.1)
-    right_both (tree.call_routine head routine arguments) is also = (so (right (tree.call_routine head routine arguments)) is.0 also.0, all_both arguments is.1 also.1)
+    right_both (tree.call head number routine arguments) is also =
+        (so (right (tree.call head number routine arguments)) is.0 also.0, all_both arguments is.1 also.1)
+    right_both (tree.call_routine head routine arguments) is also =
+        (so (right (tree.call_routine head routine arguments)) is.0 also.0, all_both arguments is.1 also.1)
 
     pub left_both : (it : LeftValue) → EachLeft first it → EachLeft second it → EachLeft both it
     left_both (tree.variable head variable) is also = so (left (tree.variable head variable)) is also
     left_both (tree.literal head place) is also = so (left (tree.literal head place)) is also
     left_both (tree.target head pointer) is also = (so (left (tree.target head pointer)) is.0 also.0, right_both pointer is.1 also.1)
-    left_both (tree.element head size pointer_first a b) is also = (so (left (tree.element head size pointer_first a b)) is.0 also.0, right_both a is.1 also.1, right_both b is.2 also.2)
+    left_both (tree.element head size pointer_first a b) is also =
+        (so (left (tree.element head size pointer_first a b)) is.0 also.0, right_both a is.1 also.1, right_both b is.2 also.2)
     left_both (tree.member head field offset object) is also = (so (left (tree.member head field offset object)) is.0 also.0, left_both object is.1 also.1)
     left_both (tree.arrow head field offset pointer) is also = (so (left (tree.arrow head field offset pointer)) is.0 also.0, right_both pointer is.1 also.1)
 
@@ -91,13 +104,14 @@ module _ (first second both : RightValue → Type 0) (so : (e : RightValue) → 
   expressions_both (of_statement (tree.if_else at test taken otherwise)) is also = so test is also
   expressions_both (of_statement (tree.while_ at test body)) is also = so test is also
   expressions_both (of_statement (tree.do_ at body test)) is also = so test is also
-  expressions_both (of_statement (tree.for_ at first test step body)) is also = (any_both first is.0 also.0, any_both test is.1 also.1, any_both step is.2 also.2)
+  expressions_both (of_statement (tree.for_ at first test step body)) is also =
+      (any_both first is.0 also.0, any_both test is.1 also.1, any_both step is.2 also.2)
   expressions_both (of_statement (tree.switch_ at e it)) is also = so e is also
   expressions_both (of_statement (tree.break_ at)) is also = tt
   expressions_both (of_statement (tree.continue_ at)) is also = tt
   expressions_both (of_statement (tree.return_ at e)) is also = any_both e is also
   expressions_both (of_declaration it) is also =
-      zipped (λ item. InStart first item.start) (λ item. InStart second item.start) (λ item. InStart both item.start)
+      all_by_both (λ item. InStart first item.start) (λ item. InStart second item.start) (λ item. InStart both item.start)
       (λ item one other. start_both item.start one other) it.items is also
 
 -- ---- inside a block
@@ -113,7 +127,8 @@ module _ (first second both : Phrase → Type 0) (so : (it : Phrase) → first i
         (so (of_statement (tree.if_else at test taken otherwise)) is.0 also.0, statement_both taken is.1 also.1, statement_both otherwise is.2 also.2)
     statement_both (tree.while_ at test body) is also = (so (of_statement (tree.while_ at test body)) is.0 also.0, statement_both body is.1 also.1)
     statement_both (tree.do_ at body test) is also = (so (of_statement (tree.do_ at body test)) is.0 also.0, statement_both body is.1 also.1)
-    statement_both (tree.for_ at first test step body) is also = (so (of_statement (tree.for_ at first test step body)) is.0 also.0, statement_both body is.1 also.1)
+    statement_both (tree.for_ at first test step body) is also =
+        (so (of_statement (tree.for_ at first test step body)) is.0 also.0, statement_both body is.1 also.1)
     statement_both (tree.switch_ at e it) is also = (so (of_statement (tree.switch_ at e it)) is.0 also.0, block_both it is.1 also.1)
     statement_both (tree.break_ at) is also = tt
     statement_both (tree.continue_ at) is also = tt
@@ -121,7 +136,7 @@ module _ (first second both : Phrase → Type 0) (so : (it : Phrase) → first i
 
     pub block_both : (it : TypedBlock) → EachBlock first it → EachBlock second it → EachBlock both it
     block_both (tree.compound opening declarations its closing) is also = (
-      zipped (λ it. first (of_declaration it)) (λ it. second (of_declaration it)) (λ it. both (of_declaration it))
+      all_by_both (λ it. first (of_declaration it)) (λ it. second (of_declaration it)) (λ it. both (of_declaration it))
           (λ it one other. so (of_declaration it) one other) declarations is.0 also.0,
       list_both its is.1 also.1,
     )

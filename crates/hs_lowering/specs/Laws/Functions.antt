@@ -127,28 +127,35 @@ module _ (program : TypedProgram) where
       statement_there (tree.block it) fits is = starts_there it fits is
       statement_there (tree.expression at e) fits is = tt
       statement_there (tree.empty at) fits is = tt
-      statement_there (tree.if_ at test first) fits is = (tt, statement_there first fits.1 (back program function (named program function test) (named_there first) is))
+      statement_there (tree.if_ at test first) fits is =
+          (tt, statement_there first fits.1 (back program function (named program function test) (named_there first) is))
       statement_there (tree.if_else at test first second) fits is = (
         tt,
         statement_there first fits.1
-            (back program function (named program function test) (named_there first) (front program function (named program function test ++ named_there first) (named_there second) is)),
+            (back program function (named program function test) (named_there first)
+            (front program function (named program function test ++ named_there first) (named_there second) is)),
         statement_there second fits.2 (back program function (named program function test ++ named_there first) (named_there second) is),
       )
-      statement_there (tree.while_ at test body) fits is = (tt, statement_there body fits.1 (back program function (named program function test) (named_there body) is))
-      statement_there (tree.do_ at body test) fits is = (tt, statement_there body fits.1 (front program function (named_there body) (named program function test) is))
+      statement_there (tree.while_ at test body) fits is =
+          (tt, statement_there body fits.1 (back program function (named program function test) (named_there body) is))
+      statement_there (tree.do_ at body test) fits is =
+          (tt, statement_there body fits.1 (front program function (named_there body) (named program function test) is))
       statement_there (tree.for_ at first test next body) fits is = (
         tt,
         statement_there body fits.1 (back program function (named_if program function first ++ named_if program function test) (named_there body)
-            (front program function (named_if program function first ++ named_if program function test ++ named_there body) (named_if program function next) is)),
+            (front program function (named_if program function first ++ named_if program function test ++ named_there body)
+            (named_if program function next) is)),
       )
-      statement_there (tree.switch_ at e it) fits is = (tt, starts_there it fits.1 (back program function (named program function e) (named_block program function it) is))
+      statement_there (tree.switch_ at e it) fits is =
+          (tt, starts_there it fits.1 (back program function (named program function e) (named_block program function it) is))
       statement_there (tree.break_ at) fits is = tt
       statement_there (tree.continue_ at) fits is = tt
       statement_there (tree.return_ at e) fits is = tt
 
       pub starts_there : (it : TypedBlock) → EachBlock FitsHere it → AllAmong classes (named_block program function it) → EachBlock There it
       starts_there (tree.compound opening declarations list closing) fits is = (
-        declarations_there declarations fits.0 (front program function (named_declarations program function declarations) (named_statements program function list) is),
+        declarations_there declarations fits.0
+            (front program function (named_declarations program function declarations) (named_statements program function list) is),
         list_there list fits.1 (back program function (named_declarations program function declarations) (named_statements program function list) is),
       )
 
@@ -173,7 +180,8 @@ module _ (program : TypedProgram) where
   functions_name [] names fits is = tt
   functions_name (function ∷ rest) names fits is = (
     function_named program classes function
-        (block_both (EachExpression (EachRight (NamesFit program classes function))) (StartsThere program classes function) (PhraseNames program classes function)
+        (block_both (EachExpression (EachRight (NamesFit program classes function))) (StartsThere program classes function)
+        (PhraseNames program classes function)
         (λ phrase one other. (one, other)) function.body names.0
         (starts_there function function.body fits.0
         (all_back classes (named_variables program (take function.parameters function.variables)) (named_block program function function.body)

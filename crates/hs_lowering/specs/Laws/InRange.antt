@@ -1,8 +1,9 @@
 -- The code of a typed program is in range (own).
 --     IsRanged program function     what each operation of the code of the function names is there, and where it and its cases go too
 --     code_ranged                   the law
-use Rattle.std.proofs.Common.{◌≡◌, ◌≤◌, ◌<◌, ◌+◌, ℕ, zero, suc, List, [], ◌∷◌, length, slice_get, Some, sym, ap, ◌∙◌, subst, arith, append-nil}
+use Rattle.std.proofs.Common.{◌≡◌, ◌≤◌, ◌<◌, ℕ, suc, List, [], ◌∷◌, length, slice_get, Some, sym, ap, ◌∙◌, subst, arith, append-nil}
 use Rattle.std.specs.List.{AllByRecursion}
+use Rattle.hs_base.specs.Entries.{all_at, all_appended}
 use Rattle.hs_code.specs.Codes.{IsInRange}
 use Rattle.hs_code.specs.declared.function_code.Case.{Case}
 use Rattle.hs_code.specs.declared.function_code.FunctionCode.{FunctionCode}
@@ -16,11 +17,11 @@ use Rattle.hs_lowering.specs.Laws.Jumps.{Within, after_from}
 use Rattle.hs_lowering.specs.Laws.Lengths.{same_block, cases_of_a_block}
 use Rattle.hs_lowering.specs.Laws.Placing.{past_length, length_given}
 use Rattle.hs_lowering.specs.Laws.Ranges.{IsThere, class_range, class_range_too}
-use Rattle.hs_lowering.specs.Laws.Targets.{GoesIn, AllGo, all_join, all_within, missing_within, block_goes}
+use Rattle.hs_lowering.specs.Laws.Targets.{GoesIn, AllGo, all_within, missing_within, block_goes}
 use Rattle.hs_lowering.specs.Lowering.{Lowered, after}
-use Rattle.hs_lowering.specs.Performing.{after_append}
+use Rattle.hs_lowering.specs.Performing.{after_append, after_length}
 use Rattle.hs_lowering.specs.Statements as code
-use Rattle.hs_lowering.specs.Statements.{Written, Part, Targets, nowhere, body_counts, end_at, after_block, block_code, placed_at, function_code}
+use Rattle.hs_lowering.specs.Statements.{Written, nowhere, body_counts, end_at, after_block, block_code, function_code}
 use Rattle.hs_meaning.specs.Classes.{classes_of}
 use Rattle.hs_meaning.specs.Settings.{Setting, setting_of}
 use Rattle.hs_meaning.specs.Statements.{closing_of}
@@ -29,20 +30,6 @@ use Rattle.hs_tree.specs.Kinds.{is_pointer, is_struct_row}
 use Rattle.hs_tree.specs.Trees.{TypedFunction, TypedProgram}
 use Rattle.hs_tree.specs.declared.class.Class.{Class}
 use Rattle.hs_types.specs.TypeTables.{row_of}
-
--- ---- lists
-
-after_length : (start : ℕ) (its : List Placed) → after start its ≡ start + length its
-after_length start [] = omega arith
-after_length start (one ∷ rest) = after_length (suc start) rest ∙ omega arith
-
-all_at : {A : Type 0} → (P : A → Type 0) (its : List A) (place : ℕ) (one : A) → AllByRecursion P its → slice_get its place ≡ Some one → P one
-all_at P [] place one all_ is = absurd cc
-all_at {A = A} P (first ∷ rest) zero one all_ is = subst P (same first one is) all_.0
-  where
-    same : (a b : A) → Some a ≡ Some b → a ≡ b
-    same a b so = cc
-all_at P (first ∷ rest) (suc place) one all_ is = all_at P rest place one all_.1 is
 
 -- ---- the code of a function goes to itself
 
@@ -91,11 +78,11 @@ module _ (setting : Setting) (function : TypedFunction) where
   function_goes =
       record {
         ops =
-            all_join last cases (λ one. GoesIn last cases one.op) body.ops _ inner.ops
-            (all_join last cases (λ one. GoesIn last cases one.op) (value mid 0) _
+            all_appended (λ one. GoesIn last cases one.op) body.ops _ inner.ops
+            (all_appended (λ one. GoesIn last cases one.op) (value mid 0) _
             (all_within last cases mid (after mid (value mid 0)) (value mid 0) (within.at mid 0) value_less) (tt, tt));
-        targets = all_join last cases (λ it. it.target < last) body.cases [] inner.targets tt;
-        labels = all_join last cases (λ it. it.1 < last) body.labels [] inner.labels tt;
+        targets = all_appended (λ it. it.target < last) body.cases [] inner.targets tt;
+        labels = all_appended (λ it. it.1 < last) body.labels [] inner.labels tt;
       }
     where
       last : ℕ
@@ -149,7 +136,8 @@ module _ (program : TypedProgram) where
         ranges = λ at its there.
             ranged program (classes_of program) function (code_of program function) its.op
             (all_at (λ one. IsThere program (classes_of program) function one.op) (code_of program function).ops at its names there)
-            (all_at (λ one. GoesIn (length (code_of program function).ops) (length (code_of program function).cases) one.op) (code_of program function).ops at its
+            (all_at (λ one. GoesIn (length (code_of program function).ops) (length (code_of program function).cases) one.op)
+            (code_of program function).ops at its
             (function_goes (setting_of program) function).ops there);
         cases = λ place its there.
             all_at (λ it. it.target < length (code_of program function).ops) (code_of program function).cases place its

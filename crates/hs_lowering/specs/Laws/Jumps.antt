@@ -2,7 +2,7 @@
 --     JumpsWithin low high its       the operation is no jump, or goes to one of these operations
 --     AllWithin low high list        each of these
 --     Within its                     code jumps only from its first operation to the one behind it, wherever it stands
---     right_within, left_within      the law
+--     right_within, left_within      the law; value_within: of a value in a function
 use Rattle.std.proofs.Common.{◌≤◌, ℕ, suc, Bool, true, false, List, [], ◌∷◌, ◌++◌, slice_get, Option, Some, None, sym, subst, arith}
 use Rattle.std.specs.List.{AllByRecursion}
 use Rattle.hs_code.specs.declared.function_code.Placed.{Placed}
@@ -14,9 +14,10 @@ use Rattle.hs_code.specs.declared.op.Op.TheVariants as op
 use Rattle.hs_code.specs.declared.op.Unary.TheVariants as unary
 use Rattle.hs_lowering.specs.Lowering.{Lowered, after, operand, sequence, placed, only, on_one, on_two, branches, chosen, answered, both_hold, conjoined, read_code, written_code, fetched, updated_code, stepped_code, numbers_changed, takes_decision, decided_if, bound_code, slot_of, access_in, right_code, address_code, all_code, dropped_code}
 use Rattle.hs_lowering.specs.Performing.{after_append}
+use Rattle.hs_lowering.specs.Statements.{value_code}
 use Rattle.hs_meaning.specs.Settings.{Setting, access_of}
 use Rattle.hs_tree.specs.Trees as tree
-use Rattle.hs_tree.specs.Trees.{RightValue, LeftValue, RightValues}
+use Rattle.hs_tree.specs.Trees.{RightValue, LeftValue, RightValues, TypedFunction}
 use Rattle.hs_tree.specs.declared.head.Head.{Head}
 use Rattle.hs_tree.specs.declared.head.Variable.{Variable}
 use Rattle.hs_tree.specs.declared.head.VariableDecl.{VariableDecl}
@@ -120,7 +121,8 @@ module _ (piece : ℕ) (head : Head) where
         (placed piece head (op.Jump (after (suc (after (suc at) first)) second)) (suc depth) ∷ second)
         (wider (suc at) (after (suc at) first) at (after (suc (after (suc at) first)) second) first low_one mid_high is) (
           (low_jump, high_jump),
-          wider (suc (after (suc at) first)) (after (suc (after (suc at) first)) second) at (after (suc (after (suc at) first)) second) second low_zero high_jump
+          wider (suc (after (suc at) first)) (after (suc (after (suc at) first)) second) at
+              (after (suc (after (suc at) first)) second) second low_zero high_jump
               also,
         ),
   )
@@ -334,3 +336,7 @@ module _ (setting : Setting) (variables : List VariableDecl) (piece : ℕ) where
     dropped_within head tree.no_values last is = is
     dropped_within head (tree.more_values e rest) last is =
         sequence_within (one_within piece head op.Drop (λ low high. tt) (right_within e)) (dropped_within head rest last is)
+
+-- the value of an expression in a function
+pub value_within : (setting : Setting) (function : TypedFunction) (piece : ℕ) (e : RightValue) → Within (value_code setting function piece e)
+value_within setting function piece e = right_within setting function.variables piece e

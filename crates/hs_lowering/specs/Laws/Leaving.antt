@@ -152,7 +152,8 @@ module _ (scope : Scope) (code : FunctionCode) where
       branched count at depth kind long is holds more =
           tests count at depth (suc (after (suc at) (first (suc at) depth))) kind kinds long is holds.0
           (one.go count (suc at) depth long (holds_front code (suc at) (first (suc at) depth) (jump ∷ last) holds.1)
-          (λ a fine. jumps count (after (suc at) (first (suc at) depth)) (suc depth) (after other_at last) (left a) (longer a ∙ ap suc long) back.0 (more a fine)))
+          (λ a fine. jumps count (after (suc at) (first (suc at) depth)) (suc depth) (after other_at last) (left a) (longer a ∙ ap suc long) back.0
+          (more a fine)))
           (other.go count other_at depth long back.1 more)
         where
           other_at : ℕ
@@ -175,17 +176,21 @@ module _ (scope : Scope) (code : FunctionCode) where
         record {
           go = λ count start depth long holds more.
               tested.go count start depth long
-              (holds_front code start (test start depth) (branches piece head (after start (test start depth)) depth (first (suc (after start (test start depth))) depth) second) holds)
+              (holds_front code start (test start depth)
+              (branches piece head (after start (test start depth)) depth (first (suc (after start (test start depth))) depth) second) holds)
               (λ kind is. branched first second longer one other count (after start (test start depth)) depth kind long is
-              (holds_back code start (test start depth) (branches piece head (after start (test start depth)) depth (first (suc (after start (test start depth))) depth) second) holds)
+              (holds_back code start (test start depth)
+              (branches piece head (after start (test start depth)) depth (first (suc (after start (test start depth))) depth) second) holds)
               (λ a fine. subst (λ n. Stacked scope code count n (left a))
-              (after_append start (test start depth) (branches piece head (after start (test start depth)) depth (first (suc (after start (test start depth))) depth) second)
+              (after_append start (test start depth)
+              (branches piece head (after start (test start depth)) depth (first (suc (after start (test start depth))) depth) second)
               ∙ branches_end piece head (after start (test start depth)) depth (first (suc (after start (test start depth))) depth) second)
               (more a fine)));
         }
 
     -- 1 or 0
-    pub answered_leaves : (test : Lowered) (kinds : List Kind) → Leaves test (Is stacks.number) kinds → Leaves (answered piece head test) (Is stacks.number) kinds
+    pub answered_leaves : (test : Lowered) (kinds : List Kind) → Leaves test (Is stacks.number) kinds
+        → Leaves (answered piece head test) (Is stacks.number) kinds
     answered_leaves test kinds tested =
         chosen_goes test (only piece head (op.Num 1)) (only piece head (op.Num 0)) (λ a. refl) tested
         (only_leaves (op.Num 1) kinds stacks.number (λ cases at next follows. follows) refl)
@@ -232,11 +237,14 @@ module _ (scope : Scope) (code : FunctionCode) where
         record {
           go = λ count start depth long holds more.
               leaves.go count start depth long
-              (holds_front code start (first start depth) (both_hold piece head (after start (first start depth)) depth (second (suc (after start (first start depth))) depth)) holds)
+              (holds_front code start (first start depth)
+              (both_hold piece head (after start (first start depth)) depth (second (suc (after start (first start depth))) depth)) holds)
               (λ kind is. both_held count (after start (first start depth)) depth kind kinds second long is also
-              (holds_back code start (first start depth) (both_hold piece head (after start (first start depth)) depth (second (suc (after start (first start depth))) depth)) holds)
+              (holds_back code start (first start depth)
+              (both_hold piece head (after start (first start depth)) depth (second (suc (after start (first start depth))) depth)) holds)
               (subst (λ n. Stacked scope code count n (stacks.number ∷ kinds))
-              (after_append start (first start depth) (both_hold piece head (after start (first start depth)) depth (second (suc (after start (first start depth))) depth))
+              (after_append start (first start depth)
+              (both_hold piece head (after start (first start depth)) depth (second (suc (after start (first start depth))) depth))
               ∙ after_append (suc (after start (first start depth))) (second (suc (after start (first start depth))) depth) _)
               (more stacks.number refl)));
         }

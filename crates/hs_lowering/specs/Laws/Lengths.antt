@@ -300,7 +300,8 @@ module _ (setting : Setting) (function : TypedFunction) where
         switch_counted _ _ _ _ _ (cases_of_a_block it (one_piece counts) _ _) (block_labels_counted it (one_piece counts) nowhere _ _)
     cases_of_statement (tree.break_ at) counts targets start = past_none counts.cases
     cases_of_statement (tree.continue_ at) counts targets start = past_none counts.cases
-    cases_of_statement (tree.return_ at e) counts targets start = ap (past counts.cases) ((plain_returned counts.pieces at.pos e).cases start) ∙ past_none counts.cases
+    cases_of_statement (tree.return_ at e) counts targets start =
+        ap (past counts.cases) ((plain_returned counts.pieces at.pos e).cases start) ∙ past_none counts.cases
 
     pub cases_of_a_block : (it : TypedBlock) (counts : Counts) (targets : Targets) (start : ℕ)
         → past counts.cases (block_code setting function it counts targets start).cases ≡ (after_block it counts).cases

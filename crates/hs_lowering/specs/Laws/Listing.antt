@@ -190,8 +190,11 @@ module _ (program : TypedProgram) (function : TypedFunction) where
       right_classes a facts.2 (back (of_right test) (of_right a) (front (of_right test ++ of_right a) (of_right b) is)),
       right_classes b facts.3 (back (of_right test ++ of_right a) (of_right b) is),
     )
-    right_classes (tree.comma head lefts last) facts is =
-        (tt, all_classes lefts facts.1 (front (named_all program function lefts) _ is), right_classes last facts.2 (back (named_all program function lefts) _ is))
+    right_classes (tree.comma head lefts last) facts is = (
+      tt,
+      all_classes lefts facts.1 (front (named_all program function lefts) _ is),
+      right_classes last facts.2 (back (named_all program function lefts) _ is),
+    )
     right_classes (tree.assign head into from) facts is = (
       reaches into (back (of_left into ++ of_right from) (accessed program function into) is),
       left_classes into facts.1 (front (of_left into) (of_right from) (front (of_left into ++ of_right from) (accessed program function into) is)),
@@ -201,11 +204,13 @@ module _ (program : TypedProgram) (function : TypedFunction) where
         (number_reaches into to facts.0.0, left_classes into facts.1 (front (of_left into) _ is), right_classes from facts.2 (back (of_left into) _ is))
     right_classes (tree.advance head stride into from) facts is = (
       reaches into (back (of_left into) (accessed program function into) (front (of_left into ++ accessed program function into) (of_right from) is)),
-      left_classes into facts.1 (front (of_left into) (accessed program function into) (front (of_left into ++ accessed program function into) (of_right from) is)),
+      left_classes into facts.1
+          (front (of_left into) (accessed program function into) (front (of_left into ++ accessed program function into) (of_right from) is)),
       right_classes from facts.2 (back (of_left into ++ accessed program function into) (of_right from) is),
     )
     right_classes (tree.post_update head its kind to into) facts is = (number_reaches into to facts.0, left_classes into facts.1 is)
-    right_classes (tree.post_advance head stride into) facts is = (reaches into (back (of_left into) _ is), left_classes into facts.1 (front (of_left into) _ is))
+    right_classes (tree.post_advance head stride into) facts is =
+        (reaches into (back (of_left into) _ is), left_classes into facts.1 (front (of_left into) _ is))
     right_classes (tree.call head place routine arguments) facts is = (tt, all_classes arguments facts.1 is)
     right_classes (tree.call_routine head place arguments) facts is = (tt, all_classes arguments facts.1 is)
 
@@ -245,7 +250,8 @@ module _ (program : TypedProgram) (function : TypedFunction) where
       → AllByRecursion (λ item. InStart ClassesOf item.start) its
   items_classes [] facts is = tt
   items_classes (item ∷ items) facts is = (
-    by item.start facts.0 (front (named_start program function (slice_get function.variables item.variable) item.start) (named_items program function items) is),
+    by item.start facts.0
+        (front (named_start program function (slice_get function.variables item.variable) item.start) (named_items program function items) is),
     items_classes items facts.1
         (back (named_start program function (slice_get function.variables item.variable) item.start) (named_items program function items) is),
   )
@@ -269,17 +275,23 @@ module _ (program : TypedProgram) (function : TypedFunction) where
     statement_classes (tree.block it) facts is = block_classes it facts is
     statement_classes (tree.expression at e) facts is = right_classes e facts is
     statement_classes (tree.empty at) facts is = tt
-    statement_classes (tree.if_ at test first) facts is =
-        (right_classes test facts.0 (front (of_right test) (of_statement' first) is), statement_classes first facts.1 (back (of_right test) (of_statement' first) is))
+    statement_classes (tree.if_ at test first) facts is = (
+      right_classes test facts.0 (front (of_right test) (of_statement' first) is),
+      statement_classes first facts.1 (back (of_right test) (of_statement' first) is),
+    )
     statement_classes (tree.if_else at test first second) facts is = (
       right_classes test facts.0 (front (of_right test) (of_statement' first) (front (of_right test ++ of_statement' first) (of_statement' second) is)),
       statement_classes first facts.1 (back (of_right test) (of_statement' first) (front (of_right test ++ of_statement' first) (of_statement' second) is)),
       statement_classes second facts.2 (back (of_right test ++ of_statement' first) (of_statement' second) is),
     )
-    statement_classes (tree.while_ at test body) facts is =
-        (right_classes test facts.0 (front (of_right test) (of_statement' body) is), statement_classes body facts.1 (back (of_right test) (of_statement' body) is))
-    statement_classes (tree.do_ at body test) facts is =
-        (right_classes test facts.0 (back (of_statement' body) (of_right test) is), statement_classes body facts.1 (front (of_statement' body) (of_right test) is))
+    statement_classes (tree.while_ at test body) facts is = (
+      right_classes test facts.0 (front (of_right test) (of_statement' body) is),
+      statement_classes body facts.1 (back (of_right test) (of_statement' body) is),
+    )
+    statement_classes (tree.do_ at body test) facts is = (
+      right_classes test facts.0 (back (of_statement' body) (of_right test) is),
+      statement_classes body facts.1 (front (of_statement' body) (of_right test) is),
+    )
     statement_classes (tree.for_ at first test next body) facts is = (
       (
         any_classes first facts.0.0 (front (named_if program function first) (named_if program function test)
@@ -288,13 +300,16 @@ module _ (program : TypedProgram) (function : TypedFunction) where
         any_classes test facts.0.1 (back (named_if program function first) (named_if program function test)
             (front (named_if program function first ++ named_if program function test) (of_statement' body)
             (front (named_if program function first ++ named_if program function test ++ of_statement' body) (named_if program function next) is))),
-        any_classes next facts.0.2 (back (named_if program function first ++ named_if program function test ++ of_statement' body) (named_if program function next) is),
+        any_classes next facts.0.2
+            (back (named_if program function first ++ named_if program function test ++ of_statement' body) (named_if program function next) is),
       ),
       statement_classes body facts.1 (back (named_if program function first ++ named_if program function test) (of_statement' body)
           (front (named_if program function first ++ named_if program function test ++ of_statement' body) (named_if program function next) is)),
     )
-    statement_classes (tree.switch_ at e it) facts is =
-        (right_classes e facts.0 (front (of_right e) (named_block program function it) is), block_classes it facts.1 (back (of_right e) (named_block program function it) is))
+    statement_classes (tree.switch_ at e it) facts is = (
+      right_classes e facts.0 (front (of_right e) (named_block program function it) is),
+      block_classes it facts.1 (back (of_right e) (named_block program function it) is),
+    )
     statement_classes (tree.break_ at) facts is = tt
     statement_classes (tree.continue_ at) facts is = tt
     statement_classes (tree.return_ at e) facts is = any_classes e facts is

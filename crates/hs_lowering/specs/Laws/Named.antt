@@ -58,7 +58,10 @@ module _ (program : TypedProgram) where
       (NamesFit program (classes_of program))
       (λ function node is also. record { range = is.0.0; operands = is.0.1; result = is.1.0; marked = is.1.1; class_there = also }) program
       (nodes_both (λ function node. Range function node × Operands function node) (λ function node. Result function node × Marked function node)
-      (λ function node. (Range function node × Operands function node) × (Result function node × Marked function node)) (λ function node is also. (is, also)) program
-      (nodes_both Range Operands (λ function node. Range function node × Operands function node) (λ function node is also. (is, also)) program fits.ranges fits.operands)
-      (nodes_both Result Marked (λ function node. Result function node × Marked function node) (λ function node is also. (is, also)) program fits.results fits.taken))
+      (λ function node. (Range function node × Operands function node) × (Result function node × Marked function node))
+      (λ function node is also. (is, also)) program
+      (nodes_both Range Operands (λ function node. Range function node × Operands function node)
+      (λ function node is also. (is, also)) program fits.ranges fits.operands)
+      (nodes_both Result Marked (λ function node. Result function node × Marked function node)
+      (λ function node is also. (is, also)) program fits.results fits.taken))
       (classes_there program fits.operands)

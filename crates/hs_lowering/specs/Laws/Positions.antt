@@ -5,6 +5,7 @@
 use Rattle.std.proofs.Common.{◌≡◌, ℕ, suc, Bool, true, false, List, [], ◌++◌, slice_get, Option, Some, None, refl}
 use Rattle.std.specs.List.{AllByRecursion}
 use Rattle.hs_base.specs.declared.pos.Pos.{Pos}
+use Rattle.hs_base.specs.Entries.{all_appended}
 use Rattle.hs_code.specs.declared.function_code.Placed.{Placed}
 use Rattle.hs_code.specs.declared.op.Access.{Access}
 use Rattle.hs_code.specs.declared.op.Binary.TheVariants as binary
@@ -12,7 +13,6 @@ use Rattle.hs_code.specs.declared.op.Object.TheVariants as object
 use Rattle.hs_code.specs.declared.op.Op.{Op}
 use Rattle.hs_code.specs.declared.op.Op.TheVariants as op
 use Rattle.hs_code.specs.declared.op.Unary.TheVariants as unary
-use Rattle.hs_lowering.specs.Laws.Ranges.{all_both}
 use Rattle.hs_lowering.specs.Lowering.{Lowered, after, operand, sequence, only, on_one, on_two, branches, chosen, answered, conjoined, slot_of, access_in, read_code, written_code, fetched, updated_code, stepped_code, numbers_changed, takes_decision, decided_if, bound_code, right_code, address_code, all_code, dropped_code}
 use Rattle.hs_meaning.specs.Settings.{Setting, access_of}
 use Rattle.hs_tree.specs.Inside.{Node, right, left, EachRight, EachLeft, EachOf}
@@ -43,7 +43,7 @@ module _ (piece : ℕ) (fact : Pos → Type 0) where
     pub at : (start depth : ℕ) → AllPlaced (its start depth)
 
   both_placed : (first second : List Placed) → AllPlaced first → AllPlaced second → AllPlaced (first ++ second)
-  both_placed first second is also = all_both (IsPlaced piece fact) first second is also
+  both_placed first second is also = all_appended (IsPlaced piece fact) first second is also
 
   operand_placed : {first second : Lowered} → Positioned first → Positioned second → Positioned (operand first second)
   operand_placed {first = first} {second = second} is also =
@@ -57,7 +57,8 @@ module _ (piece : ℕ) (fact : Pos → Type 0) where
   sequence_placed {first = first} {second = second} is also =
       record {
         at = λ start depth.
-            both_placed (first start depth) (second (after start (first start depth)) depth) (is.at start depth) (also.at (after start (first start depth)) depth);
+            both_placed (first start depth) (second (after start (first start depth)) depth) (is.at start depth)
+            (also.at (after start (first start depth)) depth);
       }
 
   nothing_placed : Positioned (λ start depth. [])
@@ -75,7 +76,8 @@ module _ (piece : ℕ) (fact : Pos → Type 0) where
 
     -- ---- branches
 
-    branched : (at depth : ℕ) (first : List Placed) (second : Lowered) → AllPlaced first → Positioned second → AllPlaced (branches piece head at depth first second)
+    branched : (at depth : ℕ) (first : List Placed) (second : Lowered) → AllPlaced first → Positioned second
+        → AllPlaced (branches piece head at depth first second)
     branched at depth first second is also = ((refl, here), both_placed first _ is ((refl, here), also.at (suc (after (suc at) first)) depth))
 
     chosen_placed : {test first second : Lowered} → Positioned test → Positioned first → Positioned second → Positioned (chosen piece head test first second)
@@ -197,7 +199,8 @@ module _ (setting : Setting) (variables : List VariableDecl) (piece : ℕ) (fact
         chosen_placed piece fact head is.0 (right_placed test is.1) (right_placed a is.2) (right_placed b is.3)
     right_placed (tree.comma head lefts last) is = dropped_placed head is.0 lefts is.1 (right_code setting variables piece last) (right_placed last is.2)
     right_placed (tree.assign head into from) is =
-        written_placed piece fact head is.0 (slot_of setting variables into) (access_in (access_of setting into)) (left_placed into is.1) (right_placed from is.2)
+        written_placed piece fact head is.0 (slot_of setting variables into) (access_in (access_of setting into)) (left_placed into is.1)
+        (right_placed from is.2)
     right_placed (tree.update head its kind to into from) is =
         updated_placed piece fact head is.0 (slot_of setting variables into) (access_in (access_of setting into)) _
         (numbers_changing piece fact head is.0 (op.Binary (binary.Arithmetic its) kind) (op.Conv to)) _ _ (left_placed into is.1) (right_placed from is.2)

@@ -7,6 +7,7 @@
 --     in_range                                 then operations that jump inside the code are in range
 use Rattle.std.proofs.Common.{◌≡◌, ◌<◌, ℕ, suc, Bool, true, false, not, ◌&&◌, ◌||◌, List, [], ◌∷◌, ◌++◌, length, slice_get, Option, Some, None, IsTrue, is_some, refl, sym, ap, ◌∙◌, arith}
 use Rattle.std.specs.List.{AllByRecursion}
+use Rattle.hs_base.specs.Entries.{all_appended}
 use Rattle.hs_code.specs.Codes.{scope_of, is_object, is_slot_in, IsInRange}
 use Rattle.hs_code.specs.Stacks.{variable_in}
 use Rattle.hs_code.specs.declared.function_code.FunctionCode.{FunctionCode}
@@ -187,10 +188,6 @@ slot_false false its is = refl
 
 -- ---- lists
 
-pub all_both : (P : Placed → Type 0) (first second : List Placed) → AllByRecursion P first → AllByRecursion P second → AllByRecursion P (first ++ second)
-all_both P [] second is also = also
-all_both P (one ∷ first) second is also = (is.0, all_both P first second is.1 also)
-
 module _ (program : TypedProgram) (classes : List Class) (function : TypedFunction) where
   -- what a run needs of the program
   abbrev setting : Setting
@@ -209,7 +206,7 @@ module _ (program : TypedProgram) (classes : List Class) (function : TypedFuncti
     pub at : (start depth : ℕ) → AllThere (its start depth)
 
   pub both_there : (first second : List Placed) → AllThere first → AllThere second → AllThere (first ++ second)
-  both_there first second is also = all_both (λ one. There one.op) first second is also
+  both_there first second is also = all_appended (λ one. There one.op) first second is also
 
   pub operand_named : {first second : Lowered} → Named first → Named second → Named (operand first second)
   operand_named {first = first} {second = second} is also =
@@ -223,7 +220,8 @@ module _ (program : TypedProgram) (classes : List Class) (function : TypedFuncti
   sequence_named {first = first} {second = second} is also =
       record {
         at = λ start depth.
-            both_there (first start depth) (second (after start (first start depth)) depth) (is.at start depth) (also.at (after start (first start depth)) depth);
+            both_there (first start depth) (second (after start (first start depth)) depth) (is.at start depth)
+            (also.at (after start (first start depth)) depth);
       }
 
   nothing_named : Named (λ start depth. [])
@@ -344,7 +342,8 @@ module _ (program : TypedProgram) (classes : List Class) (function : TypedFuncti
   there_as (name.Global place) is = is
   there_as (name.Local place) is = is
 
-  taken_as : (its : Variable) → IsTrue (is_taken_variable (declared program function its)) → IsTrue (is_taken_variable (declared_in names function.variables its))
+  taken_as : (its : Variable) → IsTrue (is_taken_variable (declared program function its))
+      → IsTrue (is_taken_variable (declared_in names function.variables its))
   taken_as (name.Global place) is = is
   taken_as (name.Local place) is = is
 
@@ -380,7 +379,8 @@ module _ (program : TypedProgram) (classes : List Class) (function : TypedFuncti
   slot_there : (e : LeftValue) → Reaches program classes function e
       → SlotThere program classes function (slot_of names function.variables e) (access_in (access_of names e))
   slot_there (tree.variable head its) there =
-      slot_by_there (is_slot_declared program.types (declared_in names function.variables its)) its (access_in (access_of names (tree.variable head its))) refl there
+      slot_by_there (is_slot_declared program.types (declared_in names function.variables its)) its
+      (access_in (access_of names (tree.variable head its))) refl there
   slot_there (tree.literal head place) there = there refl
   slot_there (tree.target head pointer) there = there refl
   slot_there (tree.element head size pointer_first a b) there = there refl
@@ -388,7 +388,8 @@ module _ (program : TypedProgram) (classes : List Class) (function : TypedFuncti
   slot_there (tree.arrow head field bytes e) there = there refl
 
   bound_named : (head : Head) (number : ℕ) (routine : Option ℕ) (arguments : RightValues)
-      → InRange program function (right (tree.call head number routine arguments)) → Named program classes function (bound_code names function.variables piece head routine)
+      → InRange program function (right (tree.call head number routine arguments))
+      → Named program classes function (bound_code names function.variables piece head routine)
   bound_named head number None arguments is = nothing_named program classes function
   bound_named head number (Some place) arguments is =
       decided_named program classes function piece head (takes_decision (slice_get program.routines place)) place is.1

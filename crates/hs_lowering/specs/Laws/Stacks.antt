@@ -225,7 +225,8 @@ module _ (scope : Scope) (code : FunctionCode) (piece : ℕ) (head : Head) where
       → Leaves scope code (updated_code piece head slot access changes address from) (Is kind) kinds
   updated_leaves (Some its) access changes address from kinds kind changing fits same leaves also =
       one_leaves scope code piece head (op.Set its) (changes (only piece head (op.Get its)) from) kinds kind kind (λ cases at next follows. follows)
-      (set_operands its kind kinds fits) (changing.go (only piece head (op.Get its)) from kinds kinds refl (get_leaves its kind kinds fits) (also (kind ∷ kinds)))
+      (set_operands its kind kinds fits)
+      (changing.go (only piece head (op.Get its)) from kinds kinds refl (get_leaves its kind kinds fits) (also (kind ∷ kinds)))
   updated_leaves None access changes address from kinds kind changing fits same leaves also =
       two_leaves scope code piece head (op.Store access) address (changes (fetched piece head access) from) kinds stacks.pointer kind kind
       (λ cases at next follows. follows) (store_operands access kind kinds same) leaves
@@ -266,7 +267,8 @@ module _ (scope : Scope) (code : FunctionCode) (piece : ℕ) (head : Head) where
       stored : Goes scope code (on_one piece head (op.Store access) fresh) (Is kind) (kind ∷ stacks.pointer ∷ kinds) (λ a. a ∷ kind ∷ kinds)
       stored =
           operand_goes scope code fresh (only piece head (op.Store access)) (λ a. refl) made
-          (λ a so. subst (λ a. Goes scope code (only piece head (op.Store access)) (Is kind) (a ∷ stacks.pointer ∷ kind ∷ kinds) (λ left. left ∷ kind ∷ kinds)) (sym so)
+          (λ a so. subst (λ a. Goes scope code (only piece head (op.Store access)) (Is kind) (a ∷ stacks.pointer ∷ kind ∷ kinds) (λ left. left ∷ kind ∷ kinds))
+          (sym so)
           (only_goes scope code piece head (op.Store access) (kind ∷ stacks.pointer ∷ kind ∷ kinds) (λ left. left ∷ kind ∷ kinds) kind refl
           (λ cases at next follows. follows) (store_operands access kind (kind ∷ kinds) same)))
 
@@ -462,7 +464,8 @@ module _ (program : TypedProgram) (function : TypedFunction) (code : FunctionCod
 
   -- a call, after its arguments, of what has that signature
   ended_call : (head : Head) (before : Lowered) (its : Op) (signature : Signature) (kinds : List Kind) → IsPlain its
-      → ((kinds : List Kind) → kinds_after scope its kinds ≡ after_call program.types (Some signature) kinds) → AreOne program.same program.types head.type_id signature.result
+      → ((kinds : List Kind) → kinds_after scope its kinds ≡ after_call program.types (Some signature) kinds)
+      → AreOne program.same program.types head.type_id signature.result
       → ((kinds : List Kind) → Goes scope code before (λ (a : Unit {0}). Unit {0}) kinds (λ a. kinds))
       → Goes scope code (sequence before (only piece head its)) (IsOf program.types head.type_id)
       (pushed (map (kind_of program.types) signature.parameters) kinds) (λ kind. kind ∷ kinds)
@@ -500,7 +503,8 @@ module _ (program : TypedProgram) (function : TypedFunction) (code : FunctionCod
       where
         by : (prototype : Option Prototype) → its.prototype ≡ prototype → FitsPrototype program.same program.types prototype arguments head.type_id
             → LeavesOf (all_code setting function.variables piece arguments
-            (sequence (decided_if piece (takes_decision (slice_get setting.routines place)) head place) (only piece head (op.Routine place)))) head.type_id kinds
+            (sequence (decided_if piece (takes_decision (slice_get setting.routines place)) head place) (only piece head (op.Routine place)))) head.type_id
+            kinds
         by None same fits' = absurd fits'
         by (Some prototype) same fits' =
             all_leave prototype.parameters fits'.0
@@ -531,7 +535,8 @@ module _ (program : TypedProgram) (function : TypedFunction) (code : FunctionCod
     right_leaves (tree.load head e) is kinds =
         of_kind (right_code setting function.variables piece (tree.load head e)) (kind_of program.types (type_of_left e)) head.type_id kinds
         (ap (kind_of program.types) (sym is.0.result))
-        (read_leaves scope code piece head (slot_of setting function.variables e) (access_in (access_of setting e)) (address_code setting function.variables piece e)
+        (read_leaves scope code piece head (slot_of setting function.variables e) (access_in (access_of setting e))
+        (address_code setting function.variables piece e)
         kinds (kind_of program.types (type_of_left e)) (slot_of_kind e (kind_of program.types (type_of_left e)) refl is.1)
         (access_kind setting e is.0.operands).0 (left_leaves e is.1 kinds))
     right_leaves (tree.decay head e) is kinds =
@@ -593,7 +598,8 @@ module _ (program : TypedProgram) (function : TypedFunction) (code : FunctionCod
     right_leaves (tree.is_nil head false e) is kinds =
         of_integer (right_code setting function.variables piece (tree.is_nil head false e)) integer.Int head.type_id kinds is.0.result
         (one_leaves scope code piece head (op.Unary unary.Not) (on_one piece head op.IsNil (right_code setting function.variables piece e)) kinds stacks.number
-        stacks.number (λ cases at next follows. follows) refl (nil_leaves head (right_code setting function.variables piece e) (type_of e) kinds is.0.operands (right_leaves e is.1 kinds)))
+        stacks.number (λ cases at next follows. follows) refl
+        (nil_leaves head (right_code setting function.variables piece e) (type_of e) kinds is.0.operands (right_leaves e is.1 kinds)))
     right_leaves (tree.step head stride pointer_first a b) is kinds =
         of_pointer (right_code setting function.variables piece (tree.step head stride pointer_first a b)) head.type_id kinds
         (subst (λ id. IsPointer program.types id) (sym is.0.result) (stepping_pointer pointer_first stride.size (type_of a) (type_of b) is.0.operands.0))
@@ -644,7 +650,8 @@ module _ (program : TypedProgram) (function : TypedFunction) (code : FunctionCod
         (updated_leaves scope code piece head (slot_of setting function.variables into) (access_in (access_of setting into))
         (numbers_changed piece head (op.Binary (binary.Arithmetic its) kind) (op.Conv to)) (address_code setting function.variables piece into)
         (right_code setting function.variables piece from) kinds stacks.number (numbers_changing scope code piece head its kind to)
-        (slot_of_kind into stacks.number (number_kinds program.types (type_of_left into) (any_number program.types to (type_of_left into) is.0.operands.0)).0 is.1)
+        (slot_of_kind into stacks.number
+        (number_kinds program.types (type_of_left into) (any_number program.types to (type_of_left into) is.0.operands.0)).0 is.1)
         (number_access into (any_number program.types to (type_of_left into) is.0.operands.0)) (left_leaves into is.1 kinds)
         (λ kinds. as_number (right_code setting function.variables piece from) (type_of from) kinds
         (second_number program.types its kind (type_of from) is.0.operands.1) (right_leaves from is.2 kinds)))
@@ -654,7 +661,8 @@ module _ (program : TypedProgram) (function : TypedFunction) (code : FunctionCod
         (updated_leaves scope code piece head (slot_of setting function.variables into) (access_in (access_of setting into))
         (on_two piece head (op.Step stride true)) (address_code setting function.variables piece into)
         (right_code setting function.variables piece from) kinds stacks.pointer (pointers_changing scope code piece head stride)
-        (slot_of_kind into stacks.pointer (pointer_kinds program.types (type_of_left into) (sized_pointer program.types stride.size (type_of_left into) is.0.operands.0)).0 is.1)
+        (slot_of_kind into stacks.pointer
+        (pointer_kinds program.types (type_of_left into) (sized_pointer program.types stride.size (type_of_left into) is.0.operands.0)).0 is.1)
         (pointer_access into (sized_pointer program.types stride.size (type_of_left into) is.0.operands.0)) (left_leaves into is.1 kinds)
         (λ kinds. as_number (right_code setting function.variables piece from) (type_of from) kinds is.0.operands.1 (right_leaves from is.2 kinds)))
     right_leaves (tree.post_update head its kind to into) is kinds =
@@ -663,7 +671,8 @@ module _ (program : TypedProgram) (function : TypedFunction) (code : FunctionCod
         (stepped_leaves scope code piece head (slot_of setting function.variables into) (access_in (access_of setting into))
         (numbers_changed piece head (op.Binary (binary.Arithmetic its) kind) (op.Conv to)) (address_code setting function.variables piece into)
         kinds stacks.number (numbers_changing scope code piece head its kind to)
-        (slot_of_kind into stacks.number (number_kinds program.types (type_of_left into) (any_number program.types to (type_of_left into) is.0.operands)).0 is.1)
+        (slot_of_kind into stacks.number
+        (number_kinds program.types (type_of_left into) (any_number program.types to (type_of_left into) is.0.operands)).0 is.1)
         (number_access into (any_number program.types to (type_of_left into) is.0.operands)) (left_leaves into is.1 kinds))
     right_leaves (tree.post_advance head stride into) is kinds =
         of_pointer (right_code setting function.variables piece (tree.post_advance head stride into)) head.type_id kinds
@@ -671,13 +680,16 @@ module _ (program : TypedProgram) (function : TypedFunction) (code : FunctionCod
         (stepped_leaves scope code piece head (slot_of setting function.variables into) (access_in (access_of setting into))
         (on_two piece head (op.Step stride true)) (address_code setting function.variables piece into)
         kinds stacks.pointer (pointers_changing scope code piece head stride)
-        (slot_of_kind into stacks.pointer (pointer_kinds program.types (type_of_left into) (sized_pointer program.types stride.size (type_of_left into) is.0.operands)).0 is.1)
+        (slot_of_kind into stacks.pointer
+        (pointer_kinds program.types (type_of_left into) (sized_pointer program.types stride.size (type_of_left into) is.0.operands)).0 is.1)
         (pointer_access into (sized_pointer program.types stride.size (type_of_left into) is.0.operands)) (left_leaves into is.1 kinds))
     right_leaves (tree.call head place routine arguments) is kinds =
-        call_leaves head arguments kinds (λ parameters fits last goes. all_leave arguments is.1 parameters fits is.0.operands last head.type_id kinds kinds goes)
+        call_leaves head arguments kinds
+        (λ parameters fits last goes. all_leave arguments is.1 parameters fits is.0.operands last head.type_id kinds kinds goes)
         place routine (slice_get program.functions place) refl is.0.called
     right_leaves (tree.call_routine head place arguments) is kinds =
-        routine_leaves head arguments kinds (λ parameters fits last goes. all_leave arguments is.1 parameters fits is.0.operands last head.type_id kinds kinds goes)
+        routine_leaves head arguments kinds
+        (λ parameters fits last goes. all_leave arguments is.1 parameters fits is.0.operands last head.type_id kinds kinds goes)
         place (slice_get program.routines place) refl is.0.routine
 
     -- of an address

@@ -155,7 +155,8 @@ module _ (function : TypedFunction) (program : CodeProgram) (bound : ℕ) (code 
           set_turns program function.variables bound code waiting choices piece (as_head at) variable is value step [] [] turns
 
       -- the address
-      place_turns : (stack : List Value) → Turning' piece (only piece (as_head at) (op.Address (Rattle.hs_code.specs.declared.op.Object.TheVariants.Variable variable)))
+      place_turns : (stack : List Value)
+          → Turning' piece (only piece (as_head at) (op.Address (Rattle.hs_code.specs.declared.op.Object.TheVariants.Variable variable)))
           Any (variable_address at.pos variable) stack (λ v. v ∷ stack)
       place_turns stack = address_turns program function.variables bound code waiting choices piece again calls (as_left at variable) tt stack
 

@@ -281,7 +281,8 @@ module _ (function : TypedFunction) (program : CodeProgram) (bound : ℕ) (code 
         by : (b : Bool) → (b || has_label is rest) ≡ false
             → (has_label is rest ≡ false → executed_all program.setting again function (from_label is) rest s ≡ give onward s)
             → either b (executed program.setting again function it
-            >>= meaning.after (executed_all program.setting again function from_start rest)) (executed_all program.setting again function (from_label is) rest) s
+            >>= meaning.after (executed_all program.setting again function from_start rest))
+            (executed_all program.setting again function (from_label is) rest) s
             ≡ give onward s
         by true so others = absurd cc
         by false so others = others so

@@ -6,16 +6,17 @@
 use Rattle.std.proofs.Common.{◌≡◌, ◌≤◌, ◌<◌, ℕ, suc, Bool, true, false, List, [], ◌∷◌, ◌++◌, slice_get, Option, Some, None, refl, sym, ◌∙◌, subst, arith}
 use Rattle.std.specs.List.{AllByRecursion}
 use Rattle.hs_base.specs.declared.pos.Pos.{Pos}
+use Rattle.hs_base.specs.Entries.{all_appended}
 use Rattle.hs_code.specs.declared.function_code.Placed.{Placed}
 use Rattle.hs_code.specs.declared.op.Op.{Op}
 use Rattle.hs_code.specs.declared.op.Op.TheVariants as op
-use Rattle.hs_lowering.specs.Laws.Jumps.{JumpsWithin, AllWithin, Within, after_from, operand_within, right_within}
+use Rattle.hs_lowering.specs.Laws.Jumps.{JumpsWithin, AllWithin, Within, after_from, operand_within, value_within}
 use Rattle.hs_lowering.specs.Laws.Lengths.{SameParts, same_statement, same_block, cases_of_statement, cases_of_a_block, cases_of_a_list}
 use Rattle.hs_lowering.specs.Laws.Placing.{past_length, length_next, length_given}
 use Rattle.hs_lowering.specs.Lowering.{Lowered, after, right_code}
 use Rattle.hs_lowering.specs.Performing.{after_append}
 use Rattle.hs_lowering.specs.Statements as code
-use Rattle.hs_lowering.specs.Statements.{Written, Part, ◌then◌, nothing, Counts, Targets, nowhere, one_piece, piece_for, pieces_for, after_statement, after_block, after_list, cases_for, case_for, cases_of_list, cases_of_block, only_at, alone, given, labels_code, labels_at, cases_in, default_in, value_code, behind, guarded, guarded_if, dropped_if, ForPieces, statement_code, block_code, list_code}
+use Rattle.hs_lowering.specs.Statements.{Written, Part, ◌then◌, nothing, Counts, Targets, nowhere, one_piece, piece_for, pieces_for, after_statement, after_block, after_list, cases_for, cases_of_list, cases_of_block, only_at, alone, given, labels_code, labels_at, cases_in, default_in, value_code, behind, guarded, guarded_if, dropped_if, ForPieces, statement_code, block_code, list_code}
 use Rattle.hs_meaning.specs.Settings.{Setting}
 use Rattle.hs_tree.specs.Trees as tree
 use Rattle.hs_tree.specs.Trees.{RightValue, TypedItem, TypedDeclaration, TypedStatement, TypedBlock, TypedStatements, TypedFunction, Starting}
@@ -59,10 +60,6 @@ module _ (last cases : ℕ) where
 
   -- ---- lists
 
-  pub all_join : {A : Type 0} → (P : A → Type 0) (first second : List A) → AllByRecursion P first → AllByRecursion P second → AllByRecursion P (first ++ second)
-  all_join P [] second is also = also
-  all_join P (one ∷ first) second is also = (is.0, all_join P first second is.1 also)
-
   front_less : (start : ℕ) (first second : List Placed) → after start (first ++ second) < last → after start first < last
   front_less start first second less = omega (arith, less, after_append start first second, after_from (after start first) second)
 
@@ -93,16 +90,17 @@ module _ (last cases : ℕ) where
       joined_go : AllGo (f start) → AllGo (g (after start (f start).ops)) → AllGo ((f then g) start)
       joined_go a b =
           record {
-            ops = all_join (λ one. GoesIn one.op) (f start).ops (g (after start (f start).ops)).ops a.ops b.ops;
-            targets = all_join (λ it. it.target < last) (f start).cases (g (after start (f start).ops)).cases a.targets b.targets;
-            labels = all_join (λ (it : Label × ℕ). it.1 < last) (f start).labels (g (after start (f start).ops)).labels a.labels b.labels;
+            ops = all_appended (λ one. GoesIn one.op) (f start).ops (g (after start (f start).ops)).ops a.ops b.ops;
+            targets = all_appended (λ it. it.target < last) (f start).cases (g (after start (f start).ops)).cases a.targets b.targets;
+            labels = all_appended (λ (it : Label × ℕ). it.1 < last) (f start).labels (g (after start (f start).ops)).labels a.labels b.labels;
           }
 
   nothing_goes : (start : ℕ) → GoPart nothing start
   nothing_goes start = record { go = λ less. record { ops = tt; targets = tt; labels = tt } }
 
   -- operations that are no labels and no switch, where they do not go away
-  listed : (its : Part) (start : ℕ) → (after start (its start).ops < last → AllIn (its start).ops) → (its start).cases ≡ [] → (its start).labels ≡ [] → GoPart its start
+  listed : (its : Part) (start : ℕ) → (after start (its start).ops < last → AllIn (its start).ops) → (its start).cases ≡ [] → (its start).labels ≡ []
+      → GoPart its start
   listed its start is no_cases no_labels =
       record {
         go = λ less.
@@ -124,7 +122,7 @@ module _ (last cases : ℕ) where
           go = λ less.
               record {
                 ops =
-                    all_join (λ one. GoesIn one.op) (value start 0) _
+                    all_appended (λ one. GoesIn one.op) (value start 0) _
                     (all_within start (after start (value start 0)) (value start 0) (within.at start 0) (front_less start (value start 0) _ less)) (is, tt);
                 targets = tt;
                 labels = tt;
@@ -194,9 +192,6 @@ module _ (last cases : ℕ) (setting : Setting) (function : TypedFunction) where
   list_more its counts =
       omega (arith, cases_of_a_list setting function its counts nowhere 0, past_length counts.cases (list_code setting function its counts nowhere 0).cases)
 
-  value_within : (piece : ℕ) (e : RightValue) → Within (value_code setting function piece e)
-  value_within piece e = right_within setting function.variables piece e
-
   -- ---- first values
 
   module _ (piece : ℕ) (at : Pos) where
@@ -253,7 +248,8 @@ module _ (last cases : ℕ) (setting : Setting) (function : TypedFunction) where
     start_goes b variable id (tree.value e) start =
         given_goes last cases piece at
         (code.value_started setting function piece at b (is_struct_row (row_of setting.types id)) variable id (right_code setting function.variables piece e))
-        op.Drop start (started_within b (is_struct_row (row_of setting.types id)) variable id (right_code setting function.variables piece e) (value_within piece e)) tt
+        op.Drop start (started_within b (is_struct_row (row_of setting.types id)) variable id (right_code setting function.variables piece e)
+        (value_within setting function piece e)) tt
     start_goes b variable id (tree.parts its) start = scalars_go b variable its (scalars_of setting.types id) start
 
     pub missing_within : (is_pointer is_struct : Bool) → Within (code.missing_code setting function piece at is_pointer is_struct)
@@ -268,14 +264,16 @@ module _ (last cases : ℕ) (setting : Setting) (function : TypedFunction) where
 
     returned_goes : (e : Option RightValue) (start : ℕ) → Goes (code.returned_code setting function piece at e) start
     returned_goes None start = return_goes start
-    returned_goes (Some e) start = given_goes last cases piece at (value_code setting function piece e) op.Return start (value_within piece e) tt
+    returned_goes (Some e) start =
+        given_goes last cases piece at (value_code setting function piece e) op.Return start (value_within setting function piece e) tt
 
     dropped_goes : (e : Option RightValue) (start : ℕ) → Goes (dropped_if setting function piece at e) start
     dropped_goes None start = nothing_goes last cases start
-    dropped_goes (Some e) start = given_goes last cases piece at (value_code setting function piece e) op.Drop start (value_within piece e) tt
+    dropped_goes (Some e) start = given_goes last cases piece at (value_code setting function piece e) op.Drop start (value_within setting function piece e) tt
 
     guarded_goes : (e : RightValue) (target start : ℕ) → target < last → Goes (guarded setting function piece at e target) start
-    guarded_goes e target start less = given_goes last cases piece at (value_code setting function piece e) (op.Zero target) start (value_within piece e) less
+    guarded_goes e target start less =
+        given_goes last cases piece at (value_code setting function piece e) (op.Zero target) start (value_within setting function piece e) less
 
     guarded_if_goes : (e : Option RightValue) (target start : ℕ) → target < last → Goes (guarded_if setting function piece at e target) start
     guarded_if_goes None target start less = nothing_goes last cases start
@@ -325,7 +323,8 @@ module _ (last cases : ℕ) (setting : Setting) (function : TypedFunction) where
   if_else_goes counts at e join first second start one other =
       record {
         go = λ less.
-            (then_goes last cases (guarded_goes counts.pieces at e (suc jump_at) start (omega (arith, less, ends, after_from (suc jump_at) (second (suc jump_at)).ops)))
+            (then_goes last cases
+            (guarded_goes counts.pieces at e (suc jump_at) start (omega (arith, less, ends, after_from (suc jump_at) (second (suc jump_at)).ops)))
             (then_goes last cases (one _) (then_goes last cases (alone_goes last cases join at (op.Jump end_) _ (omega (arith, less, ends)))
             (then_goes last cases (other _) (alone_goes last cases join at op.Mark _ tt))))).go less;
       }
@@ -355,8 +354,12 @@ module _ (last cases : ℕ) (setting : Setting) (function : TypedFunction) where
             (then_goes last cases (alone_goes last cases join at op.Mark start tt)
             (then_goes last cases (guarded_goes test at e (suc back) _ (omega (arith, less, ends)))
             (then_goes last cases (alone_goes last cases test at op.Turn _ tt)
-            (then_goes last cases (does targets _ (omega (arith, less, ends)) (omega (arith, less, after_from start (code.while_code setting function join test end_ at e body start).ops)))
-            (then_goes last cases (alone_goes last cases join at (op.Jump start) _ (omega (arith, less, after_from start (code.while_code setting function join test end_ at e body start).ops)))
+            (then_goes last cases
+            (does targets _ (omega (arith, less, ends))
+            (omega (arith, less, after_from start (code.while_code setting function join test end_ at e body start).ops)))
+            (then_goes last cases
+            (alone_goes last cases join at (op.Jump start) _
+            (omega (arith, less, after_from start (code.while_code setting function join test end_ at e body start).ops)))
             (alone_goes last cases end_ at op.Mark _ tt)))))).go less;
       }
     where
@@ -388,7 +391,9 @@ module _ (last cases : ℕ) (setting : Setting) (function : TypedFunction) where
             (then_goes last cases (does targets _ (omega (arith, less, ends))
             (omega (arith, less, ends, after_from test_at (value_code setting function test e test_at 0))))
             (then_goes last cases (guarded_goes test at e (suc back) _ (omega (arith, less, ends)))
-            (then_goes last cases (alone_goes last cases join at (op.Jump start) _ (omega (arith, less, after_from start (code.do_code setting function join test end_ at e body start).ops)))
+            (then_goes last cases
+            (alone_goes last cases join at (op.Jump start) _
+            (omega (arith, less, after_from start (code.do_code setting function join test end_ at e body start).ops)))
             (alone_goes last cases end_ at op.Mark _ tt)))))).go less;
       }
     where
@@ -427,7 +432,9 @@ module _ (last cases : ℕ) (setting : Setting) (function : TypedFunction) where
             (then_goes last cases (does targets _ (omega (arith, less, ends))
             (omega (arith, less, ends, after_from step_at (dropped_if setting function pieces.step at step step_at).ops)))
             (then_goes last cases (dropped_goes pieces.step at step _)
-            (then_goes last cases (alone_goes last cases pieces.join at (op.Jump start) _ (omega (arith, less, after_from start (code.for_code setting function pieces at test step body start).ops)))
+            (then_goes last cases
+            (alone_goes last cases pieces.join at (op.Jump start) _
+            (omega (arith, less, after_from start (code.for_code setting function pieces at test step body start).ops)))
             (alone_goes last cases pieces.end_ at op.Mark _ tt))))))).go less;
       }
     where
@@ -463,7 +470,9 @@ module _ (last cases : ℕ) (setting : Setting) (function : TypedFunction) where
   switch_goes test end_ at e first end_case body outer start fewer few continues same does =
       record {
         go = λ less.
-            by (omega (arith, less, ends)) (labels_go (omega (arith, less, ends)) (omega (arith, less, after_from start (code.switch_code setting function test end_ at e first end_case body outer start).ops))) less;
+            by (omega (arith, less, ends))
+            (labels_go (omega (arith, less, ends))
+            (omega (arith, less, after_from start (code.switch_code setting function test end_ at e first end_case body outer start).ops))) less;
       }
     where
       block_at : ℕ
@@ -496,14 +505,14 @@ module _ (last cases : ℕ) (setting : Setting) (function : TypedFunction) where
       by broken inside less =
           record {
             ops = inner.ops;
-            targets = all_join last cases (λ it. it.target < last) _ (cases_in labels) inner.targets (cases_less last cases labels inside);
+            targets = all_appended (λ it. it.target < last) _ (cases_in labels) inner.targets (cases_less last cases labels inside);
             labels = inner.labels;
           }
         where
           inner : AllGo last cases ((given test at (value_code setting function test e) choose then body targets then alone end_ at op.Mark) start)
           inner =
               (then_goes last cases
-              (given_goes last cases test at (value_code setting function test e) choose start (value_within test e)
+              (given_goes last cases test at (value_code setting function test e) choose start (value_within setting function test e)
               (default_less last cases labels break_at inside broken, fewer, few))
               (then_goes last cases (does targets _ broken continues) (alone_goes last cases end_ at op.Mark _ tt))).go less
 
@@ -521,7 +530,8 @@ module _ (last cases : ℕ) (setting : Setting) (function : TypedFunction) where
         → targets.breaks < last → targets.continues < last → Goes (statement_code setting function it counts targets) start
     statement_goes (tree.block it) counts targets start few breaks continues = block_goes it counts targets start few breaks continues
     statement_goes (tree.expression at e) counts targets start few breaks continues =
-        given_goes last cases counts.pieces at.pos (value_code setting function counts.pieces e) op.Drop start (value_within counts.pieces e) tt
+        given_goes last cases counts.pieces at.pos (value_code setting function counts.pieces e) op.Drop start
+        (value_within setting function counts.pieces e) tt
     statement_goes (tree.empty at) counts targets start few breaks continues = alone_goes last cases counts.pieces at.pos op.Mark start tt
     statement_goes (tree.if_ at test first) counts targets start few breaks continues =
         if_goes counts at.pos test _ _ start (λ next. statement_goes first (one_piece counts) targets next few breaks continues)

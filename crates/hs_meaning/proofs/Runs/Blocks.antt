@@ -1,5 +1,5 @@
 -- Blocks of a heap by their numbers: after one is put instead of another, and after one is added.
-use Rattle.std.proofs.Common.{◌≡◌, ℕ, zero, suc, ◌+◌, ◌-◌, ◌<◌, ◌≤◌, List, [], ◌∷◌, ◌++◌, length, ◌⊎◌, inl, inr, Option, Some, slice_get, slice_set, refl, sym, ap, ◌∙◌, subst, arith, add-one, suc-ne-zero}
+use Rattle.std.proofs.Common.{◌≡◌, ℕ, zero, suc, ◌+◌, ◌-◌, ◌<◌, ◌≤◌, List, [], ◌∷◌, ◌++◌, length, ◌⊎◌, inl, inr, Option, Some, slice_get, slice_set, refl, sym, ap, ◌∙◌, arith, suc-ne-zero}
 use Rattle.std.proofs.lemmas.Option.{none-some, same_Some, slice_get_within}
 use native.Mathlib.Numerals.{unary_clauses}
 use Rattle.hs_heap.specs.Blocks.{Block}
@@ -52,21 +52,6 @@ slice_set-plain (first ∷ blocks) (suc place) new plain is_new = (plain.0, slic
 -- the same of a heap
 pub put_block-plain : (heap : List Block) (place : ℕ) (new : Block) → Each IsPlain heap → IsPlain new → Each IsPlain (put_block heap place new)
 put_block-plain heap place new plain is_new = slice_set-plain heap (place - 1) new plain is_new
-
--- a block that is in a list is in a longer one
-pub slice_get-append : (heap added : List Block) (place : ℕ) (block : Block) → slice_get heap place ≡ Some block → slice_get (heap ++ added) place ≡ Some block
-slice_get-append [] added place block found = absurd (none-some block found)
-slice_get-append (first ∷ blocks) added zero block found = found
-slice_get-append (first ∷ blocks) added (suc place) block found = slice_get-append blocks added place block found
-
--- the last of a list
-slice_get-last : (heap : List Block) (block : Block) → slice_get (heap ++ block ∷ []) (length heap) ≡ Some block
-slice_get-last [] block = refl
-slice_get-last (first ∷ blocks) block = slice_get-last blocks block
-
--- the block that is added last has the next number
-pub block_at-last : (heap : List Block) (block : Block) → block_at (heap ++ block ∷ []) (length heap + 1) ≡ Some block
-block_at-last heap block = subst (λ (n : ℕ). block_at (heap ++ block ∷ []) n ≡ Some block) (sym (add-one (length heap))) (slice_get-last heap block)
 
 -- a block's number is at most the number of blocks
 pub block_at-within : (heap : List Block) (named : ℕ) (block : Block) → block_at heap named ≡ Some block → named ≤ length heap

@@ -3,6 +3,7 @@ use Rattle.std.proofs.Common.{◌≡◌, ℕ, zero, suc, ◌+◌, ◌<◌, ◌�
 use Rattle.std.proofs.lemmas.List.{append-nil}
 use Rattle.std.proofs.lemmas.Option.{none-some, same_Some}
 use Rattle.hs_base.specs.declared.pos.Pos.{Pos}
+use Rattle.hs_base.specs.Entries.{entry_stays}
 use Rattle.hs_tree.specs.declared.straight.tree.Kind.{Kind}
 use Rattle.hs_tree.specs.declared.straight.tree.Kind.TheVariants.{Handle, Pointer, Letter}
 use Rattle.hs_tree.specs.declared.straight.tree.Variable.{Variable}
@@ -14,13 +15,14 @@ use Rattle.hs_heap.specs.Blocks.{Block, new_block}
 use Rattle.hs_heap.specs.Memory.{block_at, put_block}
 use Rattle.hs_heap.specs.Shift.{shift}
 use Rattle.hs_heap.specs.declared.decision.Decision.{Decision}
+use Rattle.hs_heap.specs.BlockLaws.{block_at_last}
 use Rattle.hs_meaning.specs.Straight.Value.{Value, number, nil, handle, spot}
 use Rattle.hs_meaning.specs.Straight.Run.{State, lookup, assigned, next_decision, new_handle_powers, shifted_by, is_granted, allocated, later_decisions}
 use Rattle.hs_meaning.specs.Straight.StaleUses.{concerns, is_locked_after}
 use Rattle.hs_meaning.specs.declared.input.Input.{Input}
 use Rattle.hs_meaning.proofs.Runs.Still.{Each, IsPlain, IsShifted, shift_from-plain, length-shift_from, slice_get-shift_from, block_at-plain}
 use Rattle.hs_meaning.proofs.Runs.Alike.{IsStored, IsMaster, IsLockedThrough}
-use Rattle.hs_meaning.proofs.Runs.Blocks.{same_block, same_lock, IsFoundAfter, block_at-put, put_block-plain, slice_get-append, block_at-last, block_at-within, append-plain}
+use Rattle.hs_meaning.proofs.Runs.Blocks.{same_block, same_lock, IsFoundAfter, block_at-put, put_block-plain, block_at-within, append-plain}
 use Rattle.hs_meaning.proofs.Runs.Kept.{IsHandleOf, IsHandleValue, IsPointerValue, IsKept, IsBlockAfter, IsNext, one_kind, is_locked_after-other}
 
 -- a heap that does not change has each block as it was
@@ -303,7 +305,7 @@ shifted_block decision heap added plain (suc place) block found = go (slice_get-
         → IsCalledBlock block (slice_get (shift new_handle_powers decision heap ++ added) place)
     go (later, is_later, shifted_so) = record {
       later = later;
-      is_later = slice_get-append (shift new_handle_powers decision heap) added place later is_later;
+      is_later = entry_stays (shift new_handle_powers decision heap) added place later is_later;
       same_lock = shifted_so.same_lock;
       same_epoch = shifted_so.same_epoch;
     }
@@ -341,7 +343,7 @@ new_handle_next input variables done state assigned_to size declared kept = go (
         (later_decisions state.schedule) (state.allocations + 1) declared kept
         (append-plain heap (new_block size ∷ []) plain (record { is_present = refl; is_kept = refl }, tt))
         (shifted_block (next_decision state.schedule) state.heap (new_block size ∷ []) kept.is_plain)
-        (record { block = new_block size; is_block = block_at-last heap (new_block size); is_locked = λ locked. absurd (true≢false (sym locked)) })
+        (record { block = new_block size; is_block = block_at_last heap (new_block size); is_locked = λ locked. absurd (true≢false (sym locked)) })
         (λ named is_named. let same : length heap + 1 ≡ named = handle-handle (length heap + 1) named (ap Some is_named) in omega (arith, same_length))
     go false =
         new_handle_kept variables done state assigned_to size nil heap (later_decisions state.schedule) (state.allocations + 1) declared kept plain

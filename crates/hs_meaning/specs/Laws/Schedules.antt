@@ -154,7 +154,8 @@ still_decides powers =
 pub still_schedules_are_one : (program : TypedProgram) (input : Input) (schedule : List Decision) (turns : ℕ) → AreStill schedule
     → run program input schedule turns ≡ still_run program input turns
 still_schedules_are_one program input schedule turns are =
-    one_ending BothStill program (λ place. decides_by (Unscheduled BothStill) still_decides (slice_get program.routines place)) input schedule [] turns (are, tt)
+    one_ending BothStill program (λ place. decides_by (Unscheduled BothStill) still_decides (slice_get program.routines place)) input schedule [] turns
+    (are, tt)
 
 -- ---- programs without movers
 

@@ -65,28 +65,28 @@ same_row (row.Function a list) (row.Function b list') same =
 same_row _ _ same = absurd (true≢false (sym same))
 
 -- the first entry of a list either is the one that is looked for, or comes before it
-first-if : {A : Type 0} → (here there : Bool) (x : A) (xs : List A) (y : A) (place : ℕ) → (here ≡ true → x ≡ y)
+first_if : {A : Type 0} → (here there : Bool) (x : A) (xs : List A) (y : A) (place : ℕ) → (here ≡ true → x ≡ y)
     → (here ≡ false → slice_get (if there then xs else xs ++ y ∷ []) place ≡ Some y)
     → slice_get (if there then x ∷ xs else x ∷ xs ++ y ∷ []) (cond (not here) (1 + place) 0) ≡ Some y
-first-if true true x xs y place is later = ap Some (is refl)
-first-if true false x xs y place is later = ap Some (is refl)
-first-if false true x xs y place is later =
+first_if true true x xs y place is later = ap Some (is refl)
+first_if true false x xs y place is later = ap Some (is refl)
+first_if false true x xs y place is later =
     let next : 1 + place ≡ suc place = omega arith in
     ap (slice_get (x ∷ xs)) next ∙ later refl
-first-if false false x xs y place is later =
+first_if false false x xs y place is later =
     let next : 1 + place ≡ suc place = omega arith in
     ap (slice_get (x ∷ xs ++ y ∷ [])) next ∙ later refl
 
 -- If a test is met by one value alone, it is met first by that value, once the value is put at the end of a list that lacks it.
-found-if : {A : Type 0} → (there : Bool) (test : A → Bool) (xs : List A) (y : A) → ((x : A) → test x ≡ true → x ≡ y)
+pub found_if : {A : Type 0} → (there : Bool) (test : A → Bool) (xs : List A) (y : A) → ((x : A) → test x ≡ true → x ≡ y)
     → list_any test xs ≡ there → slice_get (if there then xs else xs ++ y ∷ []) (position_or_len test xs) ≡ Some y
-found-if true test [] y only is = absurd cc
-found-if false test [] y only is = refl
-found-if there test (x ∷ xs) y only is =
-    first-if (test x) there x xs y (position_or_len test xs) (only x)
-    (λ other. found-if there test xs y only (sym (ap (λ here. here || list_any test xs) other) ∙ is))
+found_if true test [] y only is = absurd cc
+found_if false test [] y only is = refl
+found_if there test (x ∷ xs) y only is =
+    first_if (test x) there x xs y (position_or_len test xs) (only x)
+    (λ other. found_if there test xs y only (sym (ap (λ here. here || list_any test xs) other) ∙ is))
 
 -- The row that was put in has the number that is given for it.
 pub row_found : (row : Row) (types : TypeTable) → row_of (with_row row types) (id_of row types) ≡ Some row
 row_found row types =
-    found-if (list_any ((row_eq.ghosts).eq row) types.rows) ((row_eq.ghosts).eq row) types.rows row (same_row row) refl
+    found_if (list_any ((row_eq.ghosts).eq row) types.rows) ((row_eq.ghosts).eq row) types.rows row (same_row row) refl

@@ -4,6 +4,7 @@
 --     unary_kept, arithmetic_kept, ..  one lemma for each operator
 use Rattle.std.proofs.Common.{◌≡◌, ℕ, ◌==◌, Bool, true, false, ◌&&◌, List, [], ◌∷◌, Option, Some, None, Result, Ok, refl, if◌then◌else◌}
 use Rattle.std.specs.List.{AllByRecursion}
+use Rattle.hs_base.specs.Tests.{whichever}
 use Rattle.hs_operands.specs.Answers.{◌>>=◌}
 use Rattle.hs_operands.specs.Assignments.{assigned_pointer, assigned_number, assigned, assign_of, update_with, direction, advance_by, update_by, update_of, one, post_advance_by, post_update_by, post_update_of, cast_of, as_pointer, pointers_chosen, pointer_branches, other_branches, branches_by, conditional_of, comma_of}
 use Rattle.hs_operands.specs.Constants.{is_null_constant}
@@ -25,7 +26,7 @@ use Rattle.hs_tree.specs.Inside.{Node, right, left, EachRight, EachLeft, EachOf}
 use Rattle.hs_tree.specs.Kinds.{element, number_kind, is_number, is_pointer, is_scalar, is_readable, is_void, pointed, size_at}
 use Rattle.hs_tree.specs.RowLaws.{rights_from}
 use Rattle.hs_tree.specs.Trees as tree
-use Rattle.hs_tree.specs.Trees.{RightValue, LeftValue, TypedFunction, TypedProgram, type_of, type_of_left, head_of_left}
+use Rattle.hs_tree.specs.Trees.{RightValue, LeftValue, type_of, type_of_left, head_of_left}
 use Rattle.hs_tree.specs.declared.operators.Arithmetic.{Arithmetic}
 use Rattle.hs_tree.specs.declared.operators.Arithmetic.TheVariants as arithmetic
 use Rattle.hs_tree.specs.declared.operators.Comparison.{Comparison}
@@ -47,12 +48,6 @@ IsPlain (right (tree.address head object)) = ⊥
 IsPlain (right (tree.call head number routine arguments)) = ⊥
 IsPlain (right (tree.call_routine head routine arguments)) = ⊥
 IsPlain _ = Unit {0}
-
--- both ways of a test
-whichever : {A : Type 0} → (holds : A → Type 0) (test : Bool) {here there : A} → holds here → holds there
-    → holds (if test then here else there)
-whichever holds true is is' = is
-whichever holds false is is' = is'
 
 -- an operand that is a number, and two
 number_makes : (holds : RightValue → Type 0) (at : Place) (o : Option Integer) (make : Integer → RightValue)

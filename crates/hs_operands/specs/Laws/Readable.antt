@@ -1,5 +1,6 @@
 -- The values of a type to which something is assigned can be read (X3.159-1989 3.3.16.1): a number, a pointer, or a struct whose body has come.
-use Rattle.std.proofs.Common.{◌≡◌, Bool, true, false, ◌&&◌, ◌||◌, Option, Some, None, is_some, Result, Ok, refl, ap, if◌then◌else◌}
+use Rattle.std.proofs.Common.{◌≡◌, Bool, true, false, ◌&&◌, ◌||◌, Option, Some, None, is_some, Ok, refl, ap, if◌then◌else◌}
+use Rattle.hs_base.specs.Tests.{second_of_three, second_test}
 use Rattle.hs_operands.specs.Assignments.{assigned_pointer, assigned_number, assigned}
 use Rattle.hs_operands.specs.Conversions.{same_type}
 use Rattle.hs_operands.specs.Laws.Made.{Makes, either_way}
@@ -14,15 +15,6 @@ use Rattle.hs_types.specs.declared.row.TypeId.{TypeId}
 readable_number : (a b c : Bool) → a ≡ true → ((a || b) || c) ≡ true
 readable_number true b c is = refl
 readable_number false b c is = absurd cc
-
-readable_pointer : (a b c : Bool) → b ≡ true → ((a || b) || c) ≡ true
-readable_pointer true b c is = refl
-readable_pointer false b c is = rw is refl
-
--- the second of two
-second_met : (a b : Bool) → (a && b) ≡ true → b ≡ true
-second_met true b is = is
-second_met false b is = absurd cc
 
 -- to a number
 number_readable : (types : TypeTable) (at : Place) (id : TypeId) (e : RightValue) (given : Option Integer) (test : Bool) → number_kind types id ≡ given
@@ -39,9 +31,9 @@ assigned_readable types at id e =
     (if is_pointer types id
     then assigned_pointer types at id e
     else assigned_number at id (number_kind types id) (is_number types (type_of e)) e)
-    (λ same made given. second_met (same_type (type_of e) id) (is_readable types id) same)
+    (λ same made given. second_test (same_type (type_of e) id) (is_readable types id) same)
     (λ other. either_way (Makes (λ made. is_readable types id ≡ true)) (is_pointer types id) (assigned_pointer types at id e)
     (assigned_number at id (number_kind types id) (is_number types (type_of e)) e)
     (λ pointer made given.
-    readable_pointer (is_number types id) (is_pointer types id) (is_struct_row (row_of types id) && is_complete types id) pointer)
+    second_of_three (is_number types id) (is_pointer types id) (is_struct_row (row_of types id) && is_complete types id) pointer)
     (λ neither. number_readable types at id e (number_kind types id) (is_number types (type_of e)) refl))

@@ -57,7 +57,8 @@ with_unit-requires c =
     subst (λ n. IsUnderway c.args.edges.now c.args.distances.now c.args.end.vertex c.steps.vertex n c.args.flow.items c.steps.flow.items) same
     c.steps.invariant in
     let read = c.index.ensures ∙ get_or_default c.steps.flow.items arc.edge c.index.result.now (pos 0) inside in
-    let small = untouched-small c.args.edges.now c.args.distances.now c.args.end.vertex c.steps.vertex (c.steps.distance - 1) c.args.flow.items c.steps.flow.items arc
+    let small =
+    untouched-small c.args.edges.now c.args.distances.now c.args.end.vertex c.steps.vertex (c.steps.distance - 1) c.args.flow.items c.steps.flow.items arc
     c.requires.size under way c.in-Some.ensures.some.1.0 in
     record { small = rw (read, to_z-small (amount_at c.steps.flow.items arc.edge) (omega arith)) (omega arith) }
 
@@ -85,7 +86,8 @@ steps-preserved c =
     subst (λ n. IsUnderway c.args.edges.now c.args.distances.now c.args.end.vertex c.steps.vertex n c.args.flow.items c.steps.flow.items) same
     c.steps.invariant in
     let read = c.index.ensures ∙ get_or_default c.steps.flow.items arc.edge c.index.result.now (pos 0) inside in
-    let small = untouched-small c.args.edges.now c.args.distances.now c.args.end.vertex c.steps.vertex (c.steps.distance - 1) c.args.flow.items c.steps.flow.items arc
+    let small =
+    untouched-small c.args.edges.now c.args.distances.now c.args.end.vertex c.steps.vertex (c.steps.distance - 1) c.args.flow.items c.steps.flow.items arc
     c.requires.size under way c.in-Some.ensures.some.1.0 in
     rw (with_unit-read (amount_at c.steps.flow.items arc.edge) c.index.result.now c.with_unit.result (not arc.along) read small c.with_unit.ensures)
     (IsUnderway-step c.args.edges.now c.args.gates.now c.args.distances.now c.args.end.vertex c.steps.vertex (c.steps.distance - 1)

@@ -27,14 +27,16 @@ returns-in_err-left-clause-read g c =
     rw (exit.1, exit.2) (fails_along c.in_err-left.field-0.0 (enum_at c.args.known.now c.args.at c.args.tag c.args.rest.now)
     (mark_at (codes "}") c.in_ok-constants.close.now)
     (λ none.
-    enum_close_none c.args.known.now c.args.at c.args.tag c.args.rest.now c.in-Some.brace c.in-Some.behind.now its c.in_ok-constants.close.now c.in-Some.ensures.read c.in_ok-constants.ensures.read none)
+    enum_close_none c.args.known.now c.args.at c.args.tag c.args.rest.now c.in-Some.brace c.in-Some.behind.now its c.in_ok-constants.close.now
+    c.in-Some.ensures.read c.in_ok-constants.ensures.read none)
     c.in_err-left.ensures.read)
 
 -- all of it
 pub returns-clause-read : goal.returns-clause-read
 returns-clause-read g c =
     let its : List OneConstant × Bool = (map view_constant c.in_ok-constants.constants.items, c.in_ok-constants.comma) in
-    enum_whole c.args.known.now c.args.at c.args.tag c.args.rest.now c.in-Some.brace c.in-Some.behind.now its c.in_ok-constants.close.now c.in_ok-left.field-0-0 c.in_ok-left.left.now
+    enum_whole c.args.known.now c.args.at c.args.tag c.args.rest.now c.in-Some.brace c.in-Some.behind.now its c.in_ok-constants.close.now c.in_ok-left.field-0-0
+    c.in_ok-left.left.now
     c.in-Some.ensures.read c.in_ok-constants.ensures.read c.in_ok-left.ensures.read
     ∙ ap (λ its. Some (tree.enum_body c.args.at c.args.tag c.in-Some.brace its c.in_ok-constants.comma, c.in_ok-left.left.now))
     (sym (constants_seen c.in_ok-constants.constants))

@@ -1,9 +1,9 @@
 use Rattle.std.proofs.Common.{rules, ◌≡◌, ◌+◌, ◌||◌, ◌∷◌, map, drop, get_or, ap, sym, ◌∙◌}
 use Rattle.std.proofs.lemmas.List.{drop_more}
 use Rattle.std.specs.List.{list_any}
+use Rattle.hs_base.specs.Tests.{or_again}
 use Rattle.hs_linkage.specs.Definitions.{is_named}
 use Rattle.hs_linkage.specs.Indexes.{has_name}
-use Rattle.hs_linkage.proofs.Named.{or-again}
 use Rattle.hs_syntax.specs.Views.{view_declarator, view_item}
 use Rattle.hs_typer.specs.Declarators.{word_of}
 use Rattle.hs_linkage.proofs.statics.with_items.Goals as goal
@@ -19,6 +19,6 @@ its-preserved c name =
     drop_more its c.its.it-index item (search rules) ∙ ap (λ first. first ∷ drop (c.its.it-index + 1) its) here in
     ap (λ b. b || rest)
     (c.in_ok-all.ensures name ∙ ap (λ word. has_name name c.its.all || is_named name word) c.word_of.ensures)
-    ∙ sym (or-again (has_name name c.its.all) (is_named name (word_of (view_declarator item.declarator))) rest)
+    ∙ sym (or_again (has_name name c.its.all) (is_named name (word_of (view_declarator item.declarator))) rest)
     ∙ ap (λ its. has_name name c.its.all || list_any (λ item. is_named name (word_of item.declarator)) (map view_item its)) (sym next)
     ∙ c.its.invariant name

@@ -13,5 +13,6 @@ returns-clause-value c = λ program function code piece e start count kinds tabl
 pub returns-clause-address : goal.returns-clause-address
 returns-clause-address c = λ program function code piece e start count kinds table fits holds more.
     (left_leaves program function code piece table e fits kinds).go count start _ refl holds
-    (λ kind is. subst (λ kind. Stacked (scope_of program function) code count (after start (address_code (setting_of program) function.variables piece e start (length kinds)))
+    (λ kind is. subst (λ kind. Stacked (scope_of program function) code count
+    (after start (address_code (setting_of program) function.variables piece e start (length kinds)))
     (kind ∷ kinds)) (sym is) more)

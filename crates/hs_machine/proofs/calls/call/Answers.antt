@@ -19,7 +19,9 @@ returns-in-Ok-go_to-clause-steps c =
     record {
       there = given_is (slice_get program.functions c.args.place) c.in-Some.callee c.in-Some.ensures;
       turn = c.in_ok-take_turn.ensures ∙ ap suc (sym c.go_to.ensures.turns);
-      does = subst (λ (m : Machine). Does (opened program.setting its.parameters its.variables (taken its.parameters (reverse old.stack.top)) (machine_of old.machine))
+      does =
+          subst (λ (m : Machine). Does
+          (opened program.setting its.parameters its.variables (taken its.parameters (reverse old.stack.top)) (machine_of old.machine))
           (machine_of m) (Ok tt)) (sym c.go_to.ensures.machine) c.in-Ok.ensures.does;
       callers = ap (λ (m : Machine). m.locals.below) c.go_to.ensures.machine ∙ c.in-Ok.ensures.callers;
       next = c.in-Ok-go_to.ensures.next;

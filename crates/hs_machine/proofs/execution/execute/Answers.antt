@@ -34,7 +34,8 @@ returns-in-Err-Stopped-clause-run g c =
     (given_is (slice_get program.functions c.args.code.now.program.now.main) c.in-Some.main c.in-Some.ensures) in
     let stopped = subst (λ (e : Halt). Does (opened program.setting its.parameters its.variables [] (machine_of c.in_ok-machine.machine)) now (Err e))
     c.in-Err-Stopped.field-0-is c.in-Err-Stopped.ensures.does in
-    let does = subst (λ (m : Machine). Does (opened program.setting its.parameters its.variables [] m) now (Err (halt.Stopped why))) c.in_ok-machine.ensures.starts
+    let does =
+    subst (λ (m : Machine). Does (opened program.setting its.parameters its.variables [] m) now (Err (halt.Stopped why))) c.in_ok-machine.ensures.starts
     stopped in
     let outcome : c.shown.result.outcome ≡ Stopped why its.opening =
     c.shown.ensures.outcome
@@ -120,7 +121,8 @@ returns-in-Err-clause-gives_up g c =
     let last = main_comes program input turns its main first does start refl in
     let told = (goal.Mover-dyn g (c.args.mover.now.vtable, c.args.mover.now.value)).told c.args.mover.now.value in
     subst (λ (p : CodeProgram). GivesUp p input turns told c.in-Err.why) loaded
-    (cause_too program (reaches_from program first) (reaches_under program input turns) (comes_from program first) (comes_under program input turns) far last told
+    (cause_too program (reaches_from program first) (reaches_under program input turns) (comes_from program first)
+    (comes_under program input turns) far last told
     c.in-Err.why c.in-Err.ensures.runs)
 
 pub returns-in-Ok-run-clause-printable : goal.returns-in-Ok-run-clause-printable

@@ -7,7 +7,8 @@ use Rattle.hs_macros.proofs.arguments.arguments_ahead.Given as goal
 abbrev pub invariant-tokens : goal.invariant-tokens
 invariant-tokens l = record {
   same : (names : List (List ℕ))
-      → collected (map (λ argument. done names argument.items) l.given.items) (done names l.argument.items) (arguments_from l.depth (ahead names l.tokens.items))
+      → collected (map (λ argument. done names argument.items) l.given.items) (done names l.argument.items)
+      (arguments_from l.depth (ahead names l.tokens.items))
       ≡ collected [] [] (arguments_from 0 (ahead names l.initial.tokens.items));
   few : l.depth + length l.tokens.items ≤ length l.initial.tokens.items;
 }

@@ -92,7 +92,8 @@ returns-in_err-left-clause-step c names macros =
     let same : c.pop.new.self.items ≡ c.arguments.call.waiting.items =
     none ∙ sym (nil_from_length _ (omega (arith, c.arguments.call.waiting.ok.0, c.in_default.ensures.cases.0))) in
     rw (exit.1, exit.2) (inr (
-    ap (resumed names macros c.args.calls.now.items) (sym (same_waiting names macros (done names c.args.before.items) c.arguments.call c.pop.new.self c.args.left same
+    ap (resumed names macros c.args.calls.now.items)
+    (sym (same_waiting names macros (done names c.args.before.items) c.arguments.call c.pop.new.self c.args.left same
     ∙ c.arguments.invariant.same names macros))
     ∙ refuses names macros c.args.calls.now.items (done names c.args.before.items) last c.args.left _ none (c.in_err-left.ensures names)))
 
@@ -103,9 +104,12 @@ returns-clause-step c names macros =
     let none : c.pop.new.self.items ≡ [] = nil_from_length _ (omega (arith, c.pop.new.self.ok.0, c.in_default.ensures.cases.1)) in
     let same : c.pop.new.self.items ≡ c.arguments.call.waiting.items =
     none ∙ sym (nil_from_length _ (omega (arith, c.arguments.call.waiting.ok.0, c.in_default.ensures.cases.0))) in
-    places names macros c.arguments.calls.items c.args.before c.in_ok-place.field-0 last c.args.left c.in_ok-left.left none (c.in_ok-left.ensures names) (c.in_ok-place.ensures names)
-    ∙ ap (λ (calls : List Suspended). resumed names macros calls (call_outcome names macros (done names c.args.before.items) last c.args.left)) c.arguments.invariant.waits
-    ∙ ap (resumed names macros c.args.calls.now.items) (same_waiting names macros (done names c.args.before.items) c.arguments.call c.pop.new.self c.args.left same
+    places names macros c.arguments.calls.items c.args.before c.in_ok-place.field-0 last c.args.left c.in_ok-left.left none (c.in_ok-left.ensures names)
+    (c.in_ok-place.ensures names)
+    ∙ ap (λ (calls : List Suspended). resumed names macros calls (call_outcome names macros (done names c.args.before.items) last c.args.left))
+    c.arguments.invariant.waits
+    ∙ ap (resumed names macros c.args.calls.now.items)
+    (same_waiting names macros (done names c.args.before.items) c.arguments.call c.pop.new.self c.args.left same
     ∙ c.arguments.invariant.same names macros)
 
 -- with so much less that may be put in place

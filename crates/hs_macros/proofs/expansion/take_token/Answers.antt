@@ -12,7 +12,8 @@ returns-in_err-tokens-clause-step c =
     let names = names_in c.args.table.now.entries in
     let macros = definitions_in c.args.table.now.entries in
     let exit = err_from_is_err_and c.from_residual.result c.from_residual.ensures.1 in
-    rw (exit.1, exit.2) (whole_refused names macros c.args.calls.now.items (done names c.args.frame.before.items) c.args.token (ahead names c.args.frame.tokens.items)
+    rw (exit.1, exit.2) (whole_refused names macros c.args.calls.now.items (done names c.args.frame.before.items) c.args.token
+    (ahead names c.args.frame.tokens.items)
     c.args.frame.left _ c.in_err-tokens.ensures.found)
 
 -- the token stays
@@ -33,7 +34,8 @@ returns-clause-step c =
     let names = names_in c.args.table.now.entries in
     let macros = definitions_in c.args.table.now.entries in
     let found' = rw c.in-Invoked.is at c.in_ok-tokens.ensures.found in
-    step_of _ _ _ _ (whole_invoked names macros c.args.calls.now.items (done names c.args.frame.before.items) c.args.token (ahead names c.args.frame.tokens.items)
+    step_of _ _ _ _ (whole_invoked names macros c.args.calls.now.items (done names c.args.frame.before.items) c.args.token
+    (ahead names c.args.frame.tokens.items)
     c.args.frame.left c.in-Invoked.call found') (c.proceed.ensures.step names macros)
 
 -- and holds less than the frame

@@ -7,7 +7,8 @@ use Rattle.hs_macros.proofs.expansion.take_up.Goals as goal
 pub returns-clause-step : goal.returns-clause-step
 returns-clause-step c names macros =
     step_of _ _ _ _ (ends names macros c.args.calls.now.items (c.args.calls.now.items ++ c.args.suspended ∷ []) c.args.suspended.before c.args.frame.before
-    c.args.suspended.call c.push.new.self c.args.suspended.parameter c.args.frame.left c.args.suspended.placed c.args.suspended.marked refl c.in_ok-push.ensures.items
+    c.args.suspended.call c.push.new.self c.args.suspended.parameter c.args.frame.left c.args.suspended.placed c.args.suspended.marked refl
+    c.in_ok-push.ensures.items
     ∙ frame_done names macros (c.args.calls.now.items ++ c.args.suspended ∷ []) c.args.frame c.requires) (c.proceed.ensures.step names macros)
 
 -- and the invocation waits no more

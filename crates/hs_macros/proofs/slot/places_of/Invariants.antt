@@ -1,9 +1,9 @@
 use Rattle.std.proofs.Common.{◌≡◌, ℕ, List, length}
 use Rattle.std.specs.HashMap.{get_by}
 use Rattle.std.specs.Str.{bytes_eq}
+use Rattle.hs_base.specs.Options.{or_else}
 use Rattle.hs_macros.specs.Lines.{names_of}
 use Rattle.hs_macros.specs.Slots.{place_of}
-use Rattle.hs_macros.proofs.Slotted.{or_else}
 use Rattle.hs_macros.proofs.slot.places_of.Given as goal
 
 -- a name that is not among those that are left has its place already

@@ -9,5 +9,6 @@ use Rattle.hs_operations.proofs.dispatch.push_address.Goals as goal
 pub returns-in-Ok-clause-works : goal.returns-in-Ok-clause-works
 returns-in-Ok-clause-works c =
     let machine = machine_of c.args.machine.now in
-    above_put (reverse c.args.stack.now.top) (reverse c.push.new.stack.top) c.in-Ok.value (address_in (setting_here c.args.setting.now) c.args.its machine) machine
+    above_put (reverse c.args.stack.now.top) (reverse c.push.new.stack.top) c.in-Ok.value
+    (address_in (setting_here c.args.setting.now) c.args.its machine) machine
     c.push.result c.in-Ok.ensures (c.push.ensures.top machine)

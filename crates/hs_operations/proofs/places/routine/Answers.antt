@@ -31,7 +31,8 @@ returns-then-values-count-clause-works c =
     let machine = machine_of c.args.machine.now in
     let counted : Some c.in-Some.count ≡ routine_arguments (slice_get setting.routines c.args.place) = c.in-Some.ensures in
     let few : length values < c.in-Some.count = rw (← c.items-values.ensures) c.if-values-count.true in
-    subst (λ (n : Option ℕ). Works (operated setting (routine_of c.args.place n) (reverse values) machine) (reverse values) machine (Err (Stopped BadPointer))) counted
+    subst (λ (n : Option ℕ). Works (operated setting (routine_of c.args.place n) (reverse values) machine) (reverse values) machine (Err (Stopped BadPointer)))
+    counted
     (too_few setting c.in-Some.count (operation.routine c.args.place) values (reverse values) machine few)
 
 pub returns-in-Ok-clause-works : goal.returns-in-Ok-clause-works

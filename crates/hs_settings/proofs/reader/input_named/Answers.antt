@@ -9,4 +9,5 @@ returns-in-Ok-clause-means g c =
 
 pub returns-in-Err-clause-means : goal.returns-in-Err-clause-means
 returns-in-Err-clause-means g c =
-    no_part g.F.Files.leads_to g.F.Files.listing g.F.Files.counts c.args.files.now c.text.new.files c.args.name.now input_in c.in-Err.error c.in-Err.ensures.read
+    no_part g.F.Files.leads_to g.F.Files.listing g.F.Files.counts c.args.files.now c.text.new.files c.args.name.now input_in c.in-Err.error
+    c.in-Err.ensures.read

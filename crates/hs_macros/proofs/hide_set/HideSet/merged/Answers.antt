@@ -7,7 +7,8 @@ use Rattle.hs_macros.proofs.hide_set.HideSet.merged.Goals.{in_default, in-len1-u
 -- both rows are whole
 pub rows-init : goal.rows-init
 rows-init c =
-    FindsEither-start c.new-numbers.result.items c.as_slice-own.result.now c.as_slice-others.result.now c.args.self.now c.args.other.now c.new-numbers.ensures.items
+    FindsEither-start c.new-numbers.result.items c.as_slice-own.result.now c.as_slice-others.result.now c.args.self.now c.args.other.now
+    c.new-numbers.ensures.items
     (ap set_of c.as_slice-own.ensures ∙ c.self.view_is) (ap set_of c.as_slice-others.ensures ∙ c.other.view_is)
     (rw c.as_slice-own.ensures c.self.invariant) (rw c.as_slice-others.ensures c.other.invariant)
 

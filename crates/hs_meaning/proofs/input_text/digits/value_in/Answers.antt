@@ -1,8 +1,7 @@
 -- A number that is too large stays so.
 use Rattle.std.proofs.Common.{◌≡◌, ◌<◌, ◌+◌, ◌*◌, Some, drop, get_or, arith, ap, sym, ◌∙◌}
 use Rattle.std.proofs.lemmas.List.{at_drop_more}
-use Rattle.hs_meaning.specs.InputTexts.{digit, value_after, within}
-use Rattle.hs_meaning.proofs.InputTextLaws.{too_large}
+use Rattle.hs_meaning.specs.InputTexts.{digit, value_after, within, too_large}
 use Rattle.hs_meaning.proofs.input_text.digits.value_in.Goals as goal
 
 pub returns-then-value-from : goal.returns-then-value-from

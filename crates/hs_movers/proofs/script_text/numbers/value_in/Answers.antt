@@ -1,8 +1,7 @@
 -- A number that is too large stays so.
 use Rattle.std.proofs.Common.{◌≡◌, ◌<◌, ◌+◌, ◌*◌, Some, drop, get_or, arith, ap, sym, ◌∙◌}
 use Rattle.std.proofs.lemmas.List.{at_drop_more}
-use Rattle.hs_meaning.specs.InputTexts.{digit, value_after, within}
-use Rattle.hs_movers.proofs.ScriptTextLaws.{too_large}
+use Rattle.hs_meaning.specs.InputTexts.{digit, value_after, within, too_large}
 use Rattle.hs_movers.proofs.script_text.numbers.value_in.Goals as goal
 
 pub returns-then-value-from-clause-value : goal.returns-then-value-from-clause-value

@@ -8,5 +8,7 @@ use Rattle.hs_state.proofs.machine.Machine.write.Goals as goal
 
 pub returns-in-Err-clause-kept : goal.returns-in-Err-clause-kept
 returns-in-Err-clause-kept c =
-    let same = stays (stored c.in-Spot.its c.args.cells.now) c.in-Spot.its.block c.args.self.now.heap c.store-in-Spot.new.self c.in-Err.why (search rules) c.in-Err.ensures.acts in
+    let same =
+    stays (stored c.in-Spot.its c.args.cells.now) c.in-Spot.its.block c.args.self.now.heap c.store-in-Spot.new.self c.in-Err.why
+    (search rules) c.in-Err.ensures.acts in
     ap (λ (m : Memory). record (machine_of c.args.self.now) { blocks = m.blocks }) same

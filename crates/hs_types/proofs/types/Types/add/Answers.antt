@@ -1,4 +1,4 @@
-use Rattle.hs_types.proofs.Tables.{IsRight-with_row, Grows-with_row}
+use Rattle.hs_types.specs.TableLaws.{IsRight-with_row, grows_row}
 use Rattle.hs_types.proofs.types.Types.add.Goals as goal
 
 -- the table with the type in it is right if the one before was
@@ -7,4 +7,4 @@ invariant_of-self-2 c = rw c.in_ok-number.ensures.list (IsRight-with_row _ c.arg
 
 -- nothing that was there changes
 pub returns-clause-grows : goal.returns-clause-grows
-returns-clause-grows c = rw (← c.self.view_is, c.in_ok-number.ensures.list) (Grows-with_row _ c.args.row)
+returns-clause-grows c = rw (← c.self.view_is, c.in_ok-number.ensures.list) (grows_row c.args.row _)

@@ -1,4 +1,4 @@
-use Rattle.hs_types.proofs.Layouts.{body_apart, body_inside, body_aligned}
+use Rattle.hs_types.specs.LayoutLaws.{body_apart, body_inside, body_aligned}
 use Rattle.hs_types.proofs.types.Types.body.Goals as goal
 
 -- the laws of a body

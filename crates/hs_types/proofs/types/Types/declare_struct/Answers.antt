@@ -1,4 +1,4 @@
-use Rattle.hs_types.proofs.Tables.{IsRight-with_struct, Grows-with_struct}
+use Rattle.hs_types.specs.TableLaws.{IsRight-with_struct, grows_struct}
 use Rattle.hs_types.proofs.types.Types.declare_struct.Goals as goal
 
 -- a struct without a body changes nothing
@@ -7,4 +7,4 @@ invariant_of-self-2 c = rw c.in_ok-push.ensures.items (IsRight-with_struct _ c.s
 
 -- nothing that was there changes
 pub returns-clause-grows : goal.returns-clause-grows
-returns-clause-grows c = rw (← c.self.view_is, c.in_ok-push.ensures.items) (Grows-with_struct _)
+returns-clause-grows c = rw (← c.self.view_is, c.in_ok-push.ensures.items) (grows_struct _)
