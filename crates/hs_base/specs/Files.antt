@@ -45,7 +45,7 @@ pub record Read : Type 0 where
   pub before : Counts
   pub now : Counts
 
--- what a read gave: the bytes in its buffer, or why there are none
+-- what a read returned: the bytes in its buffer, or why there are no bytes
 abbrev pub answer_of : List ℕ → Result Unit FileEnd → Result (List ℕ) FileEnd
 answer_of into (Ok _) = Ok into
 answer_of into (Err end) = Err end

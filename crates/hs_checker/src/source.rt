@@ -8,7 +8,8 @@ use hs_directives::Source;
 use hs_tree::straight::Straight;
 use std::alloc::Global;
 
-/// The straight program that sources are: they are one unit, whose tokens spell it. If they are not, there is none.
+/// Returns the straight program that the sources are: they must be one unit, and its tokens must spell the program.
+/// Otherwise the result is `None`.
 pub fn straight_of(alloc: Global, source: &Source) -> Result<Option<Straight>, NoMemory>
     ensures { IsStraightOf source.now result }
 {

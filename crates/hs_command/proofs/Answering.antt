@@ -89,7 +89,7 @@ ran_by call answer it mover report right is_run chosen is (inr put) = record {
   is_put = put;
 }
 
--- words of a run are none of a check
+-- the words of a run are not those of a check
 no_check_of_run : (words : List (List ℕ)) (it : Asked) → IsRun words it → IsNoCheck words
 no_check_of_run words it is_run = inl (λ check. differ (sym check ∙ is_run.command)) where
   differ : ◌≡◌ {A = Option (List ℕ)} (Some (codes "check")) (Some (codes "run")) → ⊥

@@ -234,7 +234,7 @@ pub no_program : (why : ProgramError) (it : TypedProgram) → ◌≡◌ {A = Res
 no_program why it same = absurd cc
 
 module _ (unique : AreUnique) (table : List Routine) (outcome : Result Source ReadError) where
-  -- units with an outcome of typing are none that the grammar refuses, of the same sources
+  -- if typing the units of the sources has an outcome, the grammar does not refuse any unit of the same sources
   pub no_syntax : (source other : Source) (typed : Result TypedProgram ProgramError) (pos : Pos) → outcome ≡ Ok source → outcome ≡ Ok other
       → AreTyped table source.units typed → HasSyntaxAt other.units pos → ⊥
   no_syntax source other typed pos same too are has =

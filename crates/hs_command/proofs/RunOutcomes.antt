@@ -51,7 +51,7 @@ told_answered files before now (read ∷ reads) right steady =
           (steady_later read.before.faults read.now.faults now.faults right.1.faults behind.faults steady'),
     )
 
--- reads behind others are right from the counts that those leave
+-- reads after others are right, from the counts that the others leave
 pub right_behind : (told : Option Listing) (before now : Counts) (front rest : List Read) → AreRight told before now (front ++ rest)
     → (mid : Counts) × AreRight told before mid front × AreRight told mid now rest
 right_behind told before now [] rest right = (before, refl, right)
@@ -74,7 +74,7 @@ status_for (syntax source pos same has) = status.Refused
 status_for (deep source same is) = status.Limited
 status_for (untyped source why same are) = status_of_typing why
 
--- what a report says of the outcome: nothing, or why it is none
+-- what a report says of the outcome: nothing if memory ran out, or else why it comes to no program
 abbrev pub Agrees : List Routine → Report → Result Source ReadError → Type 0
 Agrees table report outcome = (report ≡ NoMemory) ⊎ ((it : IsNone table outcome) × (status_of report ≡ status_for it))
 

@@ -85,7 +85,7 @@ module _ (table : List Routine) (input : Input) (turns : ℕ) (told : Option (Li
   sources_ran reads noted it report first are_noted is reports =
       (first, inr (it.0, is.0, (view_program (box_value it.1), is.1, reports (names_of reads) are_noted)))
 
-  -- they are none
+  -- sources that are not a program were refused
   pub sources_refused : (reads : List Read) (noted : Names) (error : SourceError) (report : Report) → AreFirstReads names reads → AreNoted noted reads
       → IsSource table reads names (Err error) → IsRefusedReport noted error report → IsRunOfSources table input turns told names reads (Plain report)
   sources_refused reads noted error report first are_noted is reports = (first, inl (reports table reads names are_noted is))

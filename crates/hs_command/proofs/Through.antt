@@ -1,4 +1,4 @@
--- Reads through named files are reads of the files after them, and their names are noted in order.
+-- Reads through named files are reads of the files that these refer to, and their names are noted in order.
 use Rattle.std.proofs.Common.{◌≡◌, ℕ, List, [], ◌∷◌, ◌++◌, Option, Some, None, sym, ap, subst, ◌∙◌, append-nil, append_assoc}
 use Rattle.std.specs.Prelude.{IfSome, IsSomeAnd}
 use Rattle.hs_base.specs.Files.{Listing, Counts, Read}
@@ -32,7 +32,7 @@ module _ {N F R S : Type 0} (files : N → F) (reference : N → R) (noting : N 
       (reference new ≡ reference old) × (noting new ≡ noting old) × leads (files old) read (files new)
       × IsNoted (names old) read.name (names new)
 
-  -- what it made of them it made of the files behind them
+  -- what the read made of the named files, it made of the files that they refer to
   abbrev pub MakesThrough : N → Read → N → Type 0
   MakesThrough = Makes LeadsThrough (λ it. listing (files it)) (λ it. counts (files it))
 

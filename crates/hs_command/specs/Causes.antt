@@ -137,7 +137,7 @@ pub record HasCheckCauses (call : Call) (answer : Status) : Type 0 where
 
 -- The causes of each status, of all words.
 pub record HasCauses (call : Call) (answer : Status) : Type 0 where
-  -- Usage: the first word is no command, or `clap` refuses the words, or a number word is none, or there is no such mover
+  -- Usage: the first word is not a command, or `clap` refuses the words, or a word for a number is not a number, or there is no such mover
   pub usage_only : answer ≡ status.Usage → IsNoCommand call.words call.movers
   pub usage : IsNoCommand call.words call.movers → IsBut status.Usage answer
   -- Unwritten: the sink failed

@@ -1,7 +1,7 @@
 -- What a source is refused for: the number and the word of each fault, and where reading found it. Own to this project.
 --     number_of fault, word_of fault      how a line names it
 --     placed_by error                     the fault of a refusal of reading, and its place, if the refusal has one
---     typed_by error                      the fault of a refusal of typing, its place, and the name that is told
+--     typed_by error                      the fault of a refusal of typing, its place, and the name that is reported
 use Rattle.std.specs.Prelude.{ℕ, List, codes, Option, Some, None}
 use Rattle.hs_base.specs.declared.pos.Pos.{Pos}
 use Rattle.hs_directives.specs.declared.error.ReadError.{ReadError}

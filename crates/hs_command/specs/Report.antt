@@ -58,7 +58,7 @@ place_of refusal = refusal.file ++ 58 ∷ (decimal refusal.pos.line ++ 58 ∷ de
 abbrev pub fault_of : Refusal → List ℕ
 fault_of refusal = codes "error " ++ decimal (number_of refusal.fault) ++ 32 ∷ (word_of refusal.fault ++ codes " at " ++ place_of refusal)
 
--- a space and the name, if one is told
+-- a space and the name, if a name is reported
 abbrev pub name_told : Option (List ℕ) → List ℕ
 name_told None = []
 name_told (Some name) = 32 ∷ name

@@ -130,7 +130,7 @@ HaveRun table input turns told names reads report =
     (source : Source) × IsReadAs reads names source
     × ((program : TypedProgram) × AreTyped table source.units (Ok program) × IsRunOfProgram program input turns told (names_of reads) report)
 
--- they are none
+-- with that table the sources are not a typed program, and the report says why
 abbrev pub HaveNoProgram : List Routine → List (List ℕ) → List Read → RunReport → Type 0
 HaveNoProgram table names reads (Plain report) = IsNoProgram table reads names report
 HaveNoProgram table names reads _ = ⊥

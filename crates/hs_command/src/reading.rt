@@ -1,4 +1,4 @@
-//! From the named files to their program, or to the report that they are none.
+//! From the named files to their program, or to the report that they are not a program.
 
 ghost use Rattle.std.specs.Prelude.{◌≡◌, [], map, Some};
 ghost use Rattle.std.specs.String.{string_bytes};

@@ -14,7 +14,7 @@ pub struct Refusal {
     /// The name of the file of the place.
     pub file: Bytes,
     pub pos: Pos,
-    /// The name that is told, of a fault that tells one.
+    /// The name that is reported with the fault, if the fault has one.
     pub name: Option<Bytes>,
 }
 

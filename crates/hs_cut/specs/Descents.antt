@@ -20,7 +20,7 @@ uncut_gate edge = record { along = not edge.slot; against = not edge.slot }
 abbrev pub IsAt : List (Option ℕ) → ℕ → List ℕ → ℕ → Type 0
 IsAt distances distance vertices vertex = IsTrue (among vertices vertex) × (distance_at distances vertex ≡ Some distance)
 
--- it is the least, or there is none
+-- the vertex is the least of those at this distance, or no vertex is at this distance
 abbrev pub IsLeastAt : List (Option ℕ) → ℕ → List ℕ → Option ℕ → Type 0
 IsLeastAt distances distance vertices None = (vertex : ℕ) → IsAt distances distance vertices vertex → ⊥
 IsLeastAt distances distance vertices (Some least) =

@@ -34,7 +34,7 @@ within-more : (own : Option ℕ) (steps more_ : ℕ) → IsWithinDistance steps 
 within-more None steps more_ is low = is
 within-more (Some it) steps more_ is low = let below : it ≤ steps = is in omega arith
 
--- and no walk is shorter; so if a vertex has no distance, there is none
+-- and no walk is shorter; so no walk leads to a vertex that has no distance
 pub walk-distance : (gates : List Gate) (rows : List (Vec Arc Global)) (starts : List ℕ) (distances : List (Option ℕ))
     → AreDistances gates rows starts distances
     → (steps vertex : ℕ) → Reaches gates rows starts vertex steps → IsWithinDistance steps (distance_at distances vertex)

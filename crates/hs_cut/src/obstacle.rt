@@ -13,8 +13,8 @@ use crate::network::{CutEdge, Network};
 use hs_base::NoMemory;
 use std::alloc::Global;
 
-/// The least of the shortest paths from what must be inside to what must be outside, over edges that may not be crossed.
-/// There is none exactly if there is a cut.
+/// The least of the shortest paths from what must be inside to what must be outside, over edges that may not be
+/// crossed. There is no such path exactly if there is a cut.
 pub(crate) fn least_obstacle(
     alloc: Global,
     network: &Network,

@@ -88,7 +88,7 @@ storage_or other (syntax.struct_body at word brace fields) = other
 storage_or other (syntax.enum_tag at word) = other
 storage_or other (syntax.enum_body at word brace its comma) = other
 
--- of the only storage word, or the other place if there is none
+-- the place of the only storage word, or the other place if there is no storage word
 abbrev pub storage_place : Place → Specification → Place
 storage_place other syntax.no_specifiers = other
 storage_place other (syntax.more_specifiers it rest) = storage_or (storage_place other rest) it

@@ -88,7 +88,7 @@ fn file_entity(
 
 /// Whether the storage word is `static`.
 ///
-/// Example: `false` if there is none.
+/// Example: `false` if there is no storage word.
 pub fn is_static(storage: Option<Storage>) -> bool
     ensures { result ≡ is_static storage }
 {
@@ -100,7 +100,7 @@ pub fn is_static(storage: Option<Storage>) -> bool
 
 /// Whether the storage word is `typedef`.
 ///
-/// Example: `false` if there is none.
+/// Example: `false` if there is no storage word.
 pub fn is_typedef_word(storage: Option<Storage>) -> bool
     ensures { result ≡ is_typedef_word storage }
 {

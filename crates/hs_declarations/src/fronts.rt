@@ -21,7 +21,7 @@ pub struct Front {
     pub type_id: TypeId,
 }
 
-/// The first of the specifiers, or the other place if there are none.
+/// Returns the place of the first specifier, or the other place if there are no specifiers.
 ///
 /// Example: the place of `static` in `static int x;`.
 pub fn first_place(other: Place, its: &[Specifier]) -> Place
@@ -136,7 +136,7 @@ pub(crate) fn declares_any(its: &[Specifier]) -> bool
     false
 }
 
-/// The place of the storage word, or the other one if there is none.
+/// Returns the place of the storage word, or the other place if there is no storage word.
 ///
 /// Example: the place of `typedef` in `typedef int T;`.
 pub fn storage_place(other: Place, its: &[Specifier]) -> Place

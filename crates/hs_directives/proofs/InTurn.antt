@@ -75,7 +75,7 @@ ends_plain reads (BadCondition pos) none = tt
 ends_plain reads (Limit limit) none = tt
 ends_plain reads NoMemory none = tt
 
--- a refusal that is not for want of memory is the outcome's
+-- a refusal that does not say that memory ran out is the refusal of the outcome
 is_refusal : {B : Type 0} (outcome : Result B ReadError) (error : ReadError) → (error ≡ NoMemory → ⊥) → IsRefusal outcome error → outcome ≡ Err error
 is_refusal outcome error other (inl want) = absurd (other want)
 is_refusal outcome error other (inr is) = is

@@ -28,7 +28,7 @@ pub record Fitting (known : Listing) (reads : List Read) : Type 0 where
   pub listed : AreListed files known
   pub lacks : (name : List ℕ) → IsLast reads name ends.Failed → file_of files name ≡ None
 
--- the last of several reads is among those behind the first one, if it is not that
+-- if a fact holds of the last of several reads, but not of the first one, it holds of the last of the reads after the first one
 OnLast-behind : (read : Read) (reads : List Read) (Holds : Read → Type 0) → (Holds read → ⊥) → OnLast (read ∷ reads) Holds → OnLast reads Holds
 OnLast-behind read [] Holds other is = absurd (other is)
 OnLast-behind read (next ∷ reads) Holds other is = is

@@ -47,7 +47,7 @@ units_after units later = record { units = units ++ later.units; progress = late
 abbrev pub units_behind : List (List ℕ) → List TranslationUnit → Listing → UnitRead → Result Units ReadError
 units_behind names units listing it = and_then (units_of listing names it.progress) (λ later. Ok (units_after (units ++ it.unit ∷ []) later))
 
--- there are none so far
+-- there are no units yet
 pub units_first : (files : List File) (names : List (List ℕ)) (progress : Progress)
     → Reached files files (λ listing. units_of listing names progress)
     (λ listing. and_then (units_of listing names progress) (λ later. Ok (units_after [] later)))

@@ -3,7 +3,7 @@
 --     listing_of files           the files, as a listing
 --     Grows old new              more files were read
 --     IsReading ..               what each result says
---     AnswersText ..             what the bytes of a file are, or why there are none
+--     AnswersText ..             what the bytes of a file are, or why there are no bytes
 --     entry levels listing ..    the file of an `#include`, and the state after it
 use Rattle.std.specs.Prelude.{◌≡◌, List, [], ◌∷◌, ◌++◌, map, Some, Result, Ok, Err, ℕ, zero, suc, Vec}
 use Rattle.std.specs.declared.alloc.Global.{Global}

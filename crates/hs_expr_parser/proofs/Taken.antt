@@ -10,7 +10,7 @@ use Rattle.hs_expr_parser.specs.Reading.{Known}
 use Rattle.hs_expr_parser.specs.Steps.{conditional_at}
 use Rattle.hs_expr_parser.specs.Laws.Phrases.{conditional_begins}
 
--- the tokens behind a front, by their number
+-- the tokens after a front, by how many there are
 behind_front : (front rest : List SourceToken) → rest ≡ drop (length (front ++ rest) - length rest) (front ++ rest)
 behind_front front rest =
     let taken : length front ≡ length (front ++ rest) - length rest = omega (arith, length-append front rest) in

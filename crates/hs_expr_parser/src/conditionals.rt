@@ -1,7 +1,8 @@
-//! Reading of conditional expressions (X3.159-1989 3.3.15) within types and declarators, by a parser of them that is passed on.
+//! Reads conditional expressions (X3.159-1989 3.3.15) within types and declarators, by a parser that is an argument.
 //!
-//! So the functions that read types and declarators are proved apart from those that read expressions. The parser says how many
-//! tokens it took: functions of one cycle can have no bound that names a lifetime, so it can't hand out the tokens that are left.
+//! So the functions that read types and declarators are proved apart from those that read expressions. The parser
+//! returns how many tokens it took, and not the tokens that are left: functions that call each other in a cycle cannot
+//! have a bound that names a lifetime.
 
 ghost use Rattle.std.specs.Prelude.{◌<◌, length, IfOk};
 ghost use Rattle.hs_syntax.specs.Views.{view};

@@ -71,7 +71,7 @@ pub fn expression<'a>(
     }
 }
 
-/// The expression of left operands and the last right one: that alone, if there are none.
+/// The expression of the left operands and the last right one. Without left operands, it is the right one alone.
 #[tactic(auto, using(hs_syntax::specs::RowLaws::lefts_seen))]
 fn sequence(alloc: Global, lefts: Vec<Left>, right: Expr) -> Result<Expr, NoMemory>
     ensures { IfOk result (λ e. view e ≡ joined (map view_left lefts.items) (view right)) }

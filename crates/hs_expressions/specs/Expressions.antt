@@ -33,7 +33,7 @@ use Rattle.hs_types.specs.declared.body.Enumerator.{Enumerator}
 use Rattle.hs_types.specs.declared.body.Member.{Member}
 use Rattle.hs_types.specs.declared.row.TypeId.{TypeId}
 
--- the first of the specifiers, or the other place if there are none
+-- the place of the first specifier, or the other place if there are no specifiers
 abbrev pub first_place : Place → Specification → Place
 first_place at its = place_or at (first_of_specifiers its)
 
@@ -213,7 +213,7 @@ abbrev mutual
     its ← derivations_of at direct
     give (its ++ pointers_of pointers)
 
-  -- behind the pointers
+  -- the derivations of what follows the pointers
   pub derivations_of : Place → Directly → Step (List Derivation)
   derivations_of at syntax.nothing = give []
   derivations_of at (syntax.identifier word) = give []

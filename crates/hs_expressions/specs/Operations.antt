@@ -1,5 +1,5 @@
--- Operations on typed operands, by the operators of the syntax (X3.159-1989 3.3). Each is an answer of `hs_operands`, or changes what is
--- known besides.
+-- Operations on typed operands, by the operators of the syntax (X3.159-1989 3.3). Each is an answer of `hs_operands`, or also changes what
+-- is known.
 use Rattle.std.specs.Prelude.{ℕ, Bool, true, false, List, [], ◌∷◌, ◌++◌, Option, Some, None, Result, Ok, Err, if◌then◌else◌}
 use Rattle.hs_expressions.specs.Roles.{fits_role}
 use Rattle.hs_typer.specs.Steps.{Step, ◌>>=◌, refuse, of_types, on_types, lifted, mapped}

@@ -194,7 +194,7 @@ fn lefts(alloc: Global, typer: &mut Typer, its: &[Left]) -> Result<Vec<Rvalue>, 
     Ok(done)
 }
 
-/// The first of the specifiers, or the other place if there are none.
+/// Returns the place of the first specifier, or the other place if there are no specifiers.
 fn first_place(other: Place, its: &[Specifier]) -> Place
     ensures { result ≡ first_place other (specification_of its.now) }
 {

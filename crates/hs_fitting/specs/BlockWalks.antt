@@ -140,7 +140,7 @@ module _ {here : List ℕ → Bool} {program : TypedProgram} {function : TypedFu
       kept_walks (λ its m. RefersTo program.types its m.objects it)
       (λ its more m n proceeds moves is. refers_kept program it its more m n proceeds is) walks
 
-  -- a type that an object can be of is none of functions in the program
+  -- a type that an object can have is not a function type in the program
   pub object_walks : {pre : Claims → Translator → Type 0} → (word : Word) (id : TypeId)
       → Walks here program function pre (is_object word id) (λ its m done. category_of program.types id ≡ Some of_function → ⊥) (λ done. Unit {0})
   object_walks word id =

@@ -55,7 +55,7 @@ pub record IsNew (m : Translator) (word : Word) (id : TypeId) (it : Linked) : Ty
   pub unlinked : find word.text m.links ≡ None
   pub undeclared : it.internal ≡ false → newest_external word.text m.externals ≡ None
 
--- one object more, of a type that is none of functions
+-- one more object, whose type is not a function type
 abbrev pub IsOneMore : Translator → Word → TypeId → List StaticObject → Type 0
 IsOneMore m word id objects = (is_function m.typer.types id ≡ false) × (objects ≡ m.objects ++ zero_object word id ∷ [])
 

@@ -41,7 +41,7 @@ use Rattle.hs_typer.specs.declared.typer.Entity.TheVariants as entity
 use Rattle.hs_types.specs.TypeTables.{TypeTable, Grows}
 use Rattle.hs_types.specs.declared.row.TypeId.{TypeId}
 
--- an object may be made of the type, if it is none of functions
+-- if the type is not a function type here, it is not one in the program: an object may be made of it
 abbrev pub MayMake : TypedProgram → Translator → TypeId → Type 0
 MayMake program m id = is_function m.typer.types id ≡ false → category_of program.types id ≡ Some of_function → ⊥
 

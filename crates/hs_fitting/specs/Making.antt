@@ -1,6 +1,6 @@
--- Objects are no functions: of which types they are made, and what agrees with the type of a function (X3.159-1989 3.1.2.5 and 3.1.2.6).
---     function_category               a type of functions is one of functions in the program
---     designates_makes                a type that an object can be of is none of functions there
+-- Objects are not functions: which types they have, and what agrees with the type of a function (X3.159-1989 3.1.2.5 and 3.1.2.6).
+--     function_category               a function type is a function type in the program too
+--     designates_makes                a type that an object can have is not a function type there
 --     zero_right                      an object that starts as zero bytes is right
 --     no_function_there               no object is a function
 --     agrees_typed                    what agrees with a type has a type
@@ -44,7 +44,7 @@ function_row (Some (row.Array of length layout)) is = absurd cc
 function_row (Some (row.OpenArray of)) is = absurd cc
 function_row (Some (row.Function result parameters)) is = (row.Function result parameters, refl, refl)
 
--- A type of functions is one of functions in the program.
+-- A function type is a function type in the program too.
 pub function_category : (old types : TypeTable) (id : TypeId) → Grows old types → is_function old id ≡ true
     → category_of types id ≡ Some of_function
 function_category old types id grows is =
@@ -65,7 +65,7 @@ object_row (Some (row.Array of length layout)) is = (row.Array of length layout,
 object_row (Some (row.OpenArray of)) is = (row.OpenArray of, refl, λ same. cc)
 object_row (Some (row.Function result parameters)) is = absurd cc
 
--- A type that an object can be of is none of functions in the program.
+-- A type that an object can have is not a function type in the program.
 pub designates_makes : (old types : TypeTable) (id : TypeId) → Grows old types → designates old id ≡ true
     → category_of types id ≡ Some of_function → ⊥
 designates_makes old types id grows is of_functions =
@@ -99,7 +99,7 @@ pub agrees_typed : (types : TypeTable) (o : Origins) (id : TypeId) (given : Opti
 agrees_typed types o id None is = absurd cc
 agrees_typed types o id (Some other) is = (other, refl)
 
--- What has the shape of a function is one: an object would be a function, and there is none.
+-- What has the shape of a function is a function. It is not an object: that object would be a function, and no object is a function.
 pub declared_function : (program : TypedProgram) (its : Claims) (m : Translator) (id : TypeId) (it : Entity)
     → AllByRecursion (IsObjectRight program its m) m.objects → RefersAs program.types its m.objects it → IsVariableIn program.types [] it
     → (other : TypeId) × (type_of_entity it ≡ Some other) → HasShape program.types it id → category_of program.types id ≡ Some of_function

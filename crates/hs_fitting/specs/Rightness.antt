@@ -234,7 +234,7 @@ abbrev pub RightsTo : {E : Type 0} → TypeTable → Result TypeTable E → Type
 RightsTo types (Ok new) = AreRight types → AreRight new
 RightsTo types (Err why) = Unit {0}
 
--- with an answer beside it
+-- so does the table that is returned with an answer
 abbrev pub Righting : {A E : Type 0} → TypeTable → Result (A × TypeTable) E → Type 0
 Righting types (Ok p) = AreRight types → AreRight p.1
 Righting types (Err why) = Unit {0}

@@ -94,7 +94,7 @@ word_says storage.Typedef at = refl
 word_says storage.Extern at = refl
 word_says storage.Static at = refl
 
--- a storage word, if there is none before it
+-- a storage word, if there is no storage word before it
 stored_by : (stored : Bool) (before : Option Storage) (word : Storage) (at : Place) (done : Specifiers)
     → Looked (Says (is_static before) (is_static_word (syntax.storage word at)))
     (if stored && not (is_some before) then Ok (record done { storage = Some word }) else Err (Untyped at))

@@ -52,7 +52,7 @@ abbrev mutual
   pub parameters_of : Declared → Option Parameters
   parameters_of (syntax.pointing pointers direct) = parameters_of_direct direct
 
-  -- behind the pointers
+  -- the same of what follows the pointers
   pub parameters_of_direct : Directly → Option Parameters
   parameters_of_direct syntax.nothing = None
   parameters_of_direct (syntax.identifier word) = None

@@ -41,8 +41,8 @@ fn may_store(m: &Translator, stored: Place, storage: Option<Storage>) -> Result<
     Ok(())
 }
 
-/// The type that a declarator makes of that of the specifiers. The scope of the parameters is then the innermost one: that of the first
-/// list of parameters in the declarator, or a new one if there are none.
+/// Returns the type that a declarator makes of the type of the specifiers. Then the innermost scope is that of the
+/// parameters: the scope of the first list of parameters in the declarator, or a new one if there are no parameters.
 fn opened_type(
     alloc: Global,
     typer: &mut Typer,

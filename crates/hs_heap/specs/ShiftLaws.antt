@@ -85,8 +85,8 @@ shifted_alike powers decision other number block alike = by_block (is_loose bloc
           fails (powers.moves || powers.purges) (is_named other.moves number),
         ) refl
 
--- What a decision names besides blocks that may change counts for nothing: decisions that name those alike do the same. So every list of
--- decisions is a schedule.
+-- Only the blocks that may change count in a decision: decisions that name these blocks alike do the same. So every list of decisions is a
+-- schedule.
 pub names_count : (powers : Powers) (decision other : Decision) (number : ℕ) (blocks : List Block)
     → ((place k : ℕ) (block : Block) → k ≡ number + place → slice_get blocks place ≡ Some block → NameAlike decision other k block)
     → shift_from powers decision number blocks ≡ shift_from powers other number blocks

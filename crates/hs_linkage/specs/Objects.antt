@@ -25,7 +25,7 @@ is_settled types None = false
 is_settled types (Some it) = it.defined || is_complete types it.variable.type_id
 
 -- 3.7.2: an object has the type of its definition with an initialiser, or else the first complete type that a declaration gives it; as
--- long as there is none, the latest one
+-- long as it has no complete type, it has the latest type
 abbrev pub object_as : TypeTable → TypeId → Option StaticObject → List StaticObject → ℕ → List StaticObject
 object_as types id None its place = its
 object_as types id (Some it) its place =

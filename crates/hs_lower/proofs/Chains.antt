@@ -2,7 +2,7 @@
 --     bind_same, bind_twice, known       steps after steps
 --     passes, ends                       operations at the end, and then a step with them
 --     ops_then                           operations, and then those that depend on where they end
---     part_first, part_last              operations before a part, and behind it
+--     part_first, part_last              operations before a part, and after it
 --     repieced                           the number of pieces matters to none of them
 use Rattle.std.proofs.Common.{◌≡◌, ◌≤◌, ◌<◌, ℕ, suc, Bool, true, false, List, [], ◌∷◌, ◌++◌, length, map, drop, Option, Some, None, refl, arith, sym, ◌∙◌, ap, ◌⊎◌, inl, inr, append-nil, if◌then◌else◌}
 use Rattle.std.specs.Prelude.{nat_le}
@@ -82,7 +82,7 @@ longer its text = omega (arith, length-append text.ops (its (length text.ops)))
 pub longer_part : (its : Part) (text : Text) → length text.ops ≤ length (with_part its text).ops
 longer_part its text = omega (arith, length-append text.ops (its (length text.ops)).ops)
 
--- one behind the other
+-- one after the other
 abbrev pub then_ops : (ℕ → List Placed) → (ℕ → List Placed) → ℕ → List Placed
 then_ops f g start = f start ++ g (after start (f start))
 
@@ -156,7 +156,7 @@ three_ends f x y text final =
     bind_same (fitting (with_ops f text)) _ _ (λ stepped. two_ends x y stepped final)
     ∙ then_final f (λ start. x ∷ y ∷ []) text (λ stepped last. final (suc (length stepped.ops)) last)
 
--- operations, and a part behind them
+-- operations, and a part after them
 pub part_behind : (f : ℕ → List Placed) (its : Part) (text : Text)
     → (fitting (with_ops f text) >>= (λ mid. fitting (with_part its mid))) ≡ fitting (with_part ((λ start. of_ops (f start)) then its) text)
 part_behind f its text =
@@ -176,7 +176,7 @@ ends_if last final whole same long =
     passes last (λ text. Some (final text)) whole (omega (arith, long))
     (λ few. ap Some (same few) ∙ sym (fits whole (omega (arith, long, few))))
 
--- a front, a part behind it, and an end that replaces some operations
+-- a front, a part after it, and an end that replaces some operations
 pub in_three : (front part last : Text) (next : Text → Option Text) (end_of : Text → Option Text) (final : Text → Text) (whole : Text)
     → next front ≡ fitting part → end_of part ≡ (fitting last >>= (λ text. Some (final text))) → (length last.ops ≤ most_ops → final last ≡ whole)
     → length last.ops ≡ length whole.ops → length front.ops ≤ length part.ops → length part.ops ≤ length last.ops
@@ -194,7 +194,7 @@ aimed_behind targets front ops =
     ap (λ its. its ++ map (aimed targets) (drop (length front) (front ++ ops))) (take-append_seam front ops)
     ∙ ap (λ its. front ++ map (aimed targets) its) (drop-append_seam front ops)
 
--- a part that was written with unknown targets, behind other operations
+-- a part that was written with unknown targets, after other operations
 pub aimed_part : (targets : Targets) (unaimed : Part) (its : Part) (front ops : List Placed) → AimsAt targets unaimed its (length front)
     → ops ≡ front ++ (unaimed (length front)).ops → length ops ≤ most_ops → aimed_from targets (length front) ops ≡ front ++ (its (length front)).ops
 aimed_part targets unaimed its front ops is same few =
@@ -209,7 +209,7 @@ aimed_length targets unaimed its front ops is same =
 
 -- ---- loops
 
--- operations, a part, and operations behind it
+-- operations, a part, and operations after it
 module _ (text : Text) (front back : ℕ → List Placed) (part : Part) where
   -- where the part begins and ends
   abbrev pub begins_at : ℕ
@@ -276,7 +276,7 @@ already text front whole next before behind few = by (leb_tells (length text.ops
     by (inl fewer) = few fewer.1
     by (inr many) = ap (λ x. x >>= next) (too_many front (omega (arith, many.1, before))) ∙ sym (too_many whole (omega (arith, many.1, behind)))
 
--- ---- parts one behind the other
+-- ---- parts one after the other
 
 -- a part that is operations alone
 pub plain_part : (f : ℕ → List Placed) (text : Text) → fitting (with_part (λ start. of_ops (f start)) text) ≡ fitting (with_ops f text)

@@ -83,7 +83,7 @@ module _ (setting : Setting) (function : TypedFunction) where
   turn_same join step end_ None = refl
   turn_same join step end_ (Some e) = refl
 
-  -- ---- the loop, behind its first part
+  -- ---- the loop, after its first part
 
   module _ (text : Text) (at : Pos) (test step : Option RightValue) (body : TypedStatement) where
     -- the pieces before the body and after it, and that of the step
@@ -135,7 +135,7 @@ module _ (setting : Setting) (function : TypedFunction) where
     abbrev last : Text
     last = with_ops back_ops (with_pieces (suc later) middle)
 
-    -- the operation behind the loop
+    -- the operation after the loop
     abbrev end_at : ℕ
     end_at = suc (length (middle.ops ++ drop_ops step_piece at step (length middle.ops)))
 

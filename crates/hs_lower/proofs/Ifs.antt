@@ -37,7 +37,7 @@ patched front value part back it new =
     number : length ((front ++ value) ++ (it ∷ [])) - 1 ≡ length (front ++ value)
     number = ap (λ n. n - 1) (length-append (front ++ value) (it ∷ [])) ∙ omega arith
 
--- so are two of them, the second one behind a part
+-- so are two of them, the second one after a part
 patched_twice : (front value part more back : List Placed) (it new jump now : Placed)
     → slice_set (slice_set (((((front ++ (value ++ (it ∷ []))) ++ part) ++ (jump ∷ [])) ++ more) ++ back) (length (front ++ (value ++ (it ∷ []))) - 1) new)
     (length ((front ++ (value ++ (it ∷ []))) ++ part)) now
@@ -73,7 +73,7 @@ module _ (setting : Setting) (function : TypedFunction) where
   abbrev pub value_ops : ℕ → Pos → RightValue → Op → ℕ → List Placed
   value_ops piece at e its n = operand (value_code setting function piece e) (only_at piece at its) n 0
 
-  -- the counts behind a statement, and behind a block
+  -- the counts after a statement, and after a block
   pub statement_counts : (it : TypedStatement) (targets : Targets) (text : Text)
       → counts_of (with_part (statement_code setting function it (counts_of text) targets) (with_pieces (after_statement it (counts_of text)).pieces text))
       ≡ after_statement it (counts_of text)
@@ -141,7 +141,7 @@ module _ (setting : Setting) (function : TypedFunction) where
         ≡ after (behind setting function text.pieces e (length text.ops)) (part (behind setting function text.pieces e (length text.ops))).ops
     ends = sym (after_ops front.ops (part (length front.ops)).ops) ∙ ap (λ n. after n (part n).ops) begins
 
-    -- the operation behind the branch
+    -- the operation after the branch
     abbrev end_ : ℕ
     end_ = after (behind setting function text.pieces e (length text.ops)) (part (behind setting function text.pieces e (length text.ops))).ops
 

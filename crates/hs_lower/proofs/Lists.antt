@@ -103,7 +103,7 @@ module _ (setting : Setting) (function : TypedFunction) where
       ∙ ap (λ cases. fitting (record { ops = text.ops; cases = cases; pieces = text.pieces })) (append-nil text.cases) ∙ fits text few
 
   module _ (labels : List Label) (it : TypedStatement) (rest : TypedStatements) (text : Text) where
-    -- the counts behind the labels, and behind the statement
+    -- the counts after the labels, and after the statement
     abbrev inside : Counts
     inside = pieces_for labels (counts_of text)
 
@@ -187,7 +187,7 @@ module _ (setting : Setting) (function : TypedFunction) where
   -- ---- blocks
 
   module _ (opening closing : Place) (declarations : List TypedDeclaration) (list : TypedStatements) (text : Text) where
-    -- the counts before the statements, and behind them
+    -- the counts before the statements, and after them
     abbrev list_counts : Counts
     list_counts = pieces_for declarations (one_piece (counts_of text))
 

@@ -71,7 +71,7 @@ module _ (setting : Setting) (function : TypedFunction) where
     abbrev its : Part
     its = switch_code setting function text.pieces later.pieces at e later.cases (cases_of_block it later.cases) (block_code setting function it inside) unknown
 
-    -- the block, and the operation behind it, as the definition counts them
+    -- the block, and the operation after it, as the definition counts them
     abbrev block_at : ℕ
     block_at = behind setting function text.pieces e (length text.ops)
 

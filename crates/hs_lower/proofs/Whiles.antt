@@ -131,7 +131,7 @@ module _ (setting : Setting) (function : TypedFunction) (text : Text) where
         ap suc (sym (length_given (suc text.pieces) at (value_code setting function (suc text.pieces) e) (op.Zero to_break) (suc (length text.ops))))
         ∙ sym body_at
 
-    -- and the one behind it
+    -- and the operation after the body
     ends_there : jump_at ≡ length middle.ops
     ends_there =
         sym ((same_statement setting function body inside unknown nowhere).at (suc (behind setting function (suc text.pieces) e (suc (length text.ops))))).0
@@ -220,7 +220,7 @@ module _ (setting : Setting) (function : TypedFunction) (text : Text) where
     abbrev do_last : Text
     do_last = with_ops do_back (with_pieces (suc (suc do_later)) do_middle)
 
-    -- the operation behind the loop
+    -- the operation after the loop
     abbrev do_end : ℕ
     do_end = suc (length (do_middle.ops ++ test_ops do_later do_at e (length do_middle.ops)))
 

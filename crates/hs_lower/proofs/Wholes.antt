@@ -57,7 +57,7 @@ module _ (setting : Setting) (function : TypedFunction) where
   abbrev last : Text
   last = with_ops back middle
 
-  -- the operation behind the body
+  -- the operation after the body
   abbrev end_ : ℕ
   end_ = after 0 (block_code setting function function.body body_counts nowhere 0).ops
 

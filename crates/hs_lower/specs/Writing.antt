@@ -201,20 +201,20 @@ aimed_text breaks continues start text =
       pieces = text.pieces;
     }
 
--- `Mark` behind a branch, to which the test goes
+-- `Mark` after a branch; the test jumps to it
 unfoldable pub if_ended : Pos → ℕ → ℕ → Text → Option Text
 if_ended at piece test text =
     put_steps text.pieces at op.Mark (with_pieces (suc text.pieces) text)
     >>= (λ last. Some (replaced test (placed_at piece at (op.Zero (length text.ops)) 1) last))
 
--- `Mark` behind two branches
+-- `Mark` after two branches
 unfoldable pub if_else_ended : Pos → ℕ → ℕ → ℕ → Text → Option Text
 if_else_ended at piece test jump text =
     put_steps text.pieces at op.Mark (with_pieces (suc text.pieces) text)
     >>= (λ last. Some (replaced jump (placed_at text.pieces at (op.Jump (length text.ops)) 0)
     (replaced test (placed_at piece at (op.Zero (suc jump)) 1) last)))
 
--- `Jump, Mark` behind the body
+-- `Jump, Mark` after the body
 unfoldable pub while_ended : Pos → ℕ → ℕ → Text → Option Text
 while_ended at join start text =
     put_steps join at (op.Jump start) (with_pieces (suc text.pieces) text)
@@ -238,7 +238,7 @@ module _ (setting : Setting) (function : TypedFunction) where
       >>= (λ turned. put_steps text.pieces at op.Mark turned
       >>= (λ last. Some (aimed_text (length turned.ops) (length text.ops) start last))))
 
--- `Mark` behind a switch, of which these are the labels: its cases come behind those inside it
+-- `Mark` after a switch with these labels: its cases come after those of the switches inside it
 unfoldable pub switch_ended : Pos → ℕ → ℕ → ℕ → List (Label × ℕ) → Text → Option Text
 switch_ended at piece choice start labels text =
     put_steps text.pieces at op.Mark (with_pieces (suc text.pieces) text)

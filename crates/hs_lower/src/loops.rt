@@ -55,7 +55,7 @@ pub(crate) fn begin_while(
     })
 }
 
-/// Ends a `while`, behind its body.
+/// Ends a `while`, after its body.
 #[tactic(auto, unfolding(crate::specs::Writing::while_ended))]
 pub(crate) fn end_while(text: &mut Text, at: Pos, its: Loop) -> Result<(), LowerEnd>
     requires begins { its.start ≤ length text.old.ops }
@@ -90,7 +90,7 @@ pub(crate) fn begin_do(text: &mut Text, at: Pos) -> Result<Loop, LowerEnd>
     })
 }
 
-/// Ends a `do`, behind its body: `continue` goes to the condition.
+/// Ends a `do`, after its body: `continue` goes to the condition.
 #[tactic(auto, unfolding(crate::specs::Writing::do_ended))]
 pub(crate) fn end_do(
     lowering: &Lowering,
@@ -192,7 +192,8 @@ pub(crate) fn begin_first(
     evaluate(lowering, text, piece, at, first)
 }
 
-/// Begins a `for` behind its first part, up to its body. The step takes its piece here, as it stands before the body in the text.
+/// Begins a `for` after its first part, up to its body. The step takes its piece here, because it is before the body in
+/// the text.
 #[tactic(auto, unfolding(crate::specs::Writing::for_begun))]
 pub(crate) fn begin_for(
     lowering: &Lowering,
@@ -224,7 +225,7 @@ pub(crate) fn begin_for(
     })
 }
 
-/// Ends a `for`, behind its body: `continue` goes to the step.
+/// Ends a `for`, after its body: `continue` goes to the step.
 #[tactic(auto, unfolding(crate::specs::Writing::for_ended))]
 pub(crate) fn end_for(
     lowering: &Lowering,

@@ -11,7 +11,7 @@ use hs_code::{Op, Placed};
 use std::alloc::Global;
 use std::marker::Model;
 
-/// The operations to which a loop or a switch sends control: the one behind it, and the one with which a loop goes on.
+/// The operations to which a loop or a switch sends control: the one after it, and the one with which a loop goes on.
 #[derive(Clone, Copy)]
 pub struct Exits {
     pub breaks: u32,

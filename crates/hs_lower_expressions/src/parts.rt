@@ -1,5 +1,5 @@
-//! The operations that follow operands. Each function puts a few of them at the end of `ops`. `depth` is how many values are on the stack
-//! below the operands, or before the first operation where there are none.
+//! The operations that follow operands. Each function puts a few of them at the end of `ops`. `depth` is how many
+//! values are on the stack below the operands, or before the first operation if there are no operands.
 
 ghost use Rattle.std.specs.Prelude.{◌≡◌, ◌≤◌, ◌<◌, ◌+◌, length, slice_get, OnOk, IfOk};
 ghost use Rattle.hs_code.specs.declared.op.Op.TheVariants.{Zero, Jump};

@@ -1,11 +1,11 @@
--- How a run of code goes beside the meaning of an expression (own).
+-- How a run of code follows the meaning of an expression (own).
 --     IsAt s                              the variables of the machine are slots and objects as declared, and no more turns are left than that
 --     Performs fact first point next      the code run from `point` does what the step `first` does: it ends as that does, or goes on at the point
 --                                         that `next` says for what the step gives, which meets the fact
 --     Holds start its                     the code has these operations from that number on
 --     Turns its fact first stack left     operations that perform a step, from that stack to the one that is left for what the step gives
 --     Means its first                     they leave the value that the step gives above the stack
---     thens, jumps, ..                    one after the other, a jump behind them, and so on
+--     thens, jumps, ..                    one after the other, a jump after them, and so on
 use Rattle.std.proofs.Common.{◌≡◌, ◌≤◌, ℕ, suc, Bool, List, [], ◌∷◌, ◌++◌, slice_get, Some, refl, sym, ap, ◌∙◌, subst, ◌+◌, length, arith}
 use Rattle.hs_code.specs.declared.function_code.FunctionCode.{FunctionCode}
 use Rattle.hs_code.specs.declared.function_code.Placed.{Placed}
@@ -30,7 +30,7 @@ Any it = Unit {0}
 
 -- ---- lists of operations
 
--- behind two lists
+-- the number of the operation after two lists
 pub after_append : (start : ℕ) (first second : List Placed) → after start (first ++ second) ≡ after (after start first) second
 after_append start [] second = refl
 after_append start (its ∷ first) second = after_append (suc start) first second
@@ -78,7 +78,7 @@ operands_same first second f s = by (first s)
     by (went a t) = inner a (second t)
     by (over outcome t) = refl
 
--- equal steps behind a step
+-- equal steps after a step
 pub same_behind : {A B : Type 0} → (f g : A → Step B) (r : Ran A) → ((a : A) (t : State) → f a t ≡ g a t) → then_with f r ≡ then_with g r
 same_behind f g (went a t) same = same a t
 same_behind f g (over outcome t) same = refl
@@ -139,7 +139,7 @@ module _ (program : CodeProgram) (variables : List VariableDecl) (bound : ℕ) w
       same_step {first = first} {point = point} {next = next} same performs =
           record { go = λ s at. subst (Leads next point s) (sym (same s at)) (performs.go s at) }
 
-      -- operations behind it that only go on
+      -- operations after it that only go on
       pub goes_on : {first : Step A} → {point : Point} → {mid : A → Point} → (next : A → Point)
           → ((a : A) (s : State) → stepped program (mid a) s ≡ went (next a) s) → Performs first point mid → Performs first point next
       goes_on {first = first} {point = point} {mid = mid} next goes performs = record { go = λ s at. by s (first s) (performs.go s at) }

@@ -60,7 +60,7 @@ of_ops its = record { ops = its; cases = []; labels = [] }
 abbrev pub nothing : Part
 nothing start = of_ops []
 
--- one behind the other
+-- one after the other
 abbrev pub joined : Written → Written → Written
 joined first second = record { ops = first.ops ++ second.ops; cases = first.cases ++ second.cases; labels = first.labels ++ second.labels }
 
@@ -126,13 +126,13 @@ abbrev mutual
   after_statement (tree.block it) counts = after_block it counts
   after_statement (tree.expression at e) counts = one_piece counts
   after_statement (tree.empty at) counts = one_piece counts
-  -- the condition, the statement, and the join behind it
+  -- the condition, the statement, and the join after it
   after_statement (tree.if_ at test first) counts = one_piece (after_statement first (one_piece counts))
   after_statement (tree.if_else at test first second) counts = one_piece (after_statement second (after_statement first (one_piece counts)))
-  -- the join in front of the condition, the condition, the body, and the join behind it
+  -- the join before the condition, the condition, the body, and the join after it
   after_statement (tree.while_ at test body) counts = one_piece (after_statement body (one_piece (one_piece counts)))
   after_statement (tree.do_ at body test) counts = one_piece (one_piece (after_statement body (one_piece counts)))
-  -- the first part, the join, the condition and the step as they are there, the body, and the join behind it
+  -- the first part, the join, the condition and the step if they are there, the body, and the join after it
   after_statement (tree.for_ at first test step body) counts =
       one_piece (after_statement body (piece_for step (piece_for test (one_piece (piece_for first counts)))))
   after_statement (tree.switch_ at e it) counts = one_piece (with_cases it (after_block it (one_piece counts)))
@@ -214,7 +214,7 @@ default_in [] otherwise = otherwise
 default_in ((label.Case at bits, target) ∷ rest) otherwise = default_in rest otherwise
 default_in ((label.Default at, target) ∷ rest) otherwise = target
 
--- the cases of a switch, behind those of the switches inside it
+-- the cases of a switch, after those of the switches inside it
 abbrev pub with_cases_of : List (Label × ℕ) → Written → Written
 with_cases_of labels its = record its { cases = its.cases ++ cases_in labels }
 
@@ -311,7 +311,7 @@ module _ (setting : Setting) (function : TypedFunction) where
   abbrev pub value_code : ℕ → RightValue → Lowered
   value_code piece e = right_code setting function.variables piece e
 
-  -- the number of the operation behind an expression and one operation more
+  -- the number of the operation that follows an expression and one more operation
   abbrev pub behind : ℕ → RightValue → ℕ → ℕ
   behind piece e start = suc (after start (value_code piece e start 0))
 
@@ -371,8 +371,8 @@ module _ (setting : Setting) (function : TypedFunction) where
   if_else_code counts at e join first second start =
       if_else_at counts at e join first second (after (behind counts.pieces e start) (first (behind counts.pieces e start)).ops) start
 
-  -- `H: Mark, test, Zero(E), Turn, body, Jump(H), E: Mark`, where the body ends at that operation; the pieces of the join, the condition and the
-  -- join behind
+  -- `H: Mark, test, Zero(E), Turn, body, Jump(H), E: Mark`, where the body ends at that operation; the pieces are those of the join, of the
+  -- condition, and of the join after the loop
   abbrev pub while_at : ℕ → ℕ → ℕ → Pos → RightValue → (Targets → Part) → ℕ → Part
   while_at join test end_ at e body jump_at start =
       (alone join at op.Mark then guarded test at e (suc jump_at) then alone test at op.Turn
@@ -395,7 +395,7 @@ module _ (setting : Setting) (function : TypedFunction) where
   abbrev pub do_code : ℕ → ℕ → ℕ → Pos → RightValue → (Targets → Part) → Part
   do_code join test end_ at e body start = do_at join test end_ at e body (after (suc (suc start)) (body nowhere (suc (suc start))).ops) start
 
-  -- the pieces of a `for`: the join, the condition, the step, and the join behind
+  -- the pieces of a `for`: the join, the condition, the step, and the join after it
   pub record ForPieces : Type 0 where
     pub join : ℕ
     pub test : ℕ

@@ -35,10 +35,12 @@ ghost use Rattle.hs_types.specs.TypeTables.{IsRight};
 
 use hs_tree::Program;
 
-/// The code of an expression evaluates it: a run that comes to its first operation ends as the evaluation ends, in the same state and with the
-/// same stop at the same place, or goes on behind the code with the value above the stack. The same holds of the address of an object.
+/// The code of an expression evaluates it: a run that comes to its first operation ends as the evaluation ends, in the
+/// same state and with the same stop at the same place, or goes on after the code with the value on top of the stack.
+/// The same holds of the address of an object.
 ///
-/// It is asked that the code performs calls of functions (`Calls`), and that each call has as many arguments as there are parameters.
+/// The clauses require that the code performs calls of functions (`Calls`), and that each call has as many arguments as
+/// there are parameters.
 pub fn code_of_expressions_is_exact()
     ensures value { (program : CodeProgram) (variables : List VariableDecl) (bound : ℕ) (code : FunctionCode) (waiting : List Waiting)
         (choices : List Bool) (piece : ℕ) (again : Job → Step Flow) (e : RightValue) (start depth : ℕ) (stack : List Value)
@@ -60,8 +62,8 @@ pub fn code_of_expressions_is_exact()
         (after start (address_code program.setting variables piece e start depth)) (value ∷ stack)) }
 {}
 
-/// The code of an expression jumps only inside itself: from its first operation to the one behind it, wherever it stands. So does the code of
-/// the address of an object.
+/// The code of an expression jumps only to its own operations and to the one right after them, wherever it is. So does
+/// the code of the address of an object.
 pub fn expressions_jump_inside()
     ensures value { (setting : Setting) (variables : List VariableDecl) (piece : ℕ) (e : RightValue) (start depth : ℕ)
         → AllWithin start (after start (right_code setting variables piece e start depth)) (right_code setting variables piece e start depth) }
@@ -80,11 +82,12 @@ pub fn expressions_keep_their_positions()
         → AllByRecursion (IsPlaced piece (λ at. test at ≡ true)) (address_code setting variables piece e start depth) }
 {}
 
-/// The code of an expression leaves one value more on the stack than there was, of the kind of its type; of type `void` it may be of any kind.
-/// So where control that goes on behind the code finds the operands of that many operations, control that comes to its first operation does, and
-/// each operation on the way has its operands and notes how many values are on the stack. An address is a pointer.
+/// The code of an expression leaves one more value on the stack than there was, of the kind of its type. If the type is
+/// `void`, the value may be of any kind. So if control that goes on after the code finds the operands of that many
+/// operations, control that comes to its first operation does too, and each operation on the way has its operands and
+/// notes how many values are on the stack. An address is a pointer.
 ///
-/// It is asked that the expression is typed, and that no argument of a call is of type `void` (`KindsFit`).
+/// The clauses require that the expression is typed, and that no argument of a call is of type `void` (`KindsFit`).
 pub fn expressions_leave_one_value()
     ensures value { (program : TypedProgram) (function : TypedFunction) (code : FunctionCode) (piece : ℕ) (e : RightValue) (start count : ℕ)
         (kinds : List Kind)

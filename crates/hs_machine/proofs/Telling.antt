@@ -17,7 +17,7 @@ pub tells_all : (told : Option (List Decision)) → TellsSo told [] told
 tells_all None = tt
 tells_all (Some told) = (refl, refl)
 
--- so the script is told
+-- so the script is what the mover told
 pub tells_script : (told now : Option (List Decision)) (script : List Decision) → TellsSo told script now → IsTold told script
 tells_script None now script so = tt
 tells_script (Some told) now script so = so.0

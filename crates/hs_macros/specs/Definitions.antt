@@ -2,7 +2,7 @@
 --     Definitions             the macros that are defined, by name
 --     definition_of line      the name and the definition that the tokens after `define` are, if they are one
 --     is_same old new         the same parameters and the same tokens, but for places and white space
---     defined macros line     the macros after such a line, or why there are none
+--     defined macros line     the macros after such a line, or why it is refused
 use Rattle.std.specs.Prelude.{ℕ, List, [], ◌∷◌, Bool, true, false, not, ◌&&◌, ◌||◌, Option, Some, None, Result, Ok, Err, if◌then◌else◌, codes}
 use Rattle.std.specs.List.{list_any}
 use Rattle.std.specs.Ordering.{nat_cmp}

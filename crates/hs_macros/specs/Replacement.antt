@@ -133,7 +133,7 @@ pub record Expansion : Type 0 where
   pub tokens : List Hidden
   pub left : Budget
 
--- an expansion, or why there is none
+-- an expansion, or why there is no expansion
 abbrev pub Outcome : Type 0
 Outcome = Result Expansion MacroError
 

@@ -126,7 +126,7 @@ abbrev pub parameters_around : Call → Bor Parameter → List Parameter
 parameters_around call parameter = parameters_in call.ready.items ++ parameter.now ∷ parameters_ahead call.waiting.items
 
 -- What is said of the definition that may replace a token: the form of the macro decides what begins at the token, whatever
--- follows it, and its number is that of the name. If there is none, the token stays.
+-- follows it, and its number is that of the name. If there is no such definition, the token stays.
 abbrev pub IsReplacing : Entries → Pending → Option Numbered → Type 0
 IsReplacing entries token None = (rest : List Hidden) → found (definitions_in entries) (hidden (names_in entries) token) rest ≡ stays
 IsReplacing entries token (Some numbered) =
@@ -134,6 +134,6 @@ IsReplacing entries token (Some numbered) =
     ≡ found_form (hidden (names_in entries) token) rest numbered.definition.now.body numbered.definition.now.parameters)
     × IsNumber (names_in entries) token.token.now.text numbered.number
 
--- what the tokens that hid the same hide in place of an invocation that hides these
+-- what the tokens that hid the same before hide when they replace an invocation that hides these
 abbrev pub IsJoined : Numbers → Joined → Type 0
 IsJoined hides joined = joined.both.value ≡ set.union joined.own.now hides

@@ -1,4 +1,4 @@
-//! Puts a macro's tokens in place of an invocation, with its arguments (X3.159-1989 3.8.3.1).
+//! Replaces an invocation by the macro's tokens, with its arguments (X3.159-1989 3.8.3.1).
 
 ghost use Rattle.std.specs.Prelude.{◌≡◌, ◌++◌, ℕ, List, IfOk, OnOk, IfSome, length, map};
 ghost use Rattle.std.specs.FinSet as set;

@@ -47,7 +47,7 @@ used_stop true (Handle block) machine = Some stop.BadPointer
 used_stop false (Handle block) machine = handle_stop size_of (Handle block) machine
 used_stop is_filled (Spot its) machine = current_stop (Spot its) machine
 
--- of one argument: a struct is passed over
+-- of one argument: a struct is skipped
 abbrev pub pointer_used : Bool → Value → Machine → Option Stop
 pointer_used is_filled (number bits) machine = None
 pointer_used is_filled (pointer its) machine = used_stop is_filled its machine
@@ -125,7 +125,7 @@ words_for size = (size + 3) / 4
 
 -- ---- the target that is filled
 
--- the argument of that number, counted from 1; 0 is none
+-- the argument of that number, counted from 1; there is no argument 0
 abbrev pub argument : {A : Type 0} → ℕ → List A → Option A
 argument zero items = None
 argument (suc place) items = slice_get items place

@@ -1,4 +1,4 @@
--- What a run needs of a program besides the bodies of its functions: code has the same.
+-- What a run needs of a program, apart from the bodies of its functions: code has the same.
 --     Setting, setting_of program         its types, variables, strings, routines and classes
 --     class_number setting its            the number of a class: cells name by it the class through which they were stored
 --     access_of_type setting id class     what a load or a store of an object of that type and class reaches
@@ -19,7 +19,7 @@ use Rattle.hs_types.specs.declared.integer.Integer.{Integer}
 use Rattle.hs_types.specs.declared.row.FieldId.{FieldId}
 use Rattle.hs_types.specs.declared.row.TypeId.{TypeId}
 
--- what a run needs of a program besides the bodies of its functions
+-- what a run needs of a program, apart from the bodies of its functions
 pub record Setting : Type 0 where
   pub types : TypeTable
   pub globals : List Global

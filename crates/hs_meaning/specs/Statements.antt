@@ -233,7 +233,7 @@ module _ (setting : Setting) (again : Job → Step Flow) (function : TypedFuncti
     pub executed_block : TypedBlock → Step Flow
     executed_block (tree.compound opening declarations list closing) = declarations_started declarations >> executed_all from_start list
 
-    -- a switch goes to a label behind the declarations
+    -- a switch goes to a label after the declarations
     pub executed_switch : ℕ → TypedBlock → Step Flow
     executed_switch bits (tree.compound opening declarations list closing) = executed_all (entry_for bits list) list
 

@@ -33,7 +33,7 @@ stops_before [] later why is = absurd (cc)
 stops_before (Some first ∷ stops) later why is = is
 stops_before (None ∷ stops) later why is = stops_before stops later why is
 
--- which count if there is none in the first
+-- and those of the second list count if there is no stop in the first
 pub stops_after : (stops later : Stops) → first_stop stops ≡ None → first_stop (stops ++ later) ≡ first_stop later
 stops_after [] later is = refl
 stops_after (Some first ∷ stops) later is = absurd (cc)

@@ -102,7 +102,7 @@ abbrev pub bytes_of : ℕ → ℕ → List ℕ
 bytes_of zero bits = []
 bytes_of (suc more) bits = bits / 256 ^ more % 256 ∷ bytes_of more bits
 
--- the number with these bytes behind those
+-- the number whose bytes are those of the first number, and then these
 abbrev pub bits_after : ℕ → List ℕ → ℕ
 bits_after before [] = before
 bits_after before (byte ∷ bytes) = bits_after (before * 256 + byte) bytes

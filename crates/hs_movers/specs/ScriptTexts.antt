@@ -40,7 +40,7 @@ part_text word All = 32 ∷ word ++ 32 ∷ codes "all"
 part_text word (These []) = []
 part_text word (These (number ∷ rest)) = 32 ∷ word ++ 32 ∷ joined (number ∷ rest)
 
--- or that there is none
+-- or ` none`, if there are no parts
 abbrev pub or_none : List ℕ → List ℕ
 or_none [] = codes " none"
 or_none (byte ∷ rest) = byte ∷ rest

@@ -51,7 +51,7 @@ pub trait Mover: Drop {
         ensures same_number { number self.new ≡ number self.old }
         ensures tells { OnOk result (told self.new ≡ after self.old script.now) };
 
-    /// Puts the next decision into `into`, in place of what was there.
+    /// Replaces what is in `into` by the next decision.
     ///
     /// # Errors
     ///

@@ -36,7 +36,7 @@ impl Decisions {
     }
 }
 
-/// What a mover is told to do: decision by decision, or by a seed.
+/// What a mover has to do: decision by decision, or by a seed.
 #[derive(Drop)]
 pub struct Script {
     /// What a mover that draws its decisions starts from.

@@ -53,8 +53,8 @@ fn folded_comparison(operator: Comparison) -> Binary
     }
 }
 
-/// The value of an integral constant expression (X3.159-1989 3.4), or `None` if the expression is none. The value says whether its
-/// evaluation divides by 0.
+/// Returns the value of an integral constant expression (X3.159-1989 3.4), or `None` if the expression is not one. The
+/// value says whether its evaluation divides by 0.
 ///
 /// Example: 6 for `2 * 3`, and `None` for `x` and for `(char *)0`.
 pub fn constant_value(types: &Types, e: &Rvalue) -> Option<Value>

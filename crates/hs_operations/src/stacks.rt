@@ -51,7 +51,7 @@ fn takes(op: Op) -> usize
     }
 }
 
-/// Puts a value in the place of so many on top.
+/// Replaces the values from place `low` on by one value.
 pub(crate) fn replace(stack: &mut Layers<Value>, low: usize, value: Value) -> Result<(), Halt>
     ensures top { OnOk result (stack.new.top ≡ take low stack.old.top ++ value ∷ []) }
     ensures below { stack.new.below ≡ stack.old.below }
@@ -93,7 +93,7 @@ pub(crate) fn apply(
     }
 }
 
-/// Puts a value in the place of the one on top.
+/// Replaces the value on top.
 #[inline(always)]
 pub(crate) fn put_for_one(stack: &mut Layers<Value>, value: Value)
     requires one { 1 ≤ length stack.old.top }
@@ -104,7 +104,7 @@ pub(crate) fn put_for_one(stack: &mut Layers<Value>, value: Value)
     stack.replace(count - 1, value).discard();
 }
 
-/// Puts a value in the place of the two on top.
+/// Replaces the two values on top by one value.
 #[inline(always)]
 pub(crate) fn put_for_two(stack: &mut Layers<Value>, value: Value)
     requires two { 2 ≤ length stack.old.top }
@@ -201,7 +201,8 @@ pub(crate) fn step_top(stack: &mut Layers<Value>, stride: Stride, pointer_first:
     }
 }
 
-/// Puts a value in the place of those from that place on. It does not if it is one more and memory runs out.
+/// Replaces the values from place `low` on by one value. If there are no values from there on, it pushes the value, and
+/// does nothing if memory runs out.
 fn put_at(stack: &mut Layers<Value>, low: usize, value: Value) -> bool
     requires within { low ≤ length stack.old.top }
     ensures puts { PutsAt low value stack.old.top stack.new.top result }

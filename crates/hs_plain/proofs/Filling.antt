@@ -41,7 +41,7 @@ length_answers (suc count) (word ∷ words) = ap suc (length_answers count words
 pub enough : (size : ℕ) (words : List ℕ) → size ≤ length (bytes_of_words (answers (words_for size) words))
 enough size words = rw (length_bytes, length_answers) (omega arith)
 
--- past the end there are none
+-- past the end there are no words
 pub later_words_drop : (count : ℕ) (words : List ℕ) → later_words count words ≡ drop count words
 later_words_drop zero words = refl
 later_words_drop (suc count) [] = refl

@@ -13,7 +13,7 @@ stops_in_first it [] second why is = absurd cc
 stops_in_first it (Some stop ∷ first) second why is = is
 stops_in_first it (None ∷ first) second why is = stops_in_first it first second why is
 
--- if there is none among them, the second ones count
+-- if there is no stop among them, the second ones count
 pub stops_in_second : {A : Type 0} (it : A) (first second : Stops) → or_first first it ≡ Ok it → or_first (first ++ second) it ≡ or_first second it
 stops_in_second it [] second is = refl
 stops_in_second it (Some stop ∷ first) second is = absurd cc

@@ -14,7 +14,7 @@ use hs_objects::Objects;
 use hs_state::{Machine, stop_of};
 use hs_values::Value;
 
-/// The argument of that number, counted from 1. Number 0 is none.
+/// The argument of that number, counted from 1. There is no argument 0.
 pub(crate) fn argument<T>(number: u32, items: &[T]) -> Option<&T>
     ensures { option_copied result ≡ argument number items.now }
 {

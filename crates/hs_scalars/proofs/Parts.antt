@@ -27,7 +27,7 @@ module _ (fields : List Field) (place : ℕ) where
       drop_more fields place field (slice_get_within fields place field is)
       ∙ ap (λ first. first ∷ drop (place + 1) fields) (get_or_from_slice_get fields place field field is)
 
-  -- there is none
+  -- if there is no field at that place, nothing is left
   past : (found : Option Field) → slice_get fields place ≡ found → option_map place_of found ≡ None → drop place fields ≡ []
   past None is absent = elim (slice_get_cases fields place).1 [
     | inl (its, within, there, same) ↦ absurd (let apart : None ≡ Some its = sym is ∙ there in cc)

@@ -1,5 +1,5 @@
--- What a run is given beside its sources, where it is known which files there are. Own to this project.
---     text_in files name      the text of the file of that name, or why there is none
+-- What a run is given as well as its sources, if it is known which files there are. Own to this project.
+--     text_in files name      the text of the file of that name, or why there is no text
 --     settings_in files it    the table, the script and the input that a run names, or the first error
 --     settings_are            what was answered is that, if no read failed
 use Rattle.std.specs.Prelude.{◌≡◌, ◌<◌, ◌≤◌, nat_le, ℕ, Bool, true, false, List, [], ◌∷◌, ◌++◌, length, Option, Some, None, Result, Ok, Err}
@@ -70,7 +70,7 @@ abbrev pub AreAnsweredBy : Listing → List Read → Type 0
 AreAnsweredBy files [] = Unit {0}
 AreAnsweredBy files (read ∷ reads) = IsAnsweredBy files read.name read.max read.answer × AreAnsweredBy files reads
 
--- and so are those in front, and those behind
+-- and so are the first ones, and those after them
 pub answered_parts : (files : Listing) (front rest : List Read) → AreAnsweredBy files (front ++ rest)
     → AreAnsweredBy files front × AreAnsweredBy files rest
 answered_parts files [] rest are = (tt, are)
@@ -105,7 +105,7 @@ said_nothing wanted (Err (BadScript line)) is = absurd cc
 said_nothing wanted (Err (BadInput line)) is = absurd cc
 said_nothing wanted (Err NoMemory) is = tt
 
--- what is given in place of what is wanted, and what follows
+-- what is given instead of what is wanted, and what follows
 module _ {A B : Type 0} (wanted : Result A SettingsError) (what : A → Result B SettingsError) (result : Result B SettingsError) where
   instead : (given : Result A SettingsError) → wanted ≡ given → Gives (onward given what) result → Gives (onward wanted what) result
   instead given same = subst (λ (it : Result A SettingsError). Gives (onward it what) result) (sym same)
@@ -122,7 +122,7 @@ module _ {A B : Type 0} (wanted : Result A SettingsError) (what : A → Result B
   gives_onward (Err (BadInput line)) is = instead (Err (BadInput line)) is
   gives_onward (Err NoMemory) is = said_nothing (onward wanted what) result
 
--- an error that is given in place of what is wanted stands
+-- an error that is given instead of what is wanted is the error of the whole
 stands : {A B : Type 0} (wanted : Result A SettingsError) (what : A → Result B SettingsError) (error : SettingsError) → Gives wanted (Err error)
     → Gives (onward wanted what) (Err error)
 stands wanted what (Missing name) is = ap (λ it. onward it what) is

@@ -1,6 +1,6 @@
--- What a run is given beside its sources: a table of routines, perhaps a script, and an input. Each is the text of a file, and they are read in
--- this order. Own to this project.
---     text_by read                  what a read gave: the bytes of the file, or why there are none
+-- What a run is given as well as its sources: a table of routines, perhaps a script, and an input. Each is the text of a file, and they are
+-- read in this order. Own to this project.
+--     text_by read                  what a read gave: the bytes of the file, or why there are no bytes
 --     table_in, script_in, input_in what a text is
 --     Gives wanted result           the result is what is wanted, unless memory ran out
 --     IsPart name what reads ..     the one read of a named file, and what its text is
@@ -56,7 +56,7 @@ table_error table.BadVersion = BadVersion
 table_error (table.BadEntry name) = BadEntry name
 table_error table.NoMemory = NoMemory
 
--- a table, or why the text is none
+-- a table, or why the text is not a table
 abbrev pub as_table : Result (List Routine) TableError → Result (List Routine) SettingsError
 as_table (Ok it) = Ok it
 as_table (Err error) = Err (table_error error)

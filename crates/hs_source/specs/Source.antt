@@ -52,7 +52,7 @@ AreTrees [] (tree ∷ trees) = ⊥
 AreTrees (tokens ∷ rest) [] = ⊥
 AreTrees (tokens ∷ rest) (tree ∷ trees) = IsShallow tokens × IsUnit tokens tree × AreTrees rest trees
 
--- with that table the trees of the units come to this: the typed program, or why there is none
+-- with that table the trees of the units come to this: the typed program, or why there is no program
 abbrev pub AreTyped : List Routine → List (List SourceToken) → Result TypedProgram ProgramError → Type 0
 AreTyped table units outcome = (trees : List TranslationUnit) × AreTrees units trees × (typed table trees ≡ outcome)
 

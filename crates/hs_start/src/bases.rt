@@ -26,7 +26,7 @@ pub(crate) struct Bases<'a> {
     ghost of_literals: { first_literal ≡ length (objects_for setting.types.now (variables_of setting.globals.now)) },
 }
 
-/// The number of the object that a variable is, or 0 if it is none.
+/// Returns the number of the object that a variable is, or 0 if it is not an object.
 #[tactic(auto, using(crate::proofs::Naming::object_in_place))]
 fn object_in(variable: Option<&Binding>) -> u32
     ensures { result ≡ object_in (option_copied variable.entry) }

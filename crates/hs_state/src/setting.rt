@@ -13,7 +13,7 @@ use hs_code::Access;
 use hs_tree::{Class, Globals, Literals, Part, Program, Representatives, Routines, TakenFields};
 use hs_types::{Integer, Row, TypeId, Types};
 
-/// What the machine needs of a program besides the bodies of its functions.
+/// What the machine needs of a program, apart from the bodies of its functions.
 #[derive(Clone, Copy)]
 pub struct Setting<'a> {
     /// The types of the program.

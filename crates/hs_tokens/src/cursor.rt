@@ -129,7 +129,7 @@ impl<'a> Cursor<'a> {
         rest
     }
 
-    /// The place of the first byte, or the other if there is none.
+    /// Returns the place of the first byte, or the other place if there is no byte.
     pub(crate) fn place(self, other: Pos) -> Pos
         ensures { result ≡ place_of other (ahead self.entry) }
     {

@@ -152,7 +152,7 @@ abbrev mutual
   pub word_of : Declared → Option Word
   word_of (syntax.pointing pointers direct) = word_of_direct direct
 
-  -- behind the pointers of a declarator
+  -- the word that is named after the pointers of a declarator
   pub word_of_direct : Directly → Option Word
   word_of_direct syntax.nothing = None
   word_of_direct (syntax.identifier word) = Some word

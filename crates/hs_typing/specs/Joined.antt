@@ -44,7 +44,7 @@ module _ (types : TypeTable) (o : Origins) where
       done_stay (done ++ struct_of types o (length done) it ∷ []) rest number first
       (entry_stays done (struct_of types o (length done) it ∷ []) number first at)
 
-  -- the struct of that number, behind those that are done
+  -- the struct of that number, after those that are done
   pub structs_at : (done : List ℕ) (its : List Origin) (number : ℕ) (it : Origin) → slice_get its number ≡ Some it
       → slice_get (structs_of types o done its) (length done + number) ≡ Some (struct_of types o (length done + number) it)
   structs_at done [] number it at = absurd cc

@@ -34,12 +34,12 @@ module _ {A : Type 0} (test : A → Bool) where
   any_either true b c so is = refl
   any_either false b c so is = so is
 
-  -- and with more behind it
+  -- if one of a list meets the test, one of a longer list does
   any_longer : (xs ys : List A) → list_any test xs ≡ true → list_any test (xs ++ ys) ≡ true
   any_longer [] ys is = absurd cc
   any_longer (x ∷ xs) ys is = any_either (test x) (list_any test xs) (list_any test (xs ++ ys)) (any_longer xs ys) is
 
-  -- with one more behind it
+  -- if the last one meets the test, one of the list does
   any_last : (xs : List A) (x : A) → test x ≡ true → list_any test (xs ++ x ∷ []) ≡ true
   any_last [] x is = ap (λ here. here || false) is
   any_last (y ∷ xs) x is = ap (λ rest. test y || rest) (any_last xs x is) ∙ or_true (test y)

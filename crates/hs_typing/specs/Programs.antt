@@ -1,5 +1,5 @@
 -- Typed programs (X3.159-1989 3.7; own where docs/DECISIONS.md says so): what units come to with a table of routines.
---     typed table units             the program, or why there is none
+--     typed table units             the program, or why there is no program
 --     translated table units        the functions of all units, and what is known then
 --     usable_main types functions main      the number of `main`, if that function can be one
 --     parts_of m                    what the units leave at their end; assembled, the program of these parts

@@ -87,7 +87,7 @@ module _ (types : TypeTable) where
   paired (it ∷ rest) [] = []
   paired (it ∷ rest) (id ∷ ids) = bound_routine types it id ∷ paired rest ids
 
-  -- behind those that are done
+  -- after those that are done
   pub bound_paired : (done : List BoundRoutine) (its : List Routine) (ids : List (Option TypeId))
       → bound_routines types done its ids ≡ done ++ paired its ids
   bound_paired done [] ids = sym (append-nil done)

@@ -187,7 +187,7 @@ impl Value {
     ///
     /// # Errors
     ///
-    /// `BadPointer` for what is none, which no typed program has there.
+    /// `BadPointer` if the value is not a pointer. No typed program has such a value there.
     #[inline(always)]
     pub fn as_pointer(&self) -> Result<Pointer, Stop>
         ensures { result ≡ or_stop (pointer_stop self.now) (pointer_in self.now) }

@@ -162,7 +162,7 @@ asked_of it = record {
   names = map string_bytes it.names.items;
 }
 
--- what was read, as a run, or that a number word is none
+-- what was read, as a run, or that a word for a number is not a number
 abbrev pub IsReadAs : List Row → Result RunWords WordsError → Type 0
 IsReadAs rows (Ok it) = asked_in rows ≡ Some (asked_of it)
 IsReadAs rows (Err Usage) = asked_in rows ≡ None

@@ -202,7 +202,7 @@ declarator_opens known inner (tree.pointing pointers direct) fits =
     pointers_open pointers (direct_form known inner direct).pieces
     (direct_opens known inner direct (and_parts (pointers_form pointers).fits (direct_form known inner direct).fits fits).1)
 
--- a text that is one of some words is none that is not
+-- a text that is one of some words differs from a text that is not one of them
 pub apart_from : (words : List (List ℕ)) (text other : List ℕ) → is_among words text ≡ true → is_among words other ≡ false → bytes_eq text other ≡ false
 apart_from words text other is not_other =
     elim (cases_Bool (bytes_eq text other)) [

@@ -41,7 +41,7 @@ module _ {A : Type 0} where
   kept_if true it o is = refl
   kept_if false it o is = absurd cc
 
-  -- nothing is kept behind it
+  -- if nothing is kept, neither this one nor any after it is kept
   kept_none : (b : Bool) (it : A) (o : Option A) → (if b then Some it else o) ≡ None → (b ≡ false) × (o ≡ None)
   kept_none true it o is = absurd cc
   kept_none false it o is = (refl, is)

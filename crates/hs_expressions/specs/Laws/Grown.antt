@@ -57,7 +57,7 @@ plain_row its types = (grows_row its types, refl)
 pub plain_list : (list : Parameters) (types : TypeTable) → GrowsPlainly types (with_list list types)
 plain_list list types = (grows_list list types, refl)
 
--- with an answer beside it, and the same structs
+-- the table that is returned with an answer has grown, and has the same structs
 abbrev pub Growing : {A E : Type 0} → TypeTable → Result (A × TypeTable) E → Type 0
 Growing types (Ok p) = GrowsPlainly types p.1
 Growing types (Err why) = Unit {0}

@@ -39,7 +39,7 @@ no_fewer a b is = omega (arith, is)
 below_base : (k a b : ℕ) → k < a → a ≤ b → k < b
 below_base k a b is is' = omega (arith, is, is')
 
--- a brace that is not there is none
+-- an origin whose brace is `None` has no brace
 no_brace : (it : Origin) (brace : Brace) → it.brace ≡ None → it.brace ≡ Some brace → ⊥
 no_brace it brace none some = cc
 
@@ -86,7 +86,7 @@ awaited None same is = cc
 awaited (Some None) same is = cc
 awaited (Some (Some body)) same is = cc
 
--- below the base there is none of this unit
+-- a number below the base is not one of this unit
 not_below : (k n base : ℕ) → k < base → base ≤ n → k ≡ n → ⊥
 not_below k n base less from same = omega (arith, less, from, same)
 

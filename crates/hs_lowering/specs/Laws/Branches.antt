@@ -61,7 +61,7 @@ module _ (program : CodeProgram) (variables : List VariableDecl) (bound : ℕ) (
       stays (went bits t) is = is
       stays (over outcome t) is = tt
 
-  -- Jump, behind a step
+  -- Jump, after a step
   jump_performs : {A : Type 0} {fact : A → Type 0} {first : Step A} {start : Point} → (at target depth : ℕ) (left : A → List Value)
       → slice_get code.ops at ≡ Some (placed piece head (op.Jump target) depth) → Performing fact first start (λ a. at_ at (left a))
       → Performing fact first start (λ a. at_ target (left a))
@@ -161,7 +161,7 @@ module _ (program : CodeProgram) (variables : List VariableDecl) (bound : ℕ) (
         ∷ placed piece head (op.Num 0) depth
         ∷ []
 
-    -- 1, behind the second test
+    -- 1, after the second test
     one_performs : (at depth : ℕ) → Holds code at (answers at depth)
         → Performing Any (give (number 1)) (at_ (suc at) stack) (λ v. at_ (suc (suc (suc (suc at)))) (v ∷ stack))
     unfolding answers
@@ -181,7 +181,7 @@ module _ (program : CodeProgram) (variables : List VariableDecl) (bound : ℕ) (
     last_performs at depth holds true = one_performs at depth holds
     last_performs at depth holds false = none_performs at depth holds
 
-    -- behind the first test
+    -- after the first test
     rest_performs : (zero_at depth : ℕ) → Holds code zero_at (both_hold piece head zero_at depth (second (suc zero_at) depth)) → (is : Bool)
         → Performing Any (either is (other >>= condition head.at.pos >>= (λ is. give (truth_value is))) (give (truth_value false)))
         (at_ (place_if is zero_at (suc (suc (suc (after (suc zero_at) (second (suc zero_at) depth)))))) stack)

@@ -3,7 +3,7 @@
 --     scalars_are, only_scalar            so are those of each object, and a scalar is its only one
 --     FitsConstant program id found       the constant of a scalar, if it has one, is of its type
 --     Rest count at                       control that comes there with nothing on the stack finds the operands of that many operations
---     Passes its                          so does control that comes to these operations, if it does behind them
+--     Passes its                          so does control that comes to these operations, if control after them does
 --     declarations_pass                   the law: the declarations of a block
 use Rattle.std.proofs.Common.{◌≡◌, ℕ, zero, suc, ◌+◌, ◌==◌, Bool, true, false, ◌&&◌, ◌||◌, List, [], ◌∷◌, length, slice_get, Option, Some, None, IsTrue, is_some, if◌then◌else◌, refl, sym, ap, ◌∙◌, subst}
 use Rattle.std.specs.List.{AllByRecursion}
@@ -166,7 +166,7 @@ module _ (program : TypedProgram) (function : TypedFunction) (its_code : Functio
   abbrev pub Rest : ℕ → ℕ → Type 0
   Rest count at = Stacked scope its_code count at []
 
-  -- operations that go on behind them
+  -- operations after which control goes on
   pub record Passes (its : Part) : Type 0 where
     pub go : (count start : ℕ) → Holds its_code start (its start).ops → Rest count (after start (its start).ops) → Rest count start
 
@@ -183,7 +183,7 @@ module _ (program : TypedProgram) (function : TypedFunction) (its_code : Functio
   pub passes_nothing : Passes nothing
   passes_nothing = record { go = λ count start holds more. more }
 
-  -- one behind the other
+  -- one after the other
   passes_then : {f g : Part} → Passes f → Passes g → Passes (f then g)
   passes_then {f = f} {g = g} before behind =
       record {

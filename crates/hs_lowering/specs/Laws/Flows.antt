@@ -1,5 +1,5 @@
--- Steps after which control goes one of several ways: the code beside the meaning (own).
---     goes_by targets end_ flow t outcome after     what the run comes to from where the flow leads: behind the code, to a target, or to the caller
+-- Steps after which control goes one of several ways: how the code follows the meaning (own).
+--     goes_by targets end_ flow t outcome after     what the run comes to from where the flow leads: after the code, to a target, or to the caller
 --     PerformsTo first start                        the code from that operation does what the step does, with nothing on the stack
 --     thens_to, silent, next_statement, ..          one after the other
 use Rattle.std.proofs.Common.{◌≡◌, ℕ, suc, Bool, List, [], ◌∷◌, slice_get, Some, refl, sym, ap, ◌∙◌, subst}
@@ -52,7 +52,7 @@ module _ (program : CodeProgram) (variables : List VariableDecl) (bound : ℕ) (
   pub record PerformsTo {A : Type 0} (first : Step A) (point : Point) (goes : Goes A) : Type 0 where
     pub go : (s : State) → IsAt program variables bound s → LeadsTo goes point s (first s)
 
-  -- behind a step that goes on in one way
+  -- after a step that goes on in one way
   pub thens_to : {A B : Type 0} → {fact : A → Type 0} → {first : Step A} → {f : A → Step B} → {point : Point} → {mid : A → Point} → {goes : Goes B}
       → Performs program variables bound code waiting choices fact first point mid → ((a : A) → fact a → PerformsTo (f a) (mid a) goes)
       → PerformsTo (first >>= f) point goes
@@ -69,7 +69,7 @@ module _ (program : CodeProgram) (variables : List VariableDecl) (bound : ℕ) (
       by s (went a t) is = carried s a t is.2 (f a t) ((rest a is.0).go t is.1)
       by s (over outcome end_) is = is
 
-  -- behind a step that goes one of several ways
+  -- after a step that goes one of several ways
   pub follows_to : {A B : Type 0} → {first : Step A} → (f : A → Step B) → {point : Point} → {goes : Goes A} → {ends : Goes B}
       → PerformsTo first point goes
       → ((a : A) (s t : State) → IsAt program variables bound t

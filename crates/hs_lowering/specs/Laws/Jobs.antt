@@ -514,7 +514,7 @@ module _ (typed : TypedProgram) where
       (is_call : its.op ≡ op.Call place) (found : slice_get typed.functions place ≡ Some function)
       (coded : slice_get program_code.functions place ≡ Some (function_with function (code_of function)))
       (are : AreAsMany function.parameters values) where
-    -- before the call, and behind it
+    -- before the call, and after it
     caller_at : Point
     caller_at = at_point program_code variables 0 code waiting choices at (onto values stack)
 

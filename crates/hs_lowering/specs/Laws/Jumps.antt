@@ -1,7 +1,7 @@
--- The code of an expression jumps only inside itself, or right behind itself (own).
---     JumpsWithin low high its       the operation is no jump, or goes to one of these operations
+-- The code of an expression jumps only inside itself, or to the operation right after it (own).
+--     JumpsWithin low high its       the operation is not a jump, or jumps to one of these operations
 --     AllWithin low high list        each of these
---     Within its                     code jumps only from its first operation to the one behind it, wherever it stands
+--     Within its                     code jumps only to its own operations and to the one right after them, wherever it is
 --     right_within, left_within      the law; value_within: of a value in a function
 use Rattle.std.proofs.Common.{◌≤◌, ℕ, suc, Bool, true, false, List, [], ◌∷◌, ◌++◌, slice_get, Option, Some, None, sym, subst, arith}
 use Rattle.std.specs.List.{AllByRecursion}
@@ -63,7 +63,7 @@ both_within low high (one ∷ first) second is also = (is.0, both_within low hig
 pub record Within (its : Lowered) : Type 0 where
   pub at : (start depth : ℕ) → AllWithin start (after start (its start depth)) (its start depth)
 
--- one list behind another
+-- one list after another
 joined : (start : ℕ) (first second : List Placed) → AllWithin start (after start first) first
     → AllWithin (after start first) (after (after start first) second) second → AllWithin start (after start (first ++ second)) (first ++ second)
 joined start first second is also =
@@ -168,7 +168,7 @@ module _ (piece : ℕ) (head : Head) where
   answered_within : {test : Lowered} → Within test → Within (answered piece head test)
   answered_within is = chosen_within is (only_within (op.Num 1) (λ low high. tt)) (only_within (op.Num 0) (λ low high. tt))
 
-  -- `&&`, behind its first operand
+  -- `&&`, after its first operand
   held_within : (at depth : ℕ) (second : List Placed) → AllWithin (suc at) (after (suc at) second) second
       → AllWithin at (suc (suc (suc (suc (after (suc at) second))))) (both_hold piece head at depth second)
   held_within at depth second is = (

@@ -196,7 +196,7 @@ module _ (scope : Scope) (code : FunctionCode) where
         (only_leaves (op.Num 1) kinds stacks.number (λ cases at next follows. follows) refl)
         (only_leaves (op.Num 0) kinds stacks.number (λ cases at next follows. follows) refl)
 
-    -- `&&`, behind its first operand
+    -- `&&`, after its first operand
     both_held : (count at depth : ℕ) (kind : Kind) (kinds : List Kind) (second : Lowered) → length kinds ≡ depth → Is stacks.number kind
         → Leaves second (Is stacks.number) kinds → Holds code at (both_hold piece head at depth (second (suc at) depth))
         → Stacked scope code count (suc (suc (suc (suc (after (suc at) (second (suc at) depth)))))) (stacks.number ∷ kinds)

@@ -139,7 +139,7 @@ unfolding past
 past_append base [] second = refl
 past_append base (its ∷ first) second = past_append (suc base) first second
 
--- ---- cases one behind the other
+-- ---- cases one after the other
 
 at_count : (base other next : ℕ) (a : List Case) → base ≡ other → past base a ≡ next → past other a ≡ next
 at_count base other next a same is = ap (λ n. past n a) (sym same) ∙ is
@@ -258,7 +258,7 @@ module _ (setting : Setting) (function : TypedFunction) where
       (statement_code setting function it (pieces_for labels counts) targets (after start (labels_code counts.pieces labels))).ops)
       (cases_for labels count)
 
-  -- the labels of a block are those of its list, behind its declarations
+  -- the labels of a block are those of its list, which comes after its declarations
   pub block_labels : (opening closing : _) (declarations : List TypedDeclaration) (list : TypedStatements) (counts : Counts) (targets : Targets)
       (start : ℕ) → (block_code setting function (tree.compound opening declarations list closing) counts targets start).labels
       ≡ (list_code setting function list (pieces_for declarations (one_piece counts)) targets

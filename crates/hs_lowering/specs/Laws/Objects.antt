@@ -154,7 +154,7 @@ module _ (program : CodeProgram) (variables : List VariableDecl) (bound : ℕ) (
   abbrev pub set_step : Variable → Value → Step Value
   set_step name value = perform program.setting at_head (operation.set name) (value ∷ [])
 
-  -- Load behind an address
+  -- Load after an address
   load_turns : (access : Access) (X : Lowered) (first : Step Value) (before below : List Value) → Turning' X Any first before (λ v. v ∷ below)
       → Turning' (on_one piece head (op.Load (access_in access)) X) Any (first >>= load_step access) before (λ v. v ∷ below)
   load_turns access X first before below turns =
@@ -165,7 +165,7 @@ module _ (program : CodeProgram) (variables : List VariableDecl) (bound : ℕ) (
       (λ a s is. perform_stays program variables bound code waiting choices piece at_head (operation.load access) (a ∷ []) refl s is)
       X first before below turns
 
-  -- Store behind an address and a value
+  -- Store after an address and a value
   pub store_turns : (access : Access) (X Y : Lowered) (first : Step Value) (second : Value → Step Value) (before below : List Value)
       → Turning' X Any first before (λ v. v ∷ below) → ((a : Value) → Turning' Y Any (second a) (a ∷ below) (λ b. b ∷ a ∷ below))
       → Turning' (on_two piece head (op.Store (access_in access)) X Y) Any (first >>= (λ a. second a >>= store_step access a)) before (λ v. v ∷ below)
@@ -177,7 +177,7 @@ module _ (program : CodeProgram) (variables : List VariableDecl) (bound : ℕ) (
       (λ a b s is. perform_stays program variables bound code waiting choices piece at_head (operation.store access) (a ∷ b ∷ []) refl s is)
       X Y first second before below turns others
 
-  -- Set behind a value
+  -- Set after a value
   pub set_turns : (name : Variable) → is_slot_declared program.setting.types (declared_in program.setting variables name) ≡ true → (X : Lowered)
       → (first : Step Value) (before below : List Value) → Turning' X Any first before (λ v. v ∷ below)
       → Turning' (on_one piece head (op.Set name) X) Any (first >>= set_step name) before (λ v. v ∷ below)

@@ -108,7 +108,7 @@ module _ (program : CodeProgram) (variables : List VariableDecl) (bound : ℕ) (
     op_gives its it before left runs =
         only_turns program variables bound code waiting choices piece head its (give it) before left runs (λ s is. (tt, is))
 
-    -- ---- operations behind others
+    -- ---- operations after others
 
     pub one_turns : (its : Op) (act : Value → Step Value) → RunsOne head.at.pos its act
         → ((a : Value) (s : State) → At s → Stays program variables bound code waiting choices Any (act a s)) → (X : Lowered) (first : Step Value)

@@ -1,7 +1,7 @@
 -- Where parts of code stand (own).
 --     HoldsCases code base cases          the function has these cases from that one on
 --     Held code its base start            it has the operations and the cases of a part
---     held_next, length_next              of the part behind another one
+--     held_next, length_next              of the part after another one
 --     sliced                              the cases of one switch, of which it names the first and the one after the last
 use Rattle.std.proofs.Common.{◌≡◌, ℕ, zero, suc, ◌+◌, ◌-◌, List, [], ◌∷◌, ◌++◌, length, take, drop, slice_get, Some, None, refl, sym, ap, ◌∙◌, subst, arith}
 use Rattle.hs_base.specs.declared.pos.Pos.{Pos}
@@ -57,7 +57,7 @@ module _ (code : FunctionCode) where
         cases = cases_back code.cases base (f start).cases (g (after start (f start).ops)).cases held.cases;
       }))
 
-  -- behind a part without cases
+  -- after a part without cases
   pub held_next : (f g : Part) (base start mid : ℕ) → (f start).cases ≡ [] → after start (f start).ops ≡ mid
       → Held code ((f then g) start) base start → Held code (g mid) base mid
   held_next f g base start mid none ends held = held_back f g base start base mid (counted (f start).cases none) ends held
@@ -69,7 +69,7 @@ module _ (code : FunctionCode) where
 pub length_next : (f g : Part) (start mid : ℕ) → after start (f start).ops ≡ mid → after start ((f then g) start).ops ≡ after mid (g mid).ops
 length_next f g start mid ends = after_append start (f start).ops (g (after start (f start).ops)).ops ∙ ap (λ m. after m (g m).ops) ends
 
--- an operation behind a value
+-- an operation after a value
 pub length_given : (piece : ℕ) (at : Pos) (value : Lowered) (its : Op) (start : ℕ)
     → after start (given piece at value its start).ops ≡ suc (after start (value start 0))
 length_given piece at value its start = after_append start (value start 0) (placed_at piece at its 1 ∷ [])

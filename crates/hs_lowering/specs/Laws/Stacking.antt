@@ -1,7 +1,7 @@
 -- Each operation of a function has its operands (own).
 --     Rests count at                 nothing is on the stack there, and the next operations, that many at most, have their operands
 --     AllRest count labels           so have those from each of these labels on; RestsAll, from a place and from labels
---     statement_rest, block_rest     the law of a statement: where that holds behind it, and where `break` and `continue` go, it holds from its start
+--     statement_rest, block_rest     the law of a statement: if that holds after it, and where `break` and `continue` go, it holds from its start
 --     function_stacked               each operation of a function that is reached has its operands
 --     code_whole                     the code of a program is code: that, and what it names is in range
 use Rattle.std.proofs.Common.{◌≡◌, ◌⊎◌, inl, inr, ◌≤◌, ◌<◌, ◌==◌, ℕ, zero, suc, Bool, true, false, List, [], ◌∷◌, ◌++◌, slice_get, Option, Some, None, IsTrue, is_some, refl, sym, ap, ◌∙◌, subst, arith}
@@ -49,7 +49,7 @@ use Rattle.hs_types.specs.declared.integer.Integer.{Integer}
 
 -- ---- cases
 
--- it is one behind the first one
+-- it is after the first one
 past_first : (first place : ℕ) → first ≤ place → (first == place) ≡ false → suc first ≤ place
 past_first first place from is = grind (arith, nat_tests, from, is)
 
@@ -144,7 +144,7 @@ module _ (program : TypedProgram) (function : TypedFunction) (code : FunctionCod
       step scope code count at (placed_at piece pos_ (op.Jump target) 0) [] [] there refl refl
       (λ next follows. rests_at count target next (sym follows) rests)
 
-  -- a mark in front of a loop: behind it, one operation less is asked for
+  -- a mark before a loop: after it, one operation less is asked for
   head_rest : (count at piece : ℕ) (pos_ : Pos) → slice_get code.ops at ≡ Some (placed_at piece pos_ op.Mark 0) → Rests count (suc at)
       → Rests (suc count) at
   head_rest count at piece pos_ there rests =
@@ -478,7 +478,7 @@ module _ (program : TypedProgram) (function : TypedFunction) (code : FunctionCod
 
   -- ---- switch
 
-  -- where the number goes: to a label, or behind the block
+  -- where the number goes: to a label, or after the block
   choose_rest : (count start piece : ℕ) (pos_ : Pos) (e : RightValue) (first last : ℕ) (labels : List (Label × ℕ)) (otherwise : ℕ) → RightFits e
       → IsPromoted program.types (type_of e) → past first (cases_in labels) ≡ last → CasesFrom code.cases first (cases_in labels)
       → Holds code start (given piece pos_ (value_code setting function piece e) (op.Choose (goal_of setting function first last labels otherwise)) start).ops
@@ -494,7 +494,7 @@ module _ (program : TypedProgram) (function : TypedFunction) (code : FunctionCod
           (case_holds (λ it. Rests count it.target) code.cases first so.place (cases_in labels) so.its there (cases_rest count labels are) so.from
           (subst (λ n. so.place < n) (sym counted) so.before) so.there)
 
-  -- the value, the block, and the join behind it
+  -- the value, the block, and the join after it
   switch_rest : (count : ℕ) (at : Place) (e : RightValue) (test end_ base first last : ℕ) (body : Targets → Part) (outer : Targets) (start : ℕ)
       → RightFits e → IsPromoted program.types (type_of e) → ((a b : Targets) → SameParts (body a) (body b))
       → ((targets : Targets) (m : ℕ) → past base (body targets m).cases ≡ first)
@@ -787,7 +787,7 @@ module _ (program : TypedProgram) (function : TypedFunction) (table : IsRight pr
   unfolding end_of body_part
   body_ends = ((same_block (setting_of program) function function.body body_counts (end_at end_of) nowhere).at 0).0
 
-  -- a return behind the body
+  -- a return after the body
   end_rests : (count : ℕ) → Rest program function (code_of program function) count end_of
   unfolding end_part
   end_rests count =

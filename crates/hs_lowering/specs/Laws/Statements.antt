@@ -67,7 +67,7 @@ module _ (function : TypedFunction) (program : CodeProgram) (bound : ℕ) (code 
   abbrev pub bare : ℕ → Point
   bare at = bare_point program function.variables bound code waiting choices at
 
-  -- from one operation on; `end_` is behind the code
+  -- from one operation on; `end_` is the operation after the code
   abbrev pub Doing : Step Flow → ℕ → Targets → ℕ → Type 0
   Doing step at targets end_ =
       PerformsTo program function.variables bound code waiting choices step (bare at)
@@ -288,7 +288,7 @@ module _ (function : TypedFunction) (program : CodeProgram) (bound : ℕ) (code 
         by false so others = others so
 
     module _ (loops : Loops again) where
-      -- the join behind a branch, or behind a loop
+      -- the join after a branch, or after a loop
       pub behind_mark : {step : Step Flow} → {at : ℕ} → (targets : Targets) (end_ piece : ℕ) (pos_ : Pos)
           → slice_get code.ops end_ ≡ Some (placed_at piece pos_ op.Mark 0) → Doing step at targets end_ → Doing step at targets (suc end_)
       behind_mark targets end_ piece pos_ there doing = passed targets end_ (suc end_) (by_mark end_ piece pos_ there) doing
@@ -916,7 +916,7 @@ module _ (function : TypedFunction) (program : CodeProgram) (bound : ℕ) (code 
                 held_back code statement others within.cases first_at (after_statement it within).cases rest_at
                 (cases_of_statement program.setting function it within targets first_at) refl from_first
 
-        -- from the first label of the list that is so, or behind the list
+        -- from the first label of the list that is so, or after the list
         pub labelled_does : (is : Label → Bool) (list : TypedStatements) (counts : Counts) (targets : Targets) (start : ℕ) → FitsList program list
             → Held code (list_code program.setting function list counts targets start) counts.cases start
             → Doing (executed_all program.setting again function (from_label is) list)

@@ -36,7 +36,7 @@ pub place_append : (is : Label → Bool) (first second : List (Label × ℕ)) (o
 place_append is [] second otherwise = refl
 place_append is (its ∷ first) second otherwise = ap (pick (is its.0) its.1) (place_append is first second otherwise)
 
--- if there is none
+-- if there is no such label
 pub place_of_none : (is : Label → Bool) (labels : List (Label × ℕ)) (otherwise : ℕ) → any_in is labels ≡ false → place_of is labels otherwise ≡ otherwise
 place_of_none is [] otherwise no_ = refl
 place_of_none is (its ∷ rest) otherwise no_ = by (is its.0) (place_of_none is rest otherwise) no_

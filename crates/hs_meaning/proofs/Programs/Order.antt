@@ -126,7 +126,7 @@ further line n = plus line 17 char_pointer_id 1 (pointer line 15) (num line 19 n
 no_bytes_at_the_end : run_of (moves 10 (further 10 4) (pointer 10 22) (long_num 10 25 0) ∷ return 11 (num 11 12 7) ∷ []) comes_to finished [] (pos 7)
 no_bytes_at_the_end = (grind (arith), refl)
 
--- BlockMove(p + 5, p, 0); but none behind it
+-- BlockMove(p + 5, p, 0); but not past its end
 no_bytes_past_the_end : run_of (moves 10 (further 10 5) (pointer 10 22) (long_num 10 25 0) ∷ []) comes_to stopped [] stop.Range 10 5
 no_bytes_past_the_end = (grind (arith), refl)
 

@@ -1,6 +1,6 @@
 -- What a decision of the schedule changes: blocks that may move, and nothing else.
 --     decisions_keep_others       a block that the decision does not change is as it was
---     names_count                 what a decision names besides counts for nothing, so every list of decisions is a schedule
+--     names_count                 only blocks that may change count in a decision, so every list of decisions is a schedule
 --     nothing_moves_past_the_end  past the end of the schedule nothing moves
 use Rattle.std.proofs.Common.{◌≡◌, ℕ, suc, ◌+◌, Bool, List, [], ◌∷◌, slice_get, Option, Some, None, refl, ap}
 use Rattle.hs_heap.specs.Blocks.{Block}

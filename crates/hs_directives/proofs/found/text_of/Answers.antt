@@ -16,7 +16,7 @@ returns-in-Ok-clause-read g c = record {
   answers = refl;
 }
 
--- or why there are none
+-- or why there are no bytes
 pub returns-in-Err-clause-read : goal.returns-in-Err-clause-read
 returns-in-Err-clause-read g c = record {
   answer = Err c.in-Err.end;

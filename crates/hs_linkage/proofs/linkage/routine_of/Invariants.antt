@@ -3,7 +3,7 @@ use Rattle.hs_linkage.specs.Definitions.{same_name, first_place}
 use Rattle.hs_linkage.specs.Indexes.{onward}
 use Rattle.hs_linkage.proofs.linkage.routine_of.Given as goal
 
--- the routines that are left have the place of all, but for those that are behind
+-- the place among all routines is the place among those that are left, plus the number of those before them
 abbrev pub invariant-routines : goal.invariant-routines
 invariant-routines l =
     onward l.place (first_place (λ it. same_name it.name l.fn.name) l.rest) ≡ first_place (λ it. same_name it.name l.fn.name) l.fn.routines

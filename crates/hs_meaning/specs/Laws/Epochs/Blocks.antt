@@ -16,7 +16,7 @@ use native.Mathlib.Numerals.{unary_clauses}
 
 -- ---- the block of a number
 
--- the epoch of a block, or 0 if there is none
+-- the epoch of a block, or 0 if there is no block
 abbrev epoch_in : Option Block → ℕ
 epoch_in None = 0
 epoch_in (Some block) = block.epoch

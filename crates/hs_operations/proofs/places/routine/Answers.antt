@@ -1,4 +1,4 @@
--- A routine takes the values on top, which are those behind the others.
+-- A routine takes the values on top, which are those after the others.
 use Rattle.std.proofs.Common.{◌≡◌, ◌++◌, ◌-◌, ◌<◌, ℕ, false, List, length, reverse, take, slice_get, Option, Some, Err, refl, subst, ◌∙◌, arith}
 use Rattle.std.proofs.lemmas.Bool.Decides.{nat_tests}
 use Rattle.std.proofs.lemmas.List.{take-append-drop}

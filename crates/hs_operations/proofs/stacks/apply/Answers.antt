@@ -1,4 +1,4 @@
--- The values on top are those behind the others.
+-- The values on top are those after the others.
 use Rattle.std.proofs.Common.{◌≡◌, ◌++◌, ◌-◌, length, take, arith}
 use Rattle.std.proofs.lemmas.List.{take-append-drop}
 use Rattle.hs_code_run.specs.Steps.{operation_of}

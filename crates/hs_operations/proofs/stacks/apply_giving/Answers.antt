@@ -1,4 +1,4 @@
--- The value is put in the place of those on top.
+-- The value replaces those on top.
 use Rattle.std.proofs.Common.{◌≡◌, ◌++◌, ◌-◌, length, take, arith}
 use Rattle.std.proofs.lemmas.List.{take-append-drop}
 use Rattle.hs_code_run.specs.Steps.{operation_of}

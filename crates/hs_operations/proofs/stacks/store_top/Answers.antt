@@ -1,4 +1,4 @@
--- The value is put in the place of both.
+-- The value replaces both values.
 use Rattle.std.proofs.Common.{◌≡◌, ◌++◌, ◌∷◌, [], ◌-◌, List, length, take, Ok, sym, subst, arith}
 use Rattle.std.proofs.lemmas.List.{take-append-drop}
 use Rattle.hs_code.specs.declared.op.Op.TheVariants as op

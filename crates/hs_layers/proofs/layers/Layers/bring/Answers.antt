@@ -5,7 +5,7 @@ use Rattle.std.proofs.lemmas.Option.{get_or_from_slice_get}
 use Rattle.hs_layers.specs.Layers.{Layered, brought}
 use Rattle.hs_layers.proofs.layers.Layers.bring.Goals as goal
 
--- what is behind the place where the list on top begins
+-- what is after the place where the list on top begins
 taken_out : {T : Type 0} (base place : ℕ) (its : List T) (item : T) → base ≤ length its
     → drop base ((take (base + place) its ++ drop (suc (base + place)) its) ++ item ∷ []) ≡ brought place item (drop base its)
 taken_out base place its item within =

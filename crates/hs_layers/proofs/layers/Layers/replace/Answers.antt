@@ -1,4 +1,4 @@
--- A write behind the place where the list on top begins is a write in that list, and what was there was in it.
+-- A write after the place where the list on top begins is a write in that list, and the item that was there was in that list.
 use Rattle.std.proofs.Common.{◌<◌, length, drop, sym, ap, ◌∙◌, refl, arith, subst, get_or, List}
 use Rattle.std.proofs.lemmas.Grind.{common_steps}
 use Rattle.std.proofs.lemmas.List.{drop-set-add, get_or-drop}

@@ -1,4 +1,4 @@
--- A write behind the place where the list on top begins is a write in that list.
+-- A write after the place where the list on top begins is a write in that list.
 use Rattle.std.proofs.lemmas.Grind.{common_steps}
 use Rattle.std.proofs.Common.{arith}
 use Rattle.std.proofs.lemmas.List.{drop-set-add}

@@ -1,4 +1,4 @@
--- What is cut behind the place where the list on top begins is cut from that list.
+-- What is cut after the place where the list on top begins is cut from that list.
 use Rattle.std.proofs.Common.{arith}
 use Rattle.std.proofs.lemmas.Grind.{common_steps}
 use Rattle.std.proofs.lemmas.List.{drop-take}
