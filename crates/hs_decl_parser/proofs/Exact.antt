@@ -3,13 +3,12 @@
 --     Parsed tokens its rest              the external declarations so far, and the tokens after them
 --     unit_only, stuck_none               the same tokens are one unit at most, and none if the reading is stuck
 --     stuck_once                          the place at which it is stuck is one
-use Rattle.std.proofs.Common.{◌≡◌, Bool, true, false, List, [], ◌∷◌, ◌++◌, length, take, drop, Some, None, refl, ap, sym, ◌∙◌, subst, append_assoc}
+use Rattle.std.proofs.Common.{◌≡◌, List, [], ◌∷◌, ◌++◌, length, take, drop, Some, None, refl, ap, sym, ◌∙◌, subst, append_assoc}
 use Rattle.std.proofs.Math.Seq.{take-append_seam}
-use Rattle.std.specs.Prelude.{◌&&◌}
 use Rattle.std.proofs.lemmas.List.{append-nil, take-append-drop}
 use Rattle.hs_base.specs.declared.pos.Pos.{Pos}
 use Rattle.hs_tokens.specs.declared.token.SourceToken.{SourceToken}
-use Rattle.hs_syntax.specs.Forms.{Form, ◌⨾◌, nothing_at_all, Spells, IsOf}
+use Rattle.hs_syntax.specs.Forms.{Form, ◌⨾◌, Spells, IsOf}
 use Rattle.hs_syntax.specs.Grammar.{external_form, unit_form, IsUnit}
 use Rattle.hs_syntax.specs.Phrases.{made_by}
 use Rattle.hs_syntax.specs.Trees.{ExternalDeclaration, TranslationUnit}
@@ -81,10 +80,6 @@ pub record Parsed (tokens : List SourceToken) (its : TranslationUnit) (rest : Li
   pub whole : tokens ≡ front ++ rest
   pub is : IsUnit front its
 
--- none so far
-pub none_parsed : (tokens : List SourceToken) → Parsed tokens [] tokens
-none_parsed tokens = record { front = []; whole = refl; is = (refl, tt) }
-
 -- one more
 pub more_parsed : (tokens : List SourceToken) (its : TranslationUnit) (rest : List SourceToken) (it : ExternalDeclaration) (left : List SourceToken)
     → Parsed tokens its rest → external_at (names_of its) rest ≡ Some (it, left) → Parsed tokens (its ++ it ∷ []) left
@@ -96,11 +91,6 @@ more_parsed tokens its rest it left parsed read =
       is = subst (λ (form : Form). IsOf form (parsed.front ++ begins.front)) (sym (more_form [] its it))
           (is_behind (unit_form [] its) (external_form (names_of its) it) parsed.front begins.front parsed.is begins.is);
     }
-
--- all of them
-pub whole_parsed : (tokens : List SourceToken) (its : TranslationUnit) → Parsed tokens its [] → IsUnit tokens its
-whole_parsed tokens its parsed =
-    subst (λ (sources : List SourceToken). IsUnit sources its) (sym (parsed.whole ∙ append-nil parsed.front)) parsed.is
 
 -- the first that is wrong
 pub stuck_parsed : (tokens : List SourceToken) (its : TranslationUnit) (source : SourceToken) (rest : List SourceToken)

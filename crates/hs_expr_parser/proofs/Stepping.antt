@@ -700,13 +700,6 @@ constants_goes known its rest comma next it left is other read =
     let more : OneConstant × List SourceToken → Read (List OneConstant × Bool) = λ it. constants_on known (its ++ it.0 ∷ []) it.1 in
     constants_behind known its rest comma next is other ∙ constants_step known its next ∙ ap (λ found. found >>= more) read
 
-pub constants_fails : (known : Known) (its : List OneConstant) (rest : List SourceToken) (comma : Place) (next : List SourceToken)
-    → mark_at (codes ",") rest ≡ Some (comma, next) → is_mark_ahead (codes "}") next ≡ false → constant_at known next ≡ None
-    → constants_on known its rest ≡ None
-constants_fails known its rest comma next is other read =
-    let more : OneConstant × List SourceToken → Read (List OneConstant × Bool) = λ it. constants_on known (its ++ it.0 ∷ []) it.1 in
-    constants_behind known its rest comma next is other ∙ constants_step known its next ∙ ap (λ found. found >>= more) read
-
 pub some_arguments_none : (known : Known) (tokens : List SourceToken) → is_mark_ahead (codes ")") tokens ≡ true
     → some_arguments_at known tokens ≡ Some ([], tokens)
 unfolding some_arguments_at

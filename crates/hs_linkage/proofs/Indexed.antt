@@ -1,7 +1,6 @@
 -- The indexes of definitions stay right as a definition comes.
 use Rattle.std.proofs.Common.{◌≡◌, ◌&&◌, ℕ, suc, Bool, true, false, List, [], ◌∷◌, ◌++◌, length, Option, None, Some, nat_eq, refl, sym, ap, ◌∙◌, if◌then◌else◌, inl, inr}
-use Rattle.std.specs.Prelude.{is_some}
-use Rattle.std.specs.Cmp.Lexicographic.{pointwise, bytes_decides}
+use Rattle.std.specs.Cmp.Lexicographic.{pointwise}
 use Rattle.std.proofs.lemmas.Bool.Decides.{eqb_tells}
 use Rattle.hs_linkage.specs.Indexes.{has_name, own_names, or_place, PutsFirst, Holds, defined_as, externals_by, IsIndexed}
 use Rattle.hs_linkage.specs.Definitions.{later, first_place, is_definition_of, definitions_in, definition_of, text_of, is_internal}
@@ -112,29 +111,3 @@ definitions_by_statics statics number unit (syntax.function_definition words dec
     ap (λ b. defined_as (text_of (word_of declarator)) number b ∷ externals_by statics number its) (are (text_of (word_of declarator)))
     ∙ ap (λ rest. definition_of number unit (text_of (word_of declarator)) ∷ rest) (definitions_by_statics statics number unit its are)
 definitions_by_statics statics number unit (syntax.declaration it ∷ its) are = definitions_by_statics statics number unit its are
-
--- a name that has a place already
-pub first-again : (name : List ℕ) (number : ℕ) (names : List (List ℕ × ℕ)) → is_some (at name names) ≡ true → PutsFirst name number names names
-first-again name number names some text = again (pointwise nat_eq name text) refl
-  where
-    stays : (found : Option ℕ) → is_some found ≡ true → found ≡ or_place found number
-    stays None some = absurd cc
-    stays (Some place) some = refl
-
-    again : (b : Bool) → pointwise nat_eq name text ≡ b → at text names ≡ (if b then or_place (at text names) number else at text names)
-    again true same = stays (at text names) (ap (λ it. is_some (at it names)) (sym ((bytes_decides name text).0 same)) ∙ some)
-    again false same = refl
-
--- a name that has none
-pub first-new : (name : List ℕ) (number : ℕ) (old new : List (List ℕ × ℕ)) → is_some (at name old) ≡ false
-    → ((text : List ℕ) → at text new ≡ (if pointwise nat_eq name text then Some number else at text old)) → PutsFirst name number old new
-first-new name number old new none puts text = puts text ∙ first (pointwise nat_eq name text) refl
-  where
-    first : (b : Bool) → pointwise nat_eq name text ≡ b
-        → (if b then Some number else at text old) ≡ (if b then or_place (at text old) number else at text old)
-    first true same = unplaced (at text old) (ap (λ it. is_some (at it old)) (sym ((bytes_decides name text).0 same)) ∙ none)
-      where
-        unplaced : (found : Option ℕ) → is_some found ≡ false → Some number ≡ or_place found number
-        unplaced None none = refl
-        unplaced (Some place) none = absurd cc
-    first false same = refl

@@ -2,6 +2,5 @@ mod Chained
 mod Indexed
 mod KeptChains
 mod Marked
-mod Named
 mod Onward
 mod Unfit

@@ -2,8 +2,8 @@
 --     items_on, items_next, items_end            of the variables of a declaration
 --     declarations_on, .., marks_on, ..          of declarations, and of labels
 --     list_on, list_next, list_end               of statements with their labels
---     codes_on, codes_next, codes_end            of the code of functions
-use Rattle.std.proofs.Common.{◌≡◌, ◌≤◌, ◌<◌, ◌+◌, ℕ, suc, List, [], ◌∷◌, ◌++◌, map, drop, length, Option, Some, arith, sym, ◌∙◌, ap, append-nil}
+--     codes_on, codes_next                       of the code of functions
+use Rattle.std.proofs.Common.{◌≡◌, ◌≤◌, ◌<◌, ◌+◌, ℕ, suc, List, [], ◌∷◌, ◌++◌, map, drop, length, Option, Some, arith, sym, ◌∙◌, ap}
 use Rattle.std.specs.Prelude.{get_or}
 use Rattle.std.proofs.lemmas.List.{append_assoc, drop_more, drop_all}
 use Rattle.hs_base.specs.Entries.{drop_item}
@@ -134,9 +134,6 @@ module _ (all : List Label) (i : ℕ) where
   pub marks_end : length all ≤ i → (text : Text) → length text.ops ≤ most_ops → labels_steps (drop i all) text ≡ Some text
   marks_end past text few = ap (λ its. labels_steps its text) (drop_all i all past) ∙ labels_done text few
 
-  pub places_end : (labels : List (Label × ℕ)) → length all ≤ i → (start : ℕ) → labels ++ labels_at (drop i all) start ≡ labels
-  places_end labels past start = ap (λ its. labels ++ labels_at its start) (drop_all i all past) ∙ append-nil labels
-
 -- ---- functions
 
 pub count_joined : (first second : List FunctionCode) → count_ops (first ++ second) ≡ count_ops first + count_ops second
@@ -168,8 +165,3 @@ module _ (setting : Setting) (all : List Function) (i : ℕ) (e : Function) (wit
           ap count_ops (sym same ∙ ap (λ list. done ++ list) codes_on),
           count_joined done (one_code ∷ rest_codes (i + 1)),
         )
-
-pub codes_end : (setting : Setting) (all : List Function) (i : ℕ) (done whole : List FunctionCode) → length all ≤ i
-    → done ++ functions_code setting (map view_function (drop i all)) ≡ whole → done ≡ whole
-codes_end setting all i done whole past same =
-    sym (append-nil done) ∙ ap (λ its. done ++ functions_code setting (map view_function its)) (sym (drop_all i all past)) ∙ same

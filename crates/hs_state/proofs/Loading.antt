@@ -9,15 +9,15 @@ use Rattle.hs_heap.specs.declared.cell.Cell.{Cell}
 use Rattle.hs_heap.specs.declared.cell.Cell.TheVariants as cell
 use Rattle.hs_heap.specs.declared.cell.Cell.TheVariants.{Byte}
 use Rattle.hs_heap.specs.declared.cell.Pointer.{Pointer}
-use Rattle.hs_heap.specs.declared.cell.Pointer.TheVariants.{Fixed, Spot}
+use Rattle.hs_heap.specs.declared.cell.Pointer.TheVariants.{Spot}
 use Rattle.hs_heap.specs.declared.cell.Spot as spot
 use Rattle.hs_heap.specs.declared.stop.HeapStop.{HeapStop}
 use Rattle.hs_heap.specs.declared.stop.HeapStop.TheVariants as heap
 use Rattle.hs_heap.specs.BlockLaws.{reach_among}
-use Rattle.hs_meaning.specs.Accesses.{block_stops, by_stop, cells_from, cells_of_block, start_at, unless_stopped, use_stops, cells_at, with_cells_at, cells_loaded, loaded, stored}
+use Rattle.hs_meaning.specs.Accesses.{block_stops, by_stop, cells_from, cells_of_block, start_at, unless_stopped, use_stops, cells_at, with_cells_at, cells_loaded, stored}
 use Rattle.hs_meaning.specs.Machine.{Machine, Done, done, stopped, and_then}
 use Rattle.hs_meaning.specs.Stops.{first_stop, heap_stop, stops_before, stops_after}
-use Rattle.hs_meaning.specs.Values.{Value, Access, of_number, of_pointer, of_struct, length_of, load_stops, value_in, store_stop, cells_for, is_byte, is_undefined, number, number_in}
+use Rattle.hs_meaning.specs.Values.{Value, Access, of_number, length_of, load_stops, value_in, store_stop, cells_for, is_byte, is_undefined, number, number_in}
 use Rattle.hs_meaning.specs.declared.outcome.Stop.{Stop}
 use Rattle.hs_state.specs.Machines.{Does, does_by_stop}
 use Rattle.hs_types.specs.declared.integer.Integer.{Integer}
@@ -43,18 +43,6 @@ does_so (done it after) machine given is = rw (is.0, is.1) refl
 does_so (stopped why after) machine given is = absurd is
 
 -- ---- loads
-
--- no handle
-pub loaded_fixed : (access : Access) (object : ℕ) (at : _) (machine : Machine)
-    → loaded access (Fixed object at) machine ≡ cells_loaded access (Fixed object at) machine
-loaded_fixed (of_number kind) object at machine = refl
-loaded_fixed (of_pointer class) object at machine = refl
-loaded_fixed (of_struct size) object at machine = refl
-
-pub loaded_spot : (access : Access) (its : spot.Spot) (machine : Machine) → loaded access (Spot its) machine ≡ cells_loaded access (Spot its) machine
-loaded_spot (of_number kind) its machine = refl
-loaded_spot (of_pointer class) its machine = refl
-loaded_spot (of_struct size) its machine = refl
 
 module _ (access : Access) (its : Pointer) (machine : Machine) where
   -- the pointer is not used
