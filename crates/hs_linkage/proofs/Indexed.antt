@@ -5,7 +5,7 @@ use Rattle.std.proofs.lemmas.Bool.Decides.{eqb_tells}
 use Rattle.hs_linkage.specs.Indexes.{has_name, own_names, or_place, PutsFirst, Holds, defined_as, externals_by, IsIndexed}
 use Rattle.hs_linkage.specs.Definitions.{later, first_place, is_definition_of, definitions_in, definition_of, text_of, is_internal}
 use Rattle.hs_linkage.specs.declared.definitions.Definition.{Definition}
-use Rattle.hs_names.specs.Index.{at}
+use Rattle.hs_index.specs.Index.{at}
 use Rattle.hs_syntax.specs.Trees as syntax
 use Rattle.hs_syntax.specs.Trees.{ExternalDeclaration}
 use Rattle.hs_typer.specs.Declarators.{word_of}

@@ -4,7 +4,7 @@ use Rattle.std.specs.Cmp.Lexicographic.{pointwise}
 use Rattle.hs_linkage.specs.Chains.{newest_first, place, IsChained, IsKept}
 use Rattle.hs_linkage.specs.declared.externals.Entry.{Entry}
 use Rattle.hs_linkage.proofs.Chained.{onto-push, onto-length}
-use Rattle.hs_names.specs.Index.{at, Puts}
+use Rattle.hs_index.specs.Index.{at, Puts}
 
 pushed-if : (b : Bool) (count : ℕ) (its : List Entry) (others new : Option ℕ) (text : List ℕ) → length its ≡ count
     → new ≡ (if b then Some count else others) → others ≡ place text its → new ≡ (if b then Some (length its) else place text its)

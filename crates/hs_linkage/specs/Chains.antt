@@ -9,7 +9,7 @@ use Rattle.std.specs.Prelude.{◌≡◌, ◌≤◌, ℕ, nat_eq, List, [], ◌�
 use Rattle.std.specs.Cmp.Lexicographic.{pointwise}
 use Rattle.hs_linkage.specs.declared.externals.Entry.{Entry}
 use Rattle.hs_linkage.specs.declared.externals.External.{External}
-use Rattle.hs_names.specs.Index.{at}
+use Rattle.hs_index.specs.Index.{at}
 
 -- these entries, in front of older ones
 abbrev pub onto : List Entry → List Entry → List Entry

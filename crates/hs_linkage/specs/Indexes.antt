@@ -8,7 +8,7 @@ use Rattle.std.specs.Prelude.{◌≡◌, ◌+◌, ℕ, Bool, true, false, List, 
 use Rattle.std.specs.Cmp.Lexicographic.{pointwise}
 use Rattle.hs_linkage.specs.Definitions.{first_place, is_definition_of, text_of}
 use Rattle.hs_linkage.specs.declared.definitions.Definition.{Definition}
-use Rattle.hs_names.specs.Index.{at}
+use Rattle.hs_index.specs.Index.{at}
 use Rattle.hs_syntax.specs.Trees as syntax
 use Rattle.hs_syntax.specs.Trees.{ExternalDeclaration}
 use Rattle.hs_typer.specs.Declarators.{word_of}

@@ -8,7 +8,7 @@ ghost use Rattle.hs_typer.specs.Declarators.{word_of};
 
 use crate::statics::statics_of;
 use hs_base::{Bytes, NoMemory};
-use hs_names::Index;
+use hs_index::Index;
 use hs_syntax::{External, Unit, Word};
 use hs_typer::{copied, next_place, word_of};
 use std::alloc::Global;

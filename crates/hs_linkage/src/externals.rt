@@ -7,7 +7,7 @@ ghost use Rattle.hs_linkage.specs.Externals.{all_agree, agree_if, is_unfit, newe
 use crate::entities::type_of;
 use crate::questions::agrees;
 use hs_base::{Bytes, NoMemory};
-use hs_names::Index;
+use hs_index::Index;
 use hs_syntax::Word;
 use hs_tokens::Place;
 use hs_typer::{Entity, Origins, copied};

@@ -8,7 +8,7 @@ ghost use Rattle.hs_syntax.specs.Views.{view_external, view_item, view_specifier
 ghost use Rattle.hs_typer.specs.Declarators.{word_of};
 
 use hs_base::NoMemory;
-use hs_names::Index;
+use hs_index::Index;
 use hs_syntax::{External, Item, Specifier, Storage, Word};
 use hs_typer::word_of;
 use std::alloc::Global;

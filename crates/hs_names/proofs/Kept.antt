@@ -2,7 +2,7 @@
 use Rattle.std.proofs.Common.{◌≡◌, ◌<◌, ℕ, Bool, true, false, List, [], ◌∷◌, ◌++◌, length, length-append, Option, None, Some, nat_eq, refl, sym, ap, ◌∙◌, if◌then◌else◌, arith}
 use Rattle.std.specs.Cmp.Lexicographic.{pointwise, bytes_decides}
 use Rattle.hs_names.specs.Entries.{declaration, onto, declarations_of, place, Hides, IsKept}
-use Rattle.hs_names.specs.Index.{at, Puts}
+use Rattle.hs_index.specs.Index.{at, Puts}
 use Rattle.hs_names.specs.Scopes.{Declared}
 use Rattle.hs_names.specs.declared.scopes.Entry.{Entry}
 use Rattle.hs_names.proofs.Newest.{onto-push, onto-length}

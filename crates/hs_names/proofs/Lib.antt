@@ -1,3 +1,2 @@
-mod Changes
 mod Kept
 mod Newest

@@ -5,7 +5,7 @@
 --     IsKept places entries         the index has the place of each name, and each entry that of what it hides
 use Rattle.std.specs.Prelude.{◌≡◌, ◌≤◌, ℕ, nat_eq, List, [], ◌∷◌, length, Option, Some, None, if◌then◌else◌}
 use Rattle.std.specs.Cmp.Lexicographic.{pointwise}
-use Rattle.hs_names.specs.Index.{at}
+use Rattle.hs_index.specs.Index.{at}
 use Rattle.hs_names.specs.Scopes.{Declared}
 use Rattle.hs_names.specs.declared.scopes.Entry.{Entry}
 use Rattle.hs_names.specs.declared.scopes.Named.{Named}

@@ -1,4 +1,3 @@
 pub mod Entries
-pub mod Index
 pub mod Lists
 pub mod Scopes

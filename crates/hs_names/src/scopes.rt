@@ -5,8 +5,8 @@ ghost use Rattle.hs_names.specs.Entries.{declaration, named_at};
 ghost use Rattle.hs_names.specs.Lists.{IsLast};
 ghost use Rattle.hs_names.specs.Scopes.{find, find_here, declared, declared_outside, entered, left, cleared, inside, newest, is_newest_here, without_newest};
 
-use crate::index::Index;
 use hs_base::NoMemory;
+use hs_index::Index;
 use std::alloc::Global;
 use std::marker::Model;
 

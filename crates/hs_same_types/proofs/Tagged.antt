@@ -1,7 +1,7 @@
 -- The first struct of a tag, and what stands for structs by the indexes of tags.
 use Rattle.std.proofs.Common.{◌≡◌, ℕ, suc, Bool, true, false, List, [], ◌∷◌, ◌++◌, length, Option, Some, None, refl, ap, ◌∙◌, if◌then◌else◌}
 use Rattle.hs_base.specs.Options.{or_else_assoc, or_else}
-use Rattle.hs_names.specs.Index.{at}
+use Rattle.hs_index.specs.Index.{at}
 use Rattle.hs_same_types.specs.Representatives.{is_tagged, tagged, named, struct_of, structs_of, first_at}
 use Rattle.hs_same_types.specs.Tags.{Places, IsByTag, if_tagged, named_by, structs_by}
 use Rattle.hs_tree.specs.Representatives.{or_itself}

@@ -6,7 +6,7 @@
 use Rattle.std.specs.Prelude.{◌≡◌, ℕ, Bool, List, [], ◌∷◌, ◌++◌, length, nat_eq, Option, Some, None, if◌then◌else◌}
 use Rattle.std.specs.Cmp.Lexicographic.{pointwise}
 use Rattle.hs_base.specs.Options.{or_else}
-use Rattle.hs_names.specs.Index.{at}
+use Rattle.hs_index.specs.Index.{at}
 use Rattle.hs_same_types.specs.Representatives.{first_at, is_tagged, tagged}
 use Rattle.hs_tree.specs.Representatives.{or_itself}
 use Rattle.hs_typer.specs.Origins.{has_body}

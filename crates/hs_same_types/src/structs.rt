@@ -6,7 +6,7 @@ ghost use Rattle.hs_same_types.specs.Tags.{IsByTag, named_by, struct_by, structs
 
 use crate::tags::tags_of;
 use hs_base::{Bytes, NoMemory};
-use hs_names::Index;
+use hs_index::Index;
 use hs_typer::{Brace, Braces, Origin, Origins, Tag, next_place};
 use hs_types::Types;
 use std::alloc::Global;

@@ -4,7 +4,7 @@ ghost use Rattle.std.specs.Prelude.{◌≡◌, IfOk};
 ghost use Rattle.hs_same_types.specs.Tags.{IsByTag, PutsFirst, PutsTag};
 
 use hs_base::NoMemory;
-use hs_names::Index;
+use hs_index::Index;
 use hs_typer::{Origin, next_place};
 use hs_types::Types;
 use std::alloc::Global;

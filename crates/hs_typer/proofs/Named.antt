@@ -4,7 +4,7 @@ use Rattle.std.specs.Prelude.{is_some}
 use Rattle.std.specs.Cmp.Lexicographic.{pointwise}
 use Rattle.hs_base.specs.Tests.{or_again}
 use Rattle.hs_typer.specs.Specifiers.{has_member, member_as}
-use Rattle.hs_names.specs.Index.{at, Puts}
+use Rattle.hs_index.specs.Index.{at, Puts}
 use Rattle.hs_types.specs.declared.body.Member.{Member}
 use Rattle.hs_types.specs.declared.row.TypeId.{TypeId}
 

@@ -4,7 +4,7 @@ ghost use Rattle.std.specs.Prelude.{◌≡◌, ◌++◌, ◌∷◌, [], IfOk};
 ghost use Rattle.hs_typer.specs.Specifiers.{has_member, member_as};
 
 use hs_base::{Bytes, NoMemory};
-use hs_names::Index;
+use hs_index::Index;
 use hs_types::{Member, TypeId};
 use std::alloc::Global;
 use std::marker::Model;
@@ -18,7 +18,7 @@ pub struct Members {
 
 impl Model for Members {
     ghost use Rattle.std.specs.Prelude.{◌≡◌, List, ℕ, is_some};
-    ghost use Rattle.hs_names.specs.Index.{at};
+    ghost use Rattle.hs_index.specs.Index.{at};
     ghost use Rattle.hs_typer.specs.Specifiers.{has_member};
     ghost use Rattle.hs_types.specs.declared.body.Member.{Member};
 

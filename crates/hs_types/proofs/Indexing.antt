@@ -3,7 +3,7 @@ use Rattle.std.proofs.Common.{◌≡◌, ℕ, suc, ◌+◌, ◌<◌, length, dro
 use Rattle.std.specs.Prelude.{is_some}
 use native.Mathlib.Numerals.{unary_clauses}
 use Rattle.std.specs.Cmp.Lexicographic.{pointwise, bytes_decides}
-use Rattle.hs_names.specs.Index.{at}
+use Rattle.hs_index.specs.Index.{at}
 use Rattle.hs_types.specs.Members.{place_from, first_of, Completes, Gains}
 use Rattle.hs_types.specs.declared.body.Field.{Field}
 

@@ -5,7 +5,7 @@
 --     AreIndexed places fields        an index has the places of the fields
 use Rattle.std.specs.Prelude.{◌≡◌, ℕ, suc, nat_eq, List, [], ◌∷◌, Option, Some, None, is_some, if◌then◌else◌}
 use Rattle.std.specs.Cmp.Lexicographic.{pointwise}
-use Rattle.hs_names.specs.Index.{at}
+use Rattle.hs_index.specs.Index.{at}
 use Rattle.hs_types.specs.declared.body.Field.{Field}
 
 abbrev pub place_from : List ℕ → ℕ → List Field → Option ℕ

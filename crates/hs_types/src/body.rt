@@ -5,7 +5,7 @@ ghost use Rattle.hs_types.specs.Members.{field_place, Gains};
 
 use crate::{Layout, TypeId};
 use hs_base::{Bytes, NoMemory};
-use hs_names::Index;
+use hs_index::Index;
 use std::alloc::Global;
 use std::marker::Model;
 

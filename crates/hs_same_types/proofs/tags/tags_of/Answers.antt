@@ -1,7 +1,7 @@
 use Rattle.std.proofs.Common.{◌+◌, drop, sym, ap, ◌∙◌}
 use Rattle.hs_base.specs.Entries.{drop_item}
 use Rattle.hs_base.specs.Options.{or_else}
-use Rattle.hs_names.specs.Index.{at}
+use Rattle.hs_index.specs.Index.{at}
 use Rattle.hs_same_types.proofs.Tagged.{tagged_next}
 use Rattle.hs_same_types.specs.Representatives.{tagged}
 use Rattle.hs_same_types.proofs.tags.tags_of.Goals as goal

@@ -1,6 +1,6 @@
 use Rattle.std.proofs.Common.{◌≡◌, ℕ, List, drop}
 use Rattle.hs_base.specs.Options.{or_else}
-use Rattle.hs_names.specs.Index.{at}
+use Rattle.hs_index.specs.Index.{at}
 use Rattle.hs_same_types.specs.Representatives.{tagged}
 use Rattle.hs_same_types.proofs.tags.tags_of.Given as goal
 

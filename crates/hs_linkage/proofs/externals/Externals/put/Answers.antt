@@ -1,6 +1,6 @@
 use Rattle.std.proofs.Common.{rules, ◌≡◌, ◌<◌, length, ap, sym, refl, [], ◌∙◌, subst}
 use Rattle.hs_linkage.specs.Chains.{IsKept}
-use Rattle.hs_names.specs.Index.{at, Puts}
+use Rattle.hs_index.specs.Index.{at, Puts}
 use Rattle.hs_linkage.proofs.Chained.{onto-push}
 use Rattle.hs_linkage.proofs.KeptChains.{kept-pushed}
 use Rattle.hs_linkage.proofs.externals.Externals.put.Goals as goal

@@ -1,7 +1,7 @@
 use Rattle.std.proofs.Common.{rules, nat_eq, if◌then◌else◌, ap, sym, ◌∙◌, subst}
 use Rattle.std.specs.Cmp.Lexicographic.{pointwise}
 use Rattle.hs_names.specs.Entries.{IsKept}
-use Rattle.hs_names.specs.Index.{at}
+use Rattle.hs_index.specs.Index.{at}
 use Rattle.hs_names.specs.Scopes.{is_newest_here, without_newest}
 use Rattle.hs_names.proofs.Kept.{kept-forgotten, kept-placed}
 use Rattle.hs_names.proofs.Newest.{older-last}

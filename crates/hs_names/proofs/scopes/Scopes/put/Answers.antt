@@ -1,6 +1,6 @@
 use Rattle.std.proofs.Common.{rules, ◌≡◌, ◌<◌, length, ap, sym, refl, [], ◌∙◌, subst}
 use Rattle.hs_names.specs.Entries.{IsKept}
-use Rattle.hs_names.specs.Index.{at, Puts}
+use Rattle.hs_index.specs.Index.{at, Puts}
 use Rattle.hs_names.proofs.Kept.{kept-declared}
 use Rattle.hs_names.proofs.Newest.{onto-push}
 use Rattle.hs_names.proofs.scopes.Scopes.put.Goals as goal

@@ -1,6 +1,6 @@
 use Rattle.std.proofs.Common.{rules, ◌≡◌, ◌++◌, ◌∷◌, [], subst}
 use Rattle.hs_typer.specs.Specifiers.{member_as}
-use Rattle.hs_names.specs.Index.{Puts}
+use Rattle.hs_index.specs.Index.{Puts}
 use Rattle.hs_typer.proofs.Named.{named_with}
 use Rattle.hs_typer.proofs.members.Members.with.Goals as goal
 

@@ -1,7 +1,7 @@
 use Rattle.std.proofs.Common.{ap, sym, ◌∙◌}
-use Rattle.hs_names.specs.Index.{at}
-use Rattle.hs_names.proofs.Changes.{at-by_bytes}
-use Rattle.hs_names.proofs.index.Index.place.Goals as goal
+use Rattle.hs_index.specs.Index.{at}
+use Rattle.hs_index.proofs.Changes.{at-by_bytes}
+use Rattle.hs_index.proofs.index.Index.place.Goals as goal
 
 -- what is looked up is what the entries have at the name
 pub returns : goal.returns

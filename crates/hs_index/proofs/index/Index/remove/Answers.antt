@@ -1,5 +1,5 @@
-use Rattle.hs_names.proofs.Changes.{changed}
-use Rattle.hs_names.proofs.index.Index.remove.Goals as goal
+use Rattle.hs_index.proofs.Changes.{changed}
+use Rattle.hs_index.proofs.index.Index.remove.Goals as goal
 
 -- the entries lost the name, and no other
 pub returns : goal.returns

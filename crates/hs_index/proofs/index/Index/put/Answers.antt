@@ -1,7 +1,7 @@
 use Rattle.std.proofs.Common.{ap, sym, ◌∙◌}
-use Rattle.hs_names.specs.Index.{at}
-use Rattle.hs_names.proofs.Changes.{changed, at-by_bytes}
-use Rattle.hs_names.proofs.index.Index.put.Goals as goal
+use Rattle.hs_index.specs.Index.{at}
+use Rattle.hs_index.proofs.Changes.{changed, at-by_bytes}
+use Rattle.hs_index.proofs.index.Index.put.Goals as goal
 
 -- the entries took the place at the name, and at no other
 pub returns-clause-put : goal.returns-clause-put

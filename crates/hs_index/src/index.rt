@@ -2,7 +2,7 @@
 
 ghost use Rattle.std.specs.Prelude.{◌≡◌, List, ℕ, [], Some, None, nat_eq, if◌then◌else◌, OnOk, OnErr};
 ghost use Rattle.std.specs.Cmp.Lexicographic.{pointwise};
-ghost use Rattle.hs_names.specs.Index.{at, Puts, Removes};
+ghost use Rattle.hs_index.specs.Index.{at, Puts, Removes};
 
 use hs_base::NoMemory;
 use indexmap::IndexMap;
@@ -17,7 +17,7 @@ pub struct Index {
 
 impl Model for Index {
     ghost use Rattle.std.specs.Prelude.{List, ℕ};
-    ghost use Rattle.hs_names.specs.Index.{by_bytes};
+    ghost use Rattle.hs_index.specs.Index.{by_bytes};
 
     ghost Value = { List (List ℕ × ℕ) };
 
@@ -55,8 +55,10 @@ impl Index {
         Ok(())
     }
 
-    /// Takes the name away.
-    pub(crate) fn remove(&mut self, name: &[u8])
+    /// Takes the name away. Takes no memory.
+    ///
+    /// Example: `place` then returns `None` for it.
+    pub fn remove(&mut self, name: &[u8])
         ensures { Removes name.now self.old self.new }
     {
         let _ = self.places.swap_remove(name);

@@ -3,7 +3,7 @@ use Rattle.std.proofs.Common.{◌≡◌, ℕ, Bool, true, false, List, [], ◌�
 use Rattle.std.specs.Cmp.Lexicographic.{pointwise, bytes_decides, nat_list_eq_equiv}
 use Rattle.std.specs.Map.{lookup, KeepsOthers, IsKeyTest, AreApart}
 use Rattle.hs_base.specs.Keys.{Key, has_bytes, are_alike, lacks_other}
-use Rattle.hs_names.specs.Index.{by_bytes, at}
+use Rattle.hs_index.specs.Index.{by_bytes, at}
 
 -- the first entry of a name, whichever way the entries are seen
 pub at-by_bytes : (name : List ℕ) (entries : List (Key × ℕ)) → at name (by_bytes entries) ≡ lookup (has_bytes name) entries
