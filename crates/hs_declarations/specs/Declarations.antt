@@ -10,7 +10,7 @@ use Rattle.hs_declarations.specs.declared.fronts.Front.{Front}
 use Rattle.hs_expressions.specs.Expressions.{first_place}
 use Rattle.hs_initialisers.specs.InlineWords.{inline_words}
 use Rattle.hs_initialisers.specs.Initialisers.{initialised, starting}
-use Rattle.hs_operands.specs.Types.{designates, is_open}
+use Rattle.hs_operand_types.specs.Types.{designates, is_open}
 use Rattle.hs_syntax.specs.Trees.{Declaring, Declaration, Initialising, Specification}
 use Rattle.hs_syntax.specs.declared.operators.Storage.{Storage}
 use Rattle.hs_syntax.specs.declared.operators.Storage.TheVariants as storage

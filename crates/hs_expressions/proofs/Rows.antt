@@ -9,8 +9,8 @@ use Rattle.hs_typer.specs.declared.typer.Entity.TheVariants as entity
 use Rattle.hs_typer.specs.declared.typer.Taken.TheVariants as taken
 use Rattle.hs_typer.specs.declared.typer.Typer.{Typer}
 use Rattle.hs_names.specs.Scopes.{declared}
-use Rattle.hs_operands.specs.Conversions.{head_at}
-use Rattle.hs_operands.specs.Operands as operand
+use Rattle.hs_operand_types.specs.Conversions.{head_at}
+use Rattle.hs_operand_types.specs.Operands as operand
 use Rattle.hs_syntax.specs.Trees as syntax
 use Rattle.hs_syntax.specs.Trees.{Expression, NamedType, Declared}
 use Rattle.hs_syntax.specs.declared.operators.Basic.TheVariants as basic

@@ -13,10 +13,10 @@ use Rattle.hs_typer.specs.declared.typer.RoutineCall.{RoutineCall}
 use Rattle.hs_typer.specs.declared.typer.Taken.{Taken}
 use Rattle.hs_typer.specs.declared.typer.Taken.TheVariants as taken
 use Rattle.hs_typer.specs.declared.typer.Typer.{Typer}
-use Rattle.hs_operands.specs.Operands as operand
-use Rattle.hs_operands.specs.Operands.{TypedOperand}
-use Rattle.hs_operands.specs.declared.operand.Bound.{Bound}
-use Rattle.hs_operands.specs.declared.operand.Bound.TheVariants as bound
+use Rattle.hs_operand_types.specs.Operands as operand
+use Rattle.hs_operand_types.specs.Operands.{TypedOperand}
+use Rattle.hs_operand_types.specs.declared.operand.Bound.{Bound}
+use Rattle.hs_operand_types.specs.declared.operand.Bound.TheVariants as bound
 use Rattle.hs_syntax.specs.Trees.{Expression}
 use Rattle.hs_tree.specs.Fitting.{declared, is_taken_variable, types_of, prototype_in, InRange, FitsFunction, FitsRoutine, IsFieldTaken, IsMarked}
 use Rattle.hs_tree.specs.Kinds.{AreAlike}

@@ -22,8 +22,8 @@ use Rattle.hs_typer.specs.declared.typer.Typer.{Typer}
 use Rattle.hs_names.specs.Scopes.{find, entered, left}
 use Rattle.hs_operands.specs.Assignments.{cast_of, conditional_of, comma_of}
 use Rattle.hs_operands.specs.Objects.{element_of, arrow_of, size_number, size_of_operand}
-use Rattle.hs_operands.specs.Operands as operand
-use Rattle.hs_operands.specs.Operands.{TypedOperand}
+use Rattle.hs_operand_types.specs.Operands as operand
+use Rattle.hs_operand_types.specs.Operands.{TypedOperand}
 use Rattle.hs_syntax.specs.Positions.{last_comma, position_of, first_of_specifiers, place_or}
 use Rattle.hs_syntax.specs.Trees as syntax
 use Rattle.hs_syntax.specs.Trees.{Expression, Expressions, Lefts, NamedType, Specified, Specification, Members, Constants, Declared, Declarators, Directly, Parameters}

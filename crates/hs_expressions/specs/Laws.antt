@@ -12,7 +12,7 @@ use Rattle.hs_typer.specs.declared.typer.Tag.{Tag}
 use Rattle.hs_typer.specs.declared.typer.Typer.{Typer}
 use Rattle.hs_names.specs.Scopes.{Scoped, Declared}
 use Rattle.hs_operands.specs.Laws.{IsTypedOperand}
-use Rattle.hs_operands.specs.Operands.{TypedOperand}
+use Rattle.hs_operand_types.specs.Operands.{TypedOperand}
 use Rattle.hs_syntax.specs.Trees.{Expression}
 use Rattle.hs_tree.specs.Fitting.{IsOfType}
 use Rattle.hs_tree.specs.Trees.{TypedFunction, TypedProgram}

@@ -8,18 +8,18 @@ use Rattle.hs_typer.specs.declared.type_error.TypeError.TheVariants.{Untyped, Un
 use Rattle.hs_typer.specs.declared.typer.Taken.{Taken}
 use Rattle.hs_typer.specs.declared.typer.Taken.TheVariants as taken
 use Rattle.hs_typer.specs.declared.typer.Typer.{Typer}
-use Rattle.hs_operands.specs.Answers as answers
+use Rattle.hs_operand_types.specs.Answers as answers
 use Rattle.hs_operands.specs.Assignments.{assign_of, update_of, post_update_of, one, called}
 use Rattle.hs_operands.specs.Calls.{call_of, call_routine_of}
 use Rattle.hs_operands.specs.Objects.{loaded, object_of, target_of, member_of, address_of}
-use Rattle.hs_operands.specs.Operands as operand
-use Rattle.hs_operands.specs.Operands.{TypedOperand, head_of_operand}
+use Rattle.hs_operand_types.specs.Operands as operand
+use Rattle.hs_operand_types.specs.Operands.{TypedOperand, head_of_operand}
 use Rattle.hs_operands.specs.Operators.{unary_of, arithmetic_of, not_of, and_of, or_of}
 use Rattle.hs_operands.specs.Pointers.{plus_of, minus_of, compared}
-use Rattle.hs_operands.specs.declared.operand.Bound.{Bound}
-use Rattle.hs_operands.specs.declared.operand.Bound.TheVariants as bound
-use Rattle.hs_operands.specs.declared.operand.Designator.{Designator}
-use Rattle.hs_operands.specs.declared.operand_end.OperandEnd.{OperandEnd}
+use Rattle.hs_operand_types.specs.declared.operand.Bound.{Bound}
+use Rattle.hs_operand_types.specs.declared.operand.Bound.TheVariants as bound
+use Rattle.hs_operand_types.specs.declared.operand.Designator.{Designator}
+use Rattle.hs_operand_types.specs.declared.operand_end.OperandEnd.{OperandEnd}
 use Rattle.hs_syntax.specs.declared.operators.Access.{Access}
 use Rattle.hs_syntax.specs.declared.operators.Access.TheVariants as access
 use Rattle.hs_syntax.specs.declared.operators.AssignOperator.{AssignOperator}

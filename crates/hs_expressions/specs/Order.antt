@@ -7,7 +7,7 @@ use Rattle.hs_expressions.specs.Expressions.{typed, typed_all, typed_lefts}
 use Rattle.hs_expressions.specs.Operations.{value_of}
 use Rattle.hs_typer.specs.declared.type_error.TypeError.{TypeError}
 use Rattle.hs_typer.specs.declared.typer.Typer.{Typer}
-use Rattle.hs_operands.specs.Operands.{TypedOperand}
+use Rattle.hs_operand_types.specs.Operands.{TypedOperand}
 use Rattle.hs_syntax.specs.Trees as syntax
 use Rattle.hs_syntax.specs.Trees.{Expression, Expressions, Lefts}
 use Rattle.hs_syntax.specs.declared.operators.AssignOperator.{AssignOperator}

@@ -6,7 +6,7 @@ ghost use Rattle.hs_expressions.specs.Expressions.{typed, typed_all, typed_lefts
 ghost use Rattle.hs_expressions.specs.Operations.{value_of};
 ghost use Rattle.hs_typer.specs.Specifiers.{no_specifiers};
 ghost use Rattle.hs_typer.specs.Steps.{Steps};
-ghost use Rattle.hs_operands.specs.Operands.{view_operand};
+ghost use Rattle.hs_operand_types.specs.Operands.{view_operand};
 ghost use Rattle.hs_syntax.specs.RowViews.{view_left, view_member, view_constant, view_parameter, expressions_from, lefts_from, members_from, constants_from, declarators_from, parameters_from};
 ghost use Rattle.hs_syntax.specs.Views.{view, view_type, view_specifier, view_declarator, view_direct, specification_of};
 ghost use Rattle.hs_tree.specs.Views.{view_right};
@@ -17,7 +17,7 @@ use crate::operations::{
     prefix_value, size_operand, size_type, takes_object,
 };
 use crate::primaries::{character_of, named, number_of, string_of};
-use hs_operands::Operand;
+use hs_operand_types::Operand;
 use hs_syntax::{
     Constant, Declarator, Direct, Expr, Left, Member, Parameter, Specifier, TypeName,
     first_of_specifiers,

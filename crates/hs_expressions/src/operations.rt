@@ -3,20 +3,20 @@
 ghost use Rattle.std.specs.Prelude.{◌≡◌, IfOk, map};
 ghost use Rattle.hs_expressions.specs.Operations.{as_value, as_object, binary_of, is_arrow, member_operand, takes_object, stepped, listed_taken, taken_by, addressed, prefix_object, prefix_value, operation_of_postfix, postfix_of, operation_of_assignment, assigned_by, assignment_of, routine_call, bound_call, call_with, call_operand};
 ghost use Rattle.hs_typer.specs.Steps.{Gives, Steps, on_types, lifted};
-ghost use Rattle.hs_operands.specs.Answers as answers;
+ghost use Rattle.hs_operand_types.specs.Answers as answers;
 ghost use Rattle.hs_operands.specs.Assignments.{cast_of, conditional_of, comma_of};
 ghost use Rattle.hs_operands.specs.Calls.{view_called};
 ghost use Rattle.hs_operands.specs.Objects.{loaded, element_of, arrow_of, size_number, size_of_operand};
-ghost use Rattle.hs_operands.specs.Operands.{view_operand, value};
+ghost use Rattle.hs_operand_types.specs.Operands.{view_operand, value};
 ghost use Rattle.hs_tree.specs.Views.{view_right, view_left};
 
 use crate::roles::fits_role;
 use hs_base::NoMemory;
+use hs_operand_types::{Bound, Designator, Operand, OperandEnd};
 use hs_operands::{
-    Bound, CheckedCall, Designator, Operand, OperandEnd, address, and, arithmetic, arrow, assign,
-    call, call_routine, called, cast, compared, conditional, element_of, loaded, member, minus,
-    not, object_of, one, or, plus, post_update, size_number, size_of_operand, target, unary,
-    update,
+    CheckedCall, address, and, arithmetic, arrow, assign, call, call_routine, called, cast,
+    compared, conditional, element_of, loaded, member, minus, not, object_of, one, or, plus,
+    post_update, size_number, size_of_operand, target, unary, update,
 };
 use hs_syntax::{Access, AssignOperator, BinaryOperator, PostfixOperator, PrefixOperator};
 use hs_tokens::Place;

@@ -3,12 +3,12 @@
 ghost use Rattle.std.specs.Prelude.{◌≡◌, ◌∷◌, length, Some, IfOk};
 ghost use Rattle.hs_typer.specs.Primaries.{number, named, is_wide, number_type, number_of, character_of, joined_words, string_bytes, string_as, string_of};
 ghost use Rattle.hs_typer.specs.Steps.{Gives, Steps};
-ghost use Rattle.hs_operands.specs.Operands.{view_operand};
+ghost use Rattle.hs_operand_types.specs.Operands.{view_operand};
 
 use hs_base::{Bytes, NoMemory};
 use hs_constants::{Number, character_value, number_value, string_value};
 use hs_names::Scopes;
-use hs_operands::{Designator, Operand};
+use hs_operand_types::{Designator, Operand};
 use hs_syntax::Word;
 use hs_tokens::Place;
 use hs_tree::{Head, Lvalue, Rvalue};

@@ -3,7 +3,7 @@
 ghost use Rattle.std.specs.Prelude.{◌≡◌, slice_get};
 ghost use Rattle.hs_expressions.specs.Roles.{shapes_of, answer_of, is_shaped, is_answer, next_of, are_shaped, points_to_complete, is_filled, fills, is_plain, fits_parameters, fits_role};
 
-use hs_operands::{is_void, number_kind, pointed};
+use hs_operand_types::{is_void, number_kind, pointed};
 use hs_table::{Role, Routine};
 use hs_types::{ListId, Parameters, Row, TypeId, Types};
 

@@ -13,8 +13,8 @@ use Rattle.hs_fitting.specs.Strict.{SameBy, AreStrict, strict_later, same_so}
 use Rattle.hs_linkage.specs.Externals.{newest_external, external_of, says_same, with_external}
 use Rattle.hs_linkage.specs.declared.externals.External.{External}
 use Rattle.hs_linkage.specs.declared.translator.Translator.{Translator}
-use Rattle.hs_operands.specs.declared.operand.Bound.{Bound}
-use Rattle.hs_operands.specs.declared.operand.Bound.TheVariants as bound
+use Rattle.hs_operand_types.specs.declared.operand.Bound.{Bound}
+use Rattle.hs_operand_types.specs.declared.operand.Bound.TheVariants as bound
 use Rattle.hs_syntax.specs.declared.word.Word.{Word}
 use Rattle.hs_tree.specs.declared.head.Variable.TheVariants as variable
 use Rattle.hs_typer.specs.contracts.typer.EntityPartialEq.TheImpl as entity_eq

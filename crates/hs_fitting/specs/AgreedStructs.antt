@@ -11,9 +11,9 @@ use Rattle.hs_expressions.specs.Laws.Reached.{is_same}
 use Rattle.hs_fitting.specs.Owned.{IsOwnRow}
 use Rattle.hs_fitting.specs.Shapes.{AreOneOrObjects, within_objects}
 use Rattle.hs_fitting.specs.Strict.{AreOneIn}
-use Rattle.hs_operands.specs.Conversions.{same_type}
+use Rattle.hs_operand_types.specs.Conversions.{same_type}
 use Rattle.hs_operands.specs.Laws.Numbers.{same-is}
-use Rattle.hs_operands.specs.Types.{inside_both, both_are}
+use Rattle.hs_operand_types.specs.Types.{inside_both, both_are}
 use Rattle.hs_tree.specs.Kinds.{Category, category_of, category_of_row}
 use Rattle.hs_typer.specs.Origins.{are_one_brace, are_one_tag, origins_agree, has_body, structs_agree, leaves_agree, objects_agree_within, objects_agree}
 use Rattle.hs_typer.specs.declared.origins.Brace.{Brace}

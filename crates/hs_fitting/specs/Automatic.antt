@@ -39,7 +39,7 @@ use Rattle.hs_linkage.specs.Works.{work_with, ◌>>=◌, ◌>>◌, pass, typing,
 use Rattle.hs_linkage.specs.declared.translator.Translator.{Translator}
 use Rattle.hs_names.specs.Scopes.{declared, find, find_here}
 use Rattle.hs_operands.specs.Laws.{IsTyped}
-use Rattle.hs_operands.specs.Types.{is_open, designates}
+use Rattle.hs_operand_types.specs.Types.{is_open, designates}
 use Rattle.hs_syntax.specs.Trees.{Initialising}
 use Rattle.hs_syntax.specs.declared.word.Word.{Word}
 use Rattle.hs_tree.specs.Fitting.{types_of, FitsVariable}

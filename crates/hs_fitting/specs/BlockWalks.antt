@@ -37,7 +37,7 @@ use Rattle.hs_linkage.specs.Linkage.{is_function, linked, new_object, define_obj
 use Rattle.hs_linkage.specs.Works.{Work, typing, unless}
 use Rattle.hs_linkage.specs.declared.translator.Translator.{Translator}
 use Rattle.hs_names.specs.Scopes.{find_here}
-use Rattle.hs_operands.specs.Types.{designates, is_open}
+use Rattle.hs_operand_types.specs.Types.{designates, is_open}
 use Rattle.hs_syntax.specs.Trees.{Declaring, Declaration, Initialising, Specification}
 use Rattle.hs_syntax.specs.declared.operators.Storage.{Storage}
 use Rattle.hs_syntax.specs.declared.operators.Storage.TheVariants as storage

@@ -20,7 +20,7 @@ use Rattle.hs_linkage.specs.Linkage.{is_function, linked, new_object, define_obj
 use Rattle.hs_linkage.specs.Objects.{local_as}
 use Rattle.hs_linkage.specs.Works.{work_with, ◌>>=◌, ◌>>◌, pass, typing, with_typer, unless}
 use Rattle.hs_linkage.specs.declared.translator.Translator.{Translator}
-use Rattle.hs_operands.specs.Types.{is_open}
+use Rattle.hs_operand_types.specs.Types.{is_open}
 use Rattle.hs_syntax.specs.Trees.{Declaring, Declaration, Initialising, Specification}
 use Rattle.hs_syntax.specs.declared.operators.Storage.{Storage}
 use Rattle.hs_syntax.specs.declared.operators.Storage.TheVariants as storage

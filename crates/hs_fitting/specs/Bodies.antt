@@ -11,7 +11,7 @@ use Rattle.std.specs.List.{AllByRecursion}
 use Rattle.hs_base.specs.Options.{one_there, some_none}
 use Rattle.hs_base.specs.Entries.{all_so}
 use Rattle.hs_typer.specs.declared.typer.Entity.TheVariants as meaning
-use Rattle.hs_operands.specs.declared.operand.Bound.TheVariants as bound
+use Rattle.hs_operand_types.specs.declared.operand.Bound.TheVariants as bound
 use Rattle.hs_fitting.specs.Owning.{IsOwnName}
 use Rattle.hs_fitting.specs.LinkedNames.{IsPlainName}
 use Rattle.hs_fitting.specs.Entities.{IsAmong}

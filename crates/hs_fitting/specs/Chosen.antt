@@ -10,8 +10,8 @@ use Rattle.hs_base.specs.Tests.{true_false, not_false}
 use Rattle.hs_base.specs.Options.{some_same}
 use Rattle.hs_base.specs.Entries.{all_appended}
 use Rattle.hs_fitting.specs.Outcomes.{Gives, gives_unless}
-use Rattle.hs_operands.specs.Types.{is_open}
-use Rattle.hs_operands.specs.declared.operand.Bound.TheVariants as binding
+use Rattle.hs_operand_types.specs.Types.{is_open}
+use Rattle.hs_operand_types.specs.declared.operand.Bound.TheVariants as binding
 use Rattle.hs_names.specs.Scopes.{Declared, find}
 use Rattle.hs_fitting.specs.Agreeing.{agree_strict}
 use Rattle.hs_fitting.specs.Claims.{Claims, ObjectsStay, RefersAs, RefersTo, IsVariableIn, IsBoundIn, IsLink, IsExternal, IsInternalLink, Stands, category_at, IsTypedIn}

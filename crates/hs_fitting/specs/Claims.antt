@@ -29,8 +29,8 @@ use Rattle.hs_linkage.specs.declared.translator.Linked.{Linked}
 use Rattle.hs_linkage.specs.declared.translator.StaticObject.{StaticObject}
 use Rattle.hs_linkage.specs.declared.translator.Translator.{Translator}
 use Rattle.hs_names.specs.Scopes.{Declared, find}
-use Rattle.hs_operands.specs.declared.operand.Bound.{Bound}
-use Rattle.hs_operands.specs.declared.operand.Bound.TheVariants as bound
+use Rattle.hs_operand_types.specs.declared.operand.Bound.{Bound}
+use Rattle.hs_operand_types.specs.declared.operand.Bound.TheVariants as bound
 use Rattle.hs_table.specs.declared.routine.Routine.{Routine}
 use Rattle.hs_tree.specs.Fitting.{types_of, is_taken_variable, variable_of_global, IsFieldTaken}
 use Rattle.hs_tree.specs.Kinds.{AreAlike, Category, of_function, category_of}

@@ -7,7 +7,7 @@
 use Rattle.std.proofs.Common.{◌≡◌, ℕ, ◌<◌, ◌+◌, ◌%◌, ◌==◌, Bool, true, false, not, Option, Some, None, refl, sym, subst, ap, ◌∙◌, if◌then◌else◌, arith}
 use Rattle.std.specs.Prelude.{is_some, nat_lt, option_map}
 use Rattle.hs_base.specs.Options.{some_same}
-use Rattle.hs_operands.specs.Constants.{number_value, converted_value, of_chosen, cast_value, constant_value}
+use Rattle.hs_operand_types.specs.Constants.{number_value, converted_value, of_chosen, cast_value, constant_value}
 use Rattle.hs_operands.specs.Laws.{IsTyped}
 use Rattle.hs_operands.specs.Laws.Made.{either_way}
 use Rattle.hs_operands.specs.Laws.Numbers.{integer_number}

@@ -11,7 +11,7 @@ use Rattle.hs_fitting.specs.Claims.{Claims, IsMet, Stands, Proceeds}
 use Rattle.hs_fitting.specs.Entities.{IsAmong}
 use Rattle.hs_linkage.specs.declared.definitions.Definition.{Definition}
 use Rattle.hs_linkage.specs.declared.translator.Translator.{Translator}
-use Rattle.hs_operands.specs.declared.operand.Bound.TheVariants as bound
+use Rattle.hs_operand_types.specs.declared.operand.Bound.TheVariants as bound
 use Rattle.hs_tree.specs.Fitting.{types_of}
 use Rattle.hs_tree.specs.Trees.{TypedFunction, TypedProgram}
 use Rattle.hs_typer.specs.declared.typer.Entity.{Entity}

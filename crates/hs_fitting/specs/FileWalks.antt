@@ -33,7 +33,7 @@ use Rattle.hs_linkage.specs.Linkage.{with_type_id, is_function, linked, complete
 use Rattle.hs_linkage.specs.Objects.{is_defined}
 use Rattle.hs_linkage.specs.Works.{Work, ◌>>=◌, typing}
 use Rattle.hs_linkage.specs.declared.translator.Translator.{Translator}
-use Rattle.hs_operands.specs.Types.{is_open}
+use Rattle.hs_operand_types.specs.Types.{is_open}
 use Rattle.hs_syntax.specs.Trees.{Declaring, Declaration, Initialising, Specification}
 use Rattle.hs_syntax.specs.declared.word.Word.{Word}
 use Rattle.hs_tokens.specs.declared.place.Place.{Place}

@@ -25,7 +25,7 @@ use Rattle.hs_operands.specs.Assignments.{assigned}
 use Rattle.hs_operands.specs.Laws.AssignedTyped.{assigned-typed}
 use Rattle.hs_operands.specs.Laws.Kept as keep
 use Rattle.hs_operands.specs.Laws.Stays.{is_scalar-stays}
-use Rattle.hs_operands.specs.declared.operand_end.OperandEnd.{OperandEnd}
+use Rattle.hs_operand_types.specs.declared.operand_end.OperandEnd.{OperandEnd}
 use Rattle.hs_syntax.specs.Positions.{position_of}
 use Rattle.hs_syntax.specs.Trees.{Expression}
 use Rattle.hs_tokens.specs.declared.place.Place.{Place}

@@ -20,8 +20,8 @@ use Rattle.hs_linkage.specs.declared.definitions.Definition.{Definition}
 use Rattle.hs_linkage.specs.declared.translator.Linked.{Linked}
 use Rattle.hs_linkage.specs.declared.translator.Translator.{Translator}
 use Rattle.hs_names.specs.Scopes.{find}
-use Rattle.hs_operands.specs.declared.operand.Bound.{Bound}
-use Rattle.hs_operands.specs.declared.operand.Bound.TheVariants as bound
+use Rattle.hs_operand_types.specs.declared.operand.Bound.{Bound}
+use Rattle.hs_operand_types.specs.declared.operand.Bound.TheVariants as bound
 use Rattle.hs_syntax.specs.declared.word.Word.{Word}
 use Rattle.hs_tree.specs.Fitting.{types_of}
 use Rattle.hs_tree.specs.Trees.{TypedProgram}

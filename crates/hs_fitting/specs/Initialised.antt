@@ -19,7 +19,7 @@ use Rattle.hs_initialisers.specs.Initialisers.{initialised}
 use Rattle.hs_linkage.specs.Objects.{marked}
 use Rattle.hs_linkage.specs.Works.{typing}
 use Rattle.hs_linkage.specs.declared.translator.Translator.{Translator}
-use Rattle.hs_operands.specs.Types.{is_open_row}
+use Rattle.hs_operand_types.specs.Types.{is_open_row}
 use Rattle.hs_syntax.specs.Trees.{Initialising}
 use Rattle.hs_tokens.specs.declared.place.Place.{Place}
 use Rattle.hs_tree.specs.Kinds.{Category, of_void, of_number, of_pointer, of_struct, of_array, of_function, category_of_row, category_of}

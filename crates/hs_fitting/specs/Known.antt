@@ -44,8 +44,8 @@ use Rattle.hs_linkage.specs.declared.translator.StaticObject.{StaticObject}
 use Rattle.hs_linkage.specs.declared.translator.Translator.{Translator}
 use Rattle.hs_names.specs.Scopes.{Declared}
 use Rattle.hs_operands.specs.Laws.{IsTyped}
-use Rattle.hs_operands.specs.declared.operand.Bound.{Bound}
-use Rattle.hs_operands.specs.declared.operand.Bound.TheVariants as bound
+use Rattle.hs_operand_types.specs.declared.operand.Bound.{Bound}
+use Rattle.hs_operand_types.specs.declared.operand.Bound.TheVariants as bound
 use Rattle.hs_statements.specs.Statements.{valued}
 use Rattle.hs_syntax.specs.Trees.{Expression}
 use Rattle.hs_tree.specs.Fitting.{types_of, variable_of_global, IsObjectOf, IsVariableOf}

@@ -22,8 +22,8 @@ use Rattle.hs_fitting.specs.Stating.{entered_scoped, scoped_moved}
 use Rattle.hs_fitting.specs.Walk.{Anywhere, Continues, Nothing, Walked, Walking, Walks, proceeds_then}
 use Rattle.hs_linkage.specs.Works.{Work}
 use Rattle.hs_linkage.specs.declared.translator.Translator.{Translator}
-use Rattle.hs_operands.specs.declared.operand.Bound.{Bound}
-use Rattle.hs_operands.specs.declared.operand.Bound.TheVariants as bound
+use Rattle.hs_operand_types.specs.declared.operand.Bound.{Bound}
+use Rattle.hs_operand_types.specs.declared.operand.Bound.TheVariants as bound
 use Rattle.hs_statements.specs.Statements.{entered, without_scope, ended, scoped}
 use Rattle.hs_tree.specs.Fitting.{types_of}
 use Rattle.hs_tree.specs.Kinds.{category_of}

@@ -14,8 +14,8 @@ use Rattle.hs_linkage.specs.Externals.{type_of_entity}
 use Rattle.hs_linkage.specs.Linkage.{with_type_id}
 use Rattle.hs_linkage.specs.declared.definitions.Definition.{Definition}
 use Rattle.hs_linkage.specs.declared.translator.StaticObject.{StaticObject}
-use Rattle.hs_operands.specs.declared.operand.Bound.{Bound}
-use Rattle.hs_operands.specs.declared.operand.Bound.TheVariants as bound
+use Rattle.hs_operand_types.specs.declared.operand.Bound.{Bound}
+use Rattle.hs_operand_types.specs.declared.operand.Bound.TheVariants as bound
 use Rattle.hs_table.specs.declared.routine.Routine.{Routine}
 use Rattle.hs_tree.specs.Kinds.{category_of}
 use Rattle.hs_tree.specs.declared.head.Variable.TheVariants as variable

@@ -15,8 +15,8 @@ use Rattle.hs_linkage.specs.Externals.{type_of_entity, agrees_in}
 use Rattle.hs_linkage.specs.Linkage.{with_type_id, zero_object, is_function}
 use Rattle.hs_linkage.specs.declared.translator.StaticObject.{StaticObject}
 use Rattle.hs_linkage.specs.declared.translator.Translator.{Translator}
-use Rattle.hs_operands.specs.Types.{designates_row, designates}
-use Rattle.hs_operands.specs.declared.operand.Bound.{Bound}
+use Rattle.hs_operand_types.specs.Types.{designates_row, designates}
+use Rattle.hs_operand_types.specs.declared.operand.Bound.{Bound}
 use Rattle.hs_syntax.specs.declared.word.Word.{Word}
 use Rattle.hs_tree.specs.Kinds.{of_function, category_of_row, category_of}
 use Rattle.hs_tree.specs.Trees.{TypedProgram}

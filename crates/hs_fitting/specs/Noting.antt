@@ -13,10 +13,10 @@ use Rattle.hs_expressions.specs.Laws.Grown.{Growing}
 use Rattle.hs_expressions.specs.Roles.{fits_role}
 use Rattle.hs_fitting.specs.Rightness.{AreRight, Righting}
 use Rattle.hs_names.specs.Scopes.{Declared, outside}
-use Rattle.hs_operands.specs.Operands as operand
-use Rattle.hs_operands.specs.Operands.{TypedOperand}
-use Rattle.hs_operands.specs.declared.operand.Bound.{Bound}
-use Rattle.hs_operands.specs.declared.operand.Bound.TheVariants as bound
+use Rattle.hs_operand_types.specs.Operands as operand
+use Rattle.hs_operand_types.specs.Operands.{TypedOperand}
+use Rattle.hs_operand_types.specs.declared.operand.Bound.{Bound}
+use Rattle.hs_operand_types.specs.declared.operand.Bound.TheVariants as bound
 use Rattle.hs_table.specs.declared.routine.Routine.{Routine}
 use Rattle.hs_typer.specs.Steps.{Step, then_with, kept, with_types, restored}
 use Rattle.hs_typer.specs.declared.type_error.TypeError.{TypeError}

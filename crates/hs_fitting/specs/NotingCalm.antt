@@ -13,7 +13,7 @@ use Rattle.hs_fitting.specs.Noting.{AllowsName, NamesAllow, IsOperandOf, AreCall
 use Rattle.hs_fitting.specs.Rightness.{AreRight, Righting, RightsTo, right_row, right_struct, right_enumeration, right_self, arrayed_rights, completed_rights, enumerated_rights}
 use Rattle.hs_names.specs.Scopes.{find, find_here}
 use Rattle.hs_operands.specs.Objects.{object_of}
-use Rattle.hs_operands.specs.Operands.{TypedOperand}
+use Rattle.hs_operand_types.specs.Operands.{TypedOperand}
 use Rattle.hs_syntax.specs.declared.word.Word.{Word}
 use Rattle.hs_tokens.specs.declared.place.Place.{Place}
 use Rattle.hs_tree.specs.Trees.{LeftValue, type_of_left}

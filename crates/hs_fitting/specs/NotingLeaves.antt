@@ -19,16 +19,16 @@ use Rattle.hs_fitting.specs.NotingRoles.{fits_role_stays}
 use Rattle.hs_fitting.specs.NotingSteps.{gives_notes, refuses_notes, of_types_notes, on_types_notes, after_notes, and_notes, value_met, object_met, values_notes}
 use Rattle.hs_fitting.specs.Rightness.{right_self, listed_rights, parameter_type_rights}
 use Rattle.hs_names.specs.Scopes.{Declared, newest, entity_of, find, find_here, declared}
-use Rattle.hs_operands.specs.Answers as answers
+use Rattle.hs_operand_types.specs.Answers as answers
 use Rattle.hs_operands.specs.Assignments.{called, update_of, one}
 use Rattle.hs_operands.specs.Calls.{call_of, call_routine_of}
 use Rattle.hs_operands.specs.Objects.{object_of, target_of}
-use Rattle.hs_operands.specs.Operands as operand
-use Rattle.hs_operands.specs.Operands.{TypedOperand, head_of_operand}
+use Rattle.hs_operand_types.specs.Operands as operand
+use Rattle.hs_operand_types.specs.Operands.{TypedOperand, head_of_operand}
 use Rattle.hs_operands.specs.Operators.{unary_of, not_of}
-use Rattle.hs_operands.specs.declared.operand.Bound.{Bound}
-use Rattle.hs_operands.specs.declared.operand.Bound.TheVariants as bound
-use Rattle.hs_operands.specs.declared.operand.Designator.{Designator}
+use Rattle.hs_operand_types.specs.declared.operand.Bound.{Bound}
+use Rattle.hs_operand_types.specs.declared.operand.Bound.TheVariants as bound
+use Rattle.hs_operand_types.specs.declared.operand.Designator.{Designator}
 use Rattle.hs_syntax.specs.Trees as syntax
 use Rattle.hs_syntax.specs.declared.operators.PrefixOperator.{PrefixOperator}
 use Rattle.hs_syntax.specs.declared.operators.PrefixOperator.TheVariants as prefix

@@ -12,8 +12,8 @@ use Rattle.hs_expressions.specs.Operations.{as_value, as_object, value_of}
 use Rattle.hs_fitting.specs.Noting.{Met, NamesAllow, IsOperandOf, Notes, inside, same_noted, kept_noting, types_noting, then_noting, restored_noting, ending_noting}
 use Rattle.hs_fitting.specs.Rightness.{Righting, lifted_rights, loaded_rights}
 use Rattle.hs_operands.specs.Objects.{loaded}
-use Rattle.hs_operands.specs.Operands.{TypedOperand}
-use Rattle.hs_operands.specs.declared.operand_end.OperandEnd.{OperandEnd}
+use Rattle.hs_operand_types.specs.Operands.{TypedOperand}
+use Rattle.hs_operand_types.specs.declared.operand_end.OperandEnd.{OperandEnd}
 use Rattle.hs_tree.specs.Trees.{RightValue, LeftValue}
 use Rattle.hs_typer.specs.Steps.{Step, ◌>>=◌, ◌>>◌, give, refuse, look, of_types, on_types, lifted, unevaluated}
 use Rattle.hs_typer.specs.declared.type_error.TypeError.{TypeError}

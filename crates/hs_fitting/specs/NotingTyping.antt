@@ -15,11 +15,11 @@ use Rattle.hs_fitting.specs.NotingLeaves.{prefix_object_notes, prefix_met, named
 use Rattle.hs_fitting.specs.NotingSteps.{gives_notes, looks_notes, of_types_notes, looks_met, of_types_met, values_notes, objects_notes, on_types_notes, then_notes, after_notes, and_notes, either_notes, value_notes, unevaluated_notes, prototype_notes, wider_notes}
 use Rattle.hs_fitting.specs.Rightness.{formed_rights, member_rights}
 use Rattle.hs_names.specs.Scopes.{find}
-use Rattle.hs_operands.specs.Answers as answers
+use Rattle.hs_operand_types.specs.Answers as answers
 use Rattle.hs_operands.specs.Assignments.{post_update_of, cast_of, conditional_of, comma_of}
 use Rattle.hs_operands.specs.Objects.{object_of, member_of, element_of, arrow_of, size_number, size_of_operand}
-use Rattle.hs_operands.specs.Operands as operand
-use Rattle.hs_operands.specs.Operands.{TypedOperand}
+use Rattle.hs_operand_types.specs.Operands as operand
+use Rattle.hs_operand_types.specs.Operands.{TypedOperand}
 use Rattle.hs_syntax.specs.Positions.{last_comma, position_of}
 use Rattle.hs_syntax.specs.Trees as syntax
 use Rattle.hs_syntax.specs.Trees.{Expression, Expressions, Lefts, NamedType, Specified, Specification, Members, Constants, Declared, Declarators, Directly, Parameters}

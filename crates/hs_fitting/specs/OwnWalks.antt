@@ -26,7 +26,7 @@ use Rattle.hs_fitting.specs.Whole.{MayStart}
 use Rattle.hs_initialisers.specs.Initialisers.{initialised}
 use Rattle.hs_linkage.specs.Works.{Work, typing, with_typer}
 use Rattle.hs_linkage.specs.declared.translator.Translator.{Translator}
-use Rattle.hs_operands.specs.Types.{is_open_row}
+use Rattle.hs_operand_types.specs.Types.{is_open_row}
 use Rattle.hs_syntax.specs.Trees.{Declared, Initialising, Specification}
 use Rattle.hs_tokens.specs.declared.place.Place.{Place}
 use Rattle.hs_tree.specs.Kinds.{category_of_row}

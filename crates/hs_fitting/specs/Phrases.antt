@@ -17,8 +17,8 @@ use Rattle.hs_fitting.specs.Walk.{Anywhere, Nothing, Walks, passes_walks, stops_
 use Rattle.hs_linkage.specs.Works.{Work, ◌>>=◌, knowing, unless}
 use Rattle.hs_linkage.specs.declared.translator.Translator.{Translator}
 use Rattle.hs_operands.specs.Assignments.{assigned}
-use Rattle.hs_operands.specs.Constants.{constant_value}
-use Rattle.hs_operands.specs.Conversions.{is_not_nil, truth}
+use Rattle.hs_operand_types.specs.Constants.{constant_value}
+use Rattle.hs_operand_types.specs.Conversions.{is_not_nil, truth}
 use Rattle.hs_operands.specs.Laws.{IsTyped}
 use Rattle.hs_operands.specs.Laws.AssignedTyped.{assigned-typed}
 use Rattle.hs_operands.specs.Laws.Conditions.{truth-typed}
@@ -28,8 +28,8 @@ use Rattle.hs_operands.specs.Laws.Numbers.{integer_number}
 use Rattle.hs_operands.specs.Laws.Readable.{assigned_readable}
 use Rattle.hs_operands.specs.Laws.Stays.{is_readable-stays}
 use Rattle.hs_operands.specs.Laws.Typed.{all_with_one}
-use Rattle.hs_operands.specs.declared.operand_end.OperandEnd.{OperandEnd}
-use Rattle.hs_operands.specs.declared.operand_end.OperandEnd.TheVariants as refused
+use Rattle.hs_operand_types.specs.declared.operand_end.OperandEnd.{OperandEnd}
+use Rattle.hs_operand_types.specs.declared.operand_end.OperandEnd.TheVariants as refused
 use Rattle.hs_statements.specs.Statements.{valued, valued_if, condition, condition_if, switched_by, switched, case_bits, case_label, default_label, labelled, all_labelled, no_cases, cases_of, with_declaration, declared_all, returned_as, returned, looping, switching, scoped, switch_cases, stated, block_inside, all_stated, in_function, body_of}
 use Rattle.hs_syntax.specs.Positions.{first_of}
 use Rattle.hs_syntax.specs.Trees as syntax

@@ -17,7 +17,7 @@ use Rattle.hs_linkage.specs.declared.translator.Linked.{Linked}
 use Rattle.hs_linkage.specs.declared.translator.StaticObject.{StaticObject}
 use Rattle.hs_linkage.specs.declared.translator.Translator.{Translator}
 use Rattle.hs_names.specs.Scopes.{find, declared}
-use Rattle.hs_operands.specs.declared.operand.Bound.TheVariants as bound
+use Rattle.hs_operand_types.specs.declared.operand.Bound.TheVariants as bound
 use Rattle.hs_syntax.specs.declared.word.Word.{Word}
 use Rattle.hs_typer.specs.declared.typer.Entity.{Entity}
 use Rattle.hs_typer.specs.declared.typer.Entity.TheVariants as entity

@@ -11,10 +11,10 @@ use Rattle.hs_base.specs.Entries.{all_at, last_either, replaced_either}
 use Rattle.hs_expressions.specs.Laws.Grown.{GrowsTo, completed_grows, enumerated_grows}
 use Rattle.hs_fitting.specs.Moves.{whole_stays}
 use Rattle.hs_operands.specs.Objects.{loaded_as, loaded}
-use Rattle.hs_operands.specs.Operands as operand
-use Rattle.hs_operands.specs.Operands.{TypedOperand}
-use Rattle.hs_operands.specs.declared.operand_end.OperandEnd.{OperandEnd}
-use Rattle.hs_operands.specs.declared.operand_end.OperandEnd.TheVariants as operand_end
+use Rattle.hs_operand_types.specs.Operands as operand
+use Rattle.hs_operand_types.specs.Operands.{TypedOperand}
+use Rattle.hs_operand_types.specs.declared.operand_end.OperandEnd.{OperandEnd}
+use Rattle.hs_operand_types.specs.declared.operand_end.OperandEnd.TheVariants as operand_end
 use Rattle.hs_syntax.specs.declared.word.Word.{Word}
 use Rattle.hs_table.specs.declared.routine.Routine.{Routine}
 use Rattle.hs_tokens.specs.declared.place.Place.{Place}

@@ -13,9 +13,9 @@ use Rattle.hs_expressions.specs.Binding.{IsList, IsSignature, AllAlike, IsLike}
 use Rattle.hs_expressions.specs.Binding.Calls.{end_or_more, same_first, same_others, same_result, same_parameters}
 use Rattle.hs_fitting.specs.Listed.{list_stays}
 use Rattle.hs_linkage.specs.Linkage.{composite}
-use Rattle.hs_operands.specs.Conversions.{same_type}
+use Rattle.hs_operand_types.specs.Conversions.{same_type}
 use Rattle.hs_operands.specs.Laws.Numbers.{same-is}
-use Rattle.hs_operands.specs.Types.{is_open, is_int, inside_both, both_are}
+use Rattle.hs_operand_types.specs.Types.{is_open, is_int, inside_both, both_are}
 use Rattle.hs_tree.specs.Kinds.{Category, of_number, of_pointer, of_struct, of_array, of_function, category_of_row, category_of, AreAlike}
 use Rattle.hs_typer.specs.Origins.{leaves_agree, objects_agree_within, objects_agree, lists_agree_by, lists_agree_within, lists_agree, agree_by, agree}
 use Rattle.hs_typer.specs.declared.origins.Origins.{Origins}

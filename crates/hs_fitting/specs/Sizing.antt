@@ -12,7 +12,7 @@ use Rattle.hs_fitting.specs.Staying.{row_stays}
 use Rattle.hs_fitting.specs.Whole.{MayStart}
 use Rattle.hs_initialisers.specs.Initialisers.{sized_by, sized}
 use Rattle.hs_operands.specs.Laws.Added.{row_found}
-use Rattle.hs_operands.specs.Types.{is_open_row}
+use Rattle.hs_operand_types.specs.Types.{is_open_row}
 use Rattle.hs_tokens.specs.declared.place.Place.{Place}
 use Rattle.hs_tree.specs.Trees.{TypedFunction, TypedProgram}
 use Rattle.hs_typer.specs.Declarators.{untyped_end}

@@ -23,7 +23,7 @@ use Rattle.hs_operands.specs.Laws.AssignedTyped.{assigned-typed}
 use Rattle.hs_operands.specs.Laws.Kept as keep
 use Rattle.hs_operands.specs.Laws.Readable.{assigned_readable}
 use Rattle.hs_operands.specs.Laws.Stays.{is_readable-stays}
-use Rattle.hs_operands.specs.declared.operand_end.OperandEnd.{OperandEnd}
+use Rattle.hs_operand_types.specs.declared.operand_end.OperandEnd.{OperandEnd}
 use Rattle.hs_syntax.specs.Positions.{position_of}
 use Rattle.hs_syntax.specs.Trees as syntax
 use Rattle.hs_syntax.specs.Trees.{Expression, Initialising}

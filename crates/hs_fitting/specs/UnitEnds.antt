@@ -20,7 +20,7 @@ use Rattle.hs_linkage.specs.Externals.{type_of_entity, unfit}
 use Rattle.hs_linkage.specs.declared.definitions.Definition.{Definition}
 use Rattle.hs_linkage.specs.declared.externals.External.{External}
 use Rattle.hs_linkage.specs.declared.translator.Translator.{Translator}
-use Rattle.hs_operands.specs.declared.operand.Bound.{Bound}
+use Rattle.hs_operand_types.specs.declared.operand.Bound.{Bound}
 use Rattle.hs_syntax.specs.Trees as syntax
 use Rattle.hs_syntax.specs.Trees.{ExternalDeclaration}
 use Rattle.hs_table.specs.declared.routine.Routine.{Routine}

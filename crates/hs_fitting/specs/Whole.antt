@@ -14,11 +14,11 @@ use Rattle.hs_fitting.specs.Moves.{IsWhole, whole_stays}
 use Rattle.hs_initialisers.specs.Aggregates.{text_kind, count_begun}
 use Rattle.hs_initialisers.specs.Initialisers.{is_string, braced, all_of, sized_by, sized, alone, initialised, assigned_start, constant_start, starting, with_parts}
 use Rattle.hs_operands.specs.Assignments.{assigned, assigned_pointer, assigned_number}
-use Rattle.hs_operands.specs.Conversions.{same_type}
+use Rattle.hs_operand_types.specs.Conversions.{same_type}
 use Rattle.hs_operands.specs.Laws.Added.{row_found}
-use Rattle.hs_operands.specs.Types.{is_open, is_open_row}
-use Rattle.hs_operands.specs.declared.operand_end.OperandEnd.{OperandEnd}
-use Rattle.hs_operands.specs.declared.operand_end.OperandEnd.TheVariants as end
+use Rattle.hs_operand_types.specs.Types.{is_open, is_open_row}
+use Rattle.hs_operand_types.specs.declared.operand_end.OperandEnd.{OperandEnd}
+use Rattle.hs_operand_types.specs.declared.operand_end.OperandEnd.TheVariants as end
 use Rattle.hs_syntax.specs.Positions.{position_of}
 use Rattle.hs_syntax.specs.Trees as syntax
 use Rattle.hs_syntax.specs.Trees.{Expression, Initialising, Initialisers}

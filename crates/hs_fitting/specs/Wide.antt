@@ -7,13 +7,13 @@ use Rattle.hs_fitting.specs.ConstantNumbers.{HasWideKinds}
 use Rattle.hs_fitting.specs.WideSteps.{IsWideOperand, Answers, Gives, looks_gives, of_types_gives, then_gives, any_gives, either_gives, value_given, object_given, value_gives, named_wide, number_wide, character_wide, string_wide, call_wide}
 use Rattle.hs_fitting.specs.WideBranches.{conditional_wide}
 use Rattle.hs_fitting.specs.WideOperators.{MakesWide, unary_wide, arithmetic_wide, not_wide, and_wide, or_wide, plus_wide, minus_wide, compared_wide, size_wide, size_number_wide, assign_wide, update_wide, post_wide, cast_wide}
-use Rattle.hs_operands.specs.Answers as answers
+use Rattle.hs_operand_types.specs.Answers as answers
 use Rattle.hs_operands.specs.Assignments.{update_of, post_update_of, one, cast_of, conditional_of}
 use Rattle.hs_operands.specs.Laws.Made.{gives_then}
 use Rattle.hs_operands.specs.Objects.{object_of, target_of, element_of, member_of, arrow_of, size_number, size_of_operand}
-use Rattle.hs_operands.specs.Operands.{TypedOperand}
+use Rattle.hs_operand_types.specs.Operands.{TypedOperand}
 use Rattle.hs_operands.specs.Operators.{unary_of, not_of}
-use Rattle.hs_operands.specs.declared.operand_end.OperandEnd.{OperandEnd}
+use Rattle.hs_operand_types.specs.declared.operand_end.OperandEnd.{OperandEnd}
 use Rattle.hs_syntax.specs.Trees as syntax
 use Rattle.hs_syntax.specs.Trees.{Expression}
 use Rattle.hs_syntax.specs.declared.operators.BinaryOperator.{BinaryOperator}

@@ -4,10 +4,10 @@ use Rattle.std.proofs.Common.{◌&&◌, Option, Some, None, Ok, if◌then◌else
 use Rattle.hs_base.specs.Tests.{whichever}
 use Rattle.hs_fitting.specs.ConstantNumbers.{HasWideKinds}
 use Rattle.hs_operands.specs.Assignments.{pointers_chosen, pointer_branches, other_branches, branches_by, conditional_of}
-use Rattle.hs_operands.specs.Constants.{is_null_constant}
-use Rattle.hs_operands.specs.Conversions.{head_at, same_type, as_kind, truth}
+use Rattle.hs_operand_types.specs.Constants.{is_null_constant}
+use Rattle.hs_operand_types.specs.Conversions.{head_at, same_type, as_kind, truth}
 use Rattle.hs_operands.specs.Laws.Made.{gives, refuses, gives_then}
-use Rattle.hs_operands.specs.Types.{are_compatible, is_open}
+use Rattle.hs_operand_types.specs.Types.{are_compatible, is_open}
 use Rattle.hs_tokens.specs.declared.place.Place.{Place}
 use Rattle.hs_tree.specs.Kinds.{number_kind, is_pointer, is_void, pointed}
 use Rattle.hs_tree.specs.Trees as tree

@@ -4,18 +4,18 @@
 use Rattle.std.proofs.Common.{ℕ, ◌==◌, Bool, true, false, ◌&&◌, Option, Some, None, Result, Ok, if◌then◌else◌}
 use Rattle.hs_base.specs.Tests.{whichever}
 use Rattle.hs_fitting.specs.ConstantNumbers.{HasWideKinds, promoted_wide, common_wide}
-use Rattle.hs_operands.specs.Answers.{◌>>=◌}
+use Rattle.hs_operand_types.specs.Answers.{◌>>=◌}
 use Rattle.hs_operands.specs.Assignments.{assigned_number, assigned, assign_of, update_with, direction, advance_by, update_by, update_of, post_advance_by, post_update_by, post_update_of, cast_of, as_pointer}
-use Rattle.hs_operands.specs.Constants.{is_null_constant}
-use Rattle.hs_operands.specs.Conversions.{head_at, same_type, as_kind, truth}
+use Rattle.hs_operand_types.specs.Constants.{is_null_constant}
+use Rattle.hs_operand_types.specs.Conversions.{head_at, same_type, as_kind, truth}
 use Rattle.hs_operands.specs.Laws.Made.{Makes, gives, refuses, gives_then}
 use Rattle.hs_operands.specs.Objects.{spacing, size_by, size_number, size_of_operand}
-use Rattle.hs_operands.specs.Operands as operand
-use Rattle.hs_operands.specs.Operands.{TypedOperand}
+use Rattle.hs_operand_types.specs.Operands as operand
+use Rattle.hs_operand_types.specs.Operands.{TypedOperand}
 use Rattle.hs_operands.specs.Operators.{with_number, with_numbers, unary_of, arithmetic_in, is_shift, arithmetic_of, comparison_in, comparison_of, not_of, and_of, or_of}
 use Rattle.hs_operands.specs.Pointers.{are_numbers, stepped, plus_of, apart, difference_by, minus_of, may_be_compared, is_equality, is_nil_test, nil_test, compared}
-use Rattle.hs_operands.specs.Types.{are_compatible}
-use Rattle.hs_operands.specs.declared.operand_end.OperandEnd.{OperandEnd}
+use Rattle.hs_operand_types.specs.Types.{are_compatible}
+use Rattle.hs_operand_types.specs.declared.operand_end.OperandEnd.{OperandEnd}
 use Rattle.hs_tokens.specs.declared.place.Place.{Place}
 use Rattle.hs_tree.specs.Kinds.{number_kind, is_number, is_pointer, is_scalar, is_readable, is_void, pointed, size_at}
 use Rattle.hs_tree.specs.Trees as tree

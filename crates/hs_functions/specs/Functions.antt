@@ -10,8 +10,8 @@ use Rattle.hs_functions.specs.Opening.{opened_type, named_outside}
 use Rattle.hs_linkage.specs.Linkage.{may_name, link, clash_of}
 use Rattle.hs_linkage.specs.Objects.{marked}
 use Rattle.hs_linkage.specs.Works.{Work, ◌>>=◌, ◌>>◌, pass, stop, typing, unless}
-use Rattle.hs_operands.specs.declared.operand.Bound.{Bound}
-use Rattle.hs_operands.specs.declared.operand.Bound.TheVariants as bound
+use Rattle.hs_operand_types.specs.declared.operand.Bound.{Bound}
+use Rattle.hs_operand_types.specs.declared.operand.Bound.TheVariants as bound
 use Rattle.hs_statements.specs.Statements.{body_of, without_scope}
 use Rattle.hs_syntax.specs.Trees as syntax
 use Rattle.hs_syntax.specs.Trees.{Declared, Directly, Parameters, Specification, Compound}

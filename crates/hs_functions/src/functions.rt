@@ -17,7 +17,7 @@ use hs_declarations::{
 };
 use hs_linkage::{Locals, Translator, clash, link, may_name};
 use hs_names::Scopes;
-use hs_operands::{Bound, is_readable, is_void};
+use hs_operand_types::{Bound, is_readable, is_void};
 use hs_statements::body;
 use hs_syntax::{Block as Compound, Declarator, Parameter, Specifier, Storage, Word};
 use hs_tokens::Place;

@@ -5,7 +5,7 @@
 use Rattle.std.specs.Prelude.{ℕ, ℤ, pos, negsuc, ◌+ℤ◌, ◌-ℤ◌, ◌*ℤ◌, neg_ℤ, int_le, nat_le, Bool, true, false, ◌&&◌, Option, Some, None, if◌then◌else◌}
 use Rattle.hs_constants.specs.declared.value.Value.{Value}
 use Rattle.hs_initialisers.specs.declared.addresses.Address.{Address}
-use Rattle.hs_operands.specs.Constants.{constant_value}
+use Rattle.hs_operand_types.specs.Constants.{constant_value}
 use Rattle.hs_tree.specs.Trees as tree
 use Rattle.hs_tree.specs.Trees.{RightValue, LeftValue}
 use Rattle.hs_tree.specs.declared.constant.Base.{Base}

@@ -6,7 +6,7 @@ ghost use Rattle.hs_tree.specs.Views.{view_right, view_left};
 
 use hs_base::NoMemory;
 use hs_constants::Value;
-use hs_operands::constant_value;
+use hs_operand_types::constant_value;
 use hs_tree::{Base, Constant, Lvalue, Rvalue, Variable};
 use hs_types::Types;
 

@@ -5,8 +5,9 @@ ghost use Rattle.hs_initialisers.specs.Aggregates.{element_at, member_at, itself
 ghost use Rattle.hs_tree.specs.Objects.{field_of};
 ghost use Rattle.hs_types.specs.declared.row.Row.TheVariants as row;
 
-use crate::kinds::{is_scalar, size_of, text_kind};
+use crate::kinds::{size_of, text_kind};
 use hs_base::NoMemory;
+use hs_operand_types::is_scalar;
 use hs_types::{FieldId, Fields, Row, TypeId, Types};
 
 /// The largest size of a type, in bytes.

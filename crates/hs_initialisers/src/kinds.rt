@@ -2,26 +2,11 @@
 
 ghost use Rattle.std.specs.Prelude.{◌≡◌};
 ghost use Rattle.hs_initialisers.specs.Aggregates.{is_character, character_row, text_kind};
-ghost use Rattle.hs_tree.specs.Kinds.{element, array_length, is_scalar};
+ghost use Rattle.hs_tree.specs.Kinds.{element, array_length};
 ghost use Rattle.hs_types.specs.TypeTables.{row_of, size_of};
 
-use hs_operands::{number_kind, pointed};
+use hs_operand_types::element;
 use hs_types::{Integer, Row, TypeId, Types};
-
-/// The type of the elements of an array, or `None` if the type is no array.
-pub(crate) fn element(types: &Types, id: TypeId) -> Option<TypeId>
-    ensures { result ≡ element types.now id }
-{
-    match types.row(id)? {
-        Row::Array { of, .. } | Row::OpenArray(of) => Some(of),
-        Row::Void
-        | Row::Integer(_)
-        | Row::Pointer(_)
-        | Row::Enumeration(_)
-        | Row::Struct(_)
-        | Row::Function { .. } => None,
-    }
-}
 
 /// How many elements an array has, if that is known.
 pub(crate) fn array_length(types: &Types, id: TypeId) -> Option<u32>
@@ -37,13 +22,6 @@ pub(crate) fn array_length(types: &Types, id: TypeId) -> Option<u32>
         | Row::OpenArray(_)
         | Row::Function { .. } => None,
     }
-}
-
-/// Whether a type is a number or a pointer.
-pub(crate) fn is_scalar(types: &Types, id: TypeId) -> bool
-    ensures { result ≡ is_scalar types.now id }
-{
-    number_kind(types, id).is_some() || pointed(types, id).is_some()
 }
 
 /// The size of a type in bytes, or 0 if it is incomplete.

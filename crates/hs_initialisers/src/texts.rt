@@ -9,9 +9,10 @@ ghost use Rattle.hs_syntax.specs.Views.{view, view_initialiser};
 ghost use Rattle.hs_tree.specs.Kinds.{element};
 
 use crate::aggregates::{Subobject, after};
-use crate::kinds::{array_length, element, text_kind};
+use crate::kinds::{array_length, text_kind};
 use hs_base::NoMemory;
 use hs_expressions::string_bytes;
+use hs_operand_types::element;
 use hs_syntax::{Expr, Initialiser, Word};
 use hs_tree::{Constant, Part};
 use hs_typer::TypeError;

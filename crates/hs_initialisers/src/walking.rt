@@ -7,8 +7,8 @@ ghost use Rattle.hs_initialisers.specs.Initialisers.{whole_at};
 
 use crate::aggregates::{Aggregate, Subobject, advanced, fresh, next_in, takes};
 use crate::begun::Begun;
-use crate::kinds::is_scalar;
 use hs_base::NoMemory;
+use hs_operand_types::is_scalar;
 use hs_tokens::Place;
 use hs_typer::TypeError;
 use hs_types::Types;

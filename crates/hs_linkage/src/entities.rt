@@ -6,7 +6,7 @@ ghost use Rattle.hs_linkage.specs.Linkage.{with_type_id, same_entity, is_free, i
 ghost use Rattle.hs_typer.specs.Declarators.{is_typedef};
 
 use crate::translator::Linked;
-use hs_operands::Bound;
+use hs_operand_types::Bound;
 use hs_typer::Entity;
 use hs_types::TypeId;
 

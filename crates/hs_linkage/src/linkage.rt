@@ -9,7 +9,7 @@ use crate::entities::{is_routine, type_of, with_type};
 use crate::questions::{agrees, composite_of, is_function};
 use crate::translator::{Linked, StaticObject, Translator};
 use hs_base::NoMemory;
-use hs_operands::Bound;
+use hs_operand_types::Bound;
 use hs_syntax::Word;
 use hs_table::Routine;
 use hs_tree::{Parts, Variable, VariableDecl};

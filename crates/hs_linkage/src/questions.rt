@@ -3,7 +3,7 @@
 ghost use Rattle.std.specs.Prelude.{◌≡◌};
 ghost use Rattle.hs_linkage.specs.Externals.{agrees_in};
 ghost use Rattle.hs_linkage.specs.Linkage.{is_function, composite_of};
-ghost use Rattle.hs_operands.specs.Types.{designates, is_open};
+ghost use Rattle.hs_operand_types.specs.Types.{designates, is_open};
 ghost use Rattle.hs_types.specs.TypeTables.{is_complete};
 
 use hs_typer::{Origins, agree};

@@ -9,13 +9,13 @@
 --     called types at id arguments          the result and the arguments of a call of a function of that type
 use Rattle.std.specs.Prelude.{ℕ, Bool, true, false, ◌&&◌, ◌||◌, List, [], ◌∷◌, ◌++◌, slice_get, Option, Some, None, Result, Ok, Err, if◌then◌else◌}
 use Rattle.hs_tokens.specs.declared.place.Place.{Place}
-use Rattle.hs_operands.specs.Answers.{◌>>=◌}
-use Rattle.hs_operands.specs.Constants.{is_null_constant}
-use Rattle.hs_operands.specs.Conversions.{head_at, same_type, as_kind, truth}
+use Rattle.hs_operand_types.specs.Answers.{◌>>=◌}
+use Rattle.hs_operand_types.specs.Constants.{is_null_constant}
+use Rattle.hs_operand_types.specs.Conversions.{head_at, same_type, as_kind, truth}
 use Rattle.hs_operands.specs.Operators.{is_shift}
-use Rattle.hs_operands.specs.Types.{are_compatible, is_open}
-use Rattle.hs_operands.specs.declared.operand_end.OperandEnd.{OperandEnd}
-use Rattle.hs_operands.specs.declared.operand_end.OperandEnd.TheVariants.{Untyped}
+use Rattle.hs_operand_types.specs.Types.{are_compatible, is_open}
+use Rattle.hs_operand_types.specs.declared.operand_end.OperandEnd.{OperandEnd}
+use Rattle.hs_operand_types.specs.declared.operand_end.OperandEnd.TheVariants.{Untyped}
 use Rattle.hs_tree.specs.Kinds.{number_kind, is_number, is_pointer, is_scalar, is_readable, is_void, pointed, size_at}
 use Rattle.hs_tree.specs.RowLaws.{rights_from}
 use Rattle.hs_tree.specs.Trees as tree

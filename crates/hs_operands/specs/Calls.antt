@@ -2,7 +2,7 @@
 --     call_of at number its, call_routine_of at number its      the call with that result and these arguments
 use Rattle.std.specs.Prelude.{ℕ, List, None, map}
 use Rattle.hs_tokens.specs.declared.place.Place.{Place}
-use Rattle.hs_operands.specs.Conversions.{head_at}
+use Rattle.hs_operand_types.specs.Conversions.{head_at}
 use Rattle.hs_operands.specs.declared.calls.CheckedCall.{CheckedCall}
 use Rattle.hs_operands.specs.declared.calls.Signature.{Signature}
 use Rattle.hs_tree.specs.RowLaws.{rights_from}

@@ -5,11 +5,11 @@ use Rattle.std.specs.Prelude.{◌≡◌, ℕ, List, Result, Ok}
 use Rattle.std.specs.List.{AllByRecursion}
 use Rattle.hs_operands.specs.Assignments.{assigned, assign_of, update_of, post_update_of, cast_of, conditional_of, comma_of}
 use Rattle.hs_operands.specs.Objects.{loaded, target_of, element_of, member_of, arrow_of, address_of, size_number}
-use Rattle.hs_operands.specs.Operands as operand
-use Rattle.hs_operands.specs.Operands.{TypedOperand}
+use Rattle.hs_operand_types.specs.Operands as operand
+use Rattle.hs_operand_types.specs.Operands.{TypedOperand}
 use Rattle.hs_operands.specs.Operators.{unary_of, arithmetic_of, not_of, and_of, or_of}
 use Rattle.hs_operands.specs.Pointers.{plus_of, minus_of, compared}
-use Rattle.hs_operands.specs.declared.operand_end.OperandEnd.{OperandEnd}
+use Rattle.hs_operand_types.specs.declared.operand_end.OperandEnd.{OperandEnd}
 use Rattle.hs_tokens.specs.declared.place.Place.{Place}
 use Rattle.hs_tree.specs.Fitting.{HasOperands, HasResult, NamesField}
 use Rattle.hs_tree.specs.Inside.{Node, EachRight, EachLeft}

@@ -1,12 +1,6 @@
-pub mod Answers
 pub mod Assignments
 pub mod Calls
-pub mod Constants
-pub mod Conversions
-pub mod Folding
 pub mod Laws
 pub mod Objects
-pub mod Operands
 pub mod Operators
 pub mod Pointers
-pub mod Types

@@ -8,14 +8,14 @@
 --     size_number types at it             the size of an operand, or of a type, as `sizeof` gives it (3.3.3.4)
 use Rattle.std.specs.Prelude.{ℕ, Bool, true, false, List, slice_get, Option, Some, None, Result, Ok, Err, if◌then◌else◌}
 use Rattle.hs_tokens.specs.declared.place.Place.{Place}
-use Rattle.hs_operands.specs.Conversions.{head_at}
-use Rattle.hs_operands.specs.Operands as operand
-use Rattle.hs_operands.specs.Operands.{TypedOperand}
-use Rattle.hs_operands.specs.Types.{designates}
+use Rattle.hs_operand_types.specs.Conversions.{head_at}
+use Rattle.hs_operand_types.specs.Operands as operand
+use Rattle.hs_operand_types.specs.Operands.{TypedOperand}
+use Rattle.hs_operand_types.specs.Types.{designates}
 use Rattle.hs_operands.specs.declared.objects.Found.{Found}
 use Rattle.hs_operands.specs.declared.spacing.Spacing.{Spacing}
-use Rattle.hs_operands.specs.declared.operand_end.OperandEnd.{OperandEnd}
-use Rattle.hs_operands.specs.declared.operand_end.OperandEnd.TheVariants.{Untyped}
+use Rattle.hs_operand_types.specs.declared.operand_end.OperandEnd.{OperandEnd}
+use Rattle.hs_operand_types.specs.declared.operand_end.OperandEnd.TheVariants.{Untyped}
 use Rattle.hs_tree.specs.Kinds.{is_number, is_readable, pointed, element}
 use Rattle.hs_tree.specs.Trees as tree
 use Rattle.hs_tree.specs.Trees.{RightValue, LeftValue, type_of, type_of_left, head_of_left}

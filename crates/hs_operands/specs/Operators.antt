@@ -3,10 +3,10 @@
 --     not_of, and_of, or_of                      conditions
 use Rattle.std.specs.Prelude.{Bool, true, false, Option, Some, None, Result, Ok, Err, if◌then◌else◌}
 use Rattle.hs_tokens.specs.declared.place.Place.{Place}
-use Rattle.hs_operands.specs.Answers.{◌>>=◌}
-use Rattle.hs_operands.specs.Conversions.{head_at, as_kind, truth}
-use Rattle.hs_operands.specs.declared.operand_end.OperandEnd.{OperandEnd}
-use Rattle.hs_operands.specs.declared.operand_end.OperandEnd.TheVariants.{Untyped}
+use Rattle.hs_operand_types.specs.Answers.{◌>>=◌}
+use Rattle.hs_operand_types.specs.Conversions.{head_at, as_kind, truth}
+use Rattle.hs_operand_types.specs.declared.operand_end.OperandEnd.{OperandEnd}
+use Rattle.hs_operand_types.specs.declared.operand_end.OperandEnd.TheVariants.{Untyped}
 use Rattle.hs_tree.specs.Kinds.{number_kind}
 use Rattle.hs_tree.specs.Trees as tree
 use Rattle.hs_tree.specs.Trees.{RightValue, type_of}

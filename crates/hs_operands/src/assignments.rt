@@ -1,19 +1,19 @@
 //! Conversions as by assignment, assignments and casts (X3.159-1989 3.3.2.4, 3.3.3.1, 3.3.4 and 3.3.16).
 
 ghost use Rattle.std.specs.Prelude.{◌≡◌, IfOk};
-ghost use Rattle.hs_operands.specs.Answers.{Gives};
+ghost use Rattle.hs_operand_types.specs.Answers.{Gives};
 ghost use Rattle.hs_operands.specs.Assignments.{assigned_pointer, assigned_number, assigned, assign_of, update_with, direction, advance_by, update_of, one, post_advance_by, post_update_of, cast_of};
-ghost use Rattle.hs_operands.specs.Conversions.{same_type};
+ghost use Rattle.hs_operand_types.specs.Conversions.{same_type};
 ghost use Rattle.hs_tree.specs.Kinds.{number_kind, is_number, pointed, size_at};
 ghost use Rattle.hs_tree.specs.Trees.{type_of, type_of_left};
 ghost use Rattle.hs_tree.specs.Views.{view_right, view_left};
 
-use crate::OperandEnd;
-use crate::constants::is_null_constant;
 use crate::conversions::as_kind;
 use crate::operators::int_head;
-use crate::types::{is_pointer, is_readable, is_scalar, is_void, number_kind, pointed};
 use hs_base::NoMemory;
+use hs_operand_types::{
+    OperandEnd, is_null_constant, is_pointer, is_readable, is_scalar, is_void, number_kind, pointed,
+};
 use hs_tokens::Place;
 use hs_tree::{Arithmetic, Head, Lvalue, Rvalue, Stride};
 use hs_types::{Integer, TypeId, Types};

@@ -1,17 +1,18 @@
 //! `?:` and the comma (X3.159-1989 3.3.15 and 3.3.17).
 
 ghost use Rattle.std.specs.Prelude.{◌≡◌, IfOk, map};
-ghost use Rattle.hs_operands.specs.Answers.{Gives};
+ghost use Rattle.hs_operand_types.specs.Answers.{Gives};
 ghost use Rattle.hs_operands.specs.Assignments.{as_pointer, pointers_chosen, pointer_branches, other_branches, numbers_chosen, branches_by, conditional_of, comma_of};
 ghost use Rattle.hs_tree.specs.Kinds.{number_kind, pointed};
 ghost use Rattle.hs_tree.specs.Trees.{type_of};
 ghost use Rattle.hs_tree.specs.Views.{view_right};
 
-use crate::OperandEnd;
-use crate::constants::is_null_constant;
 use crate::conversions::{as_kind, truth};
-use crate::types::{are_compatible, is_open, is_pointer, is_void, number_kind, pointed};
 use hs_base::NoMemory;
+use hs_operand_types::{
+    OperandEnd, are_compatible, is_null_constant, is_open, is_pointer, is_void, number_kind,
+    pointed,
+};
 use hs_tokens::Place;
 use hs_tree::{Head, Rvalue};
 use hs_types::{Integer, TypeId, Types};

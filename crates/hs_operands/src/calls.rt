@@ -1,16 +1,15 @@
 //! The arguments of calls (X3.159-1989 3.3.2.2).
 
 ghost use Rattle.std.specs.Prelude.{◌≡◌, IfOk, map, [], Some};
-ghost use Rattle.hs_operands.specs.Answers.{Gives};
+ghost use Rattle.hs_operand_types.specs.Answers.{Gives};
 ghost use Rattle.hs_operands.specs.Assignments.{matched, next_parameter, no_parameter, signature_of_row, returned, called};
 ghost use Rattle.hs_operands.specs.Calls.{view_signature, view_called, call_of, call_routine_of};
 ghost use Rattle.hs_tree.specs.Views.{view_right};
 ghost use Rattle.hs_types.specs.TypeTables.{row_of};
 
-use crate::OperandEnd;
 use crate::assignments::assigned;
-use crate::types::{is_readable, is_void};
 use hs_base::NoMemory;
+use hs_operand_types::{OperandEnd, is_readable, is_void};
 use hs_tokens::Place;
 use hs_tree::{Head, Rvalue};
 use hs_types::{ListId, Parameters, Row, TypeId, Types};

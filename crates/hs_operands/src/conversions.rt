@@ -1,13 +1,12 @@
 //! The conversions that operators ask for (X3.159-1989 3.2.1).
 
 ghost use Rattle.std.specs.Prelude.{◌≡◌, IfOk};
-ghost use Rattle.hs_operands.specs.Answers.{Gives};
-ghost use Rattle.hs_operands.specs.Conversions.{as_kind, truth};
+ghost use Rattle.hs_operand_types.specs.Answers.{Gives};
+ghost use Rattle.hs_operand_types.specs.Conversions.{as_kind, truth};
 ghost use Rattle.hs_tree.specs.Views.{view_right};
 
-use crate::OperandEnd;
-use crate::types::{is_pointer, number_kind};
 use hs_base::NoMemory;
+use hs_operand_types::{OperandEnd, is_pointer, number_kind};
 use hs_tokens::Place;
 use hs_tree::{Head, Rvalue};
 use hs_types::{Integer, TypeId, Types};

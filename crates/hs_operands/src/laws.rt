@@ -1,16 +1,9 @@
-//! Laws of the operators, proved and without code.
+//! A law of the operators, proved and without code.
 
-ghost use Rattle.hs_operands.specs.Folding.{ConstantsAreFolded};
 ghost use Rattle.hs_operands.specs.Laws.{AreTypedAnywhere};
 
 /// A law on the operators: what they make of well-typed operands is well typed, as each typed program keeps it, whatever is typed after
 /// them. The operators see the table of types as it is then, and the table of the whole program has grown from it.
 pub fn operators_are_typed()
     ensures { AreTypedAnywhere }
-{}
-
-/// A law on constants (X3.159-1989 3.4): exactly the integral constant expressions have a value, which is that of the arithmetic of
-/// `hs_constants`, and they have no other one.
-pub fn constants_are_folded()
-    ensures { ConstantsAreFolded }
 {}

@@ -1,18 +1,17 @@
 //! Objects that expressions designate, their values and their addresses (X3.159-1989 3.2.2.1, 3.3.2 and 3.3.3).
 
 ghost use Rattle.std.specs.Prelude.{◌≡◌, ◌≤◌, IfOk, length};
-ghost use Rattle.hs_operands.specs.Answers.{Gives, Changes};
+ghost use Rattle.hs_operand_types.specs.Answers.{Gives, Changes};
 ghost use Rattle.hs_operands.specs.Objects.{loaded, loaded_as, object_of, target_of, element_of, found_place, found_at, found_behind, member_of, arrow_of, address_of, size_number, size_of_operand};
-ghost use Rattle.hs_operands.specs.Operands.{view_operand};
+ghost use Rattle.hs_operand_types.specs.Operands.{view_operand};
 ghost use Rattle.hs_tree.specs.Kinds.{element, pointed};
 ghost use Rattle.hs_types.specs.Members.{field_place};
 ghost use Rattle.hs_tree.specs.Trees.{type_of_left};
 ghost use Rattle.hs_tree.specs.Views.{view_right, view_left};
 
 use crate::spacing::spacing_of;
-use crate::types::{designates, element, is_readable, pointed};
-use crate::{Operand, OperandEnd};
 use hs_base::NoMemory;
+use hs_operand_types::{Operand, OperandEnd, designates, element, is_readable, pointed};
 use hs_tokens::Place;
 use hs_tree::{Head, Lvalue, Rvalue};
 use hs_types::{FieldId, Fields, Integer, Row, TypeId, Types};

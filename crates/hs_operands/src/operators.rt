@@ -1,15 +1,14 @@
 //! Operators on numbers and conditions (X3.159-1989 3.3.3 and 3.3.5 to 3.3.14).
 
 ghost use Rattle.std.specs.Prelude.{◌≡◌};
-ghost use Rattle.hs_operands.specs.Answers.{Gives};
-ghost use Rattle.hs_operands.specs.Conversions.{head_at};
+ghost use Rattle.hs_operand_types.specs.Answers.{Gives};
+ghost use Rattle.hs_operand_types.specs.Conversions.{head_at};
 ghost use Rattle.hs_types.specs.Rows.{integer_id};
 ghost use Rattle.hs_operands.specs.Operators.{unary_of, arithmetic_of, in_common_of, shift_of, comparison_of, not_of, and_of, or_of};
 ghost use Rattle.hs_tree.specs.Views.{view_right};
 
-use crate::OperandEnd;
 use crate::conversions::{as_kind, truth};
-use crate::types::number_kind;
+use hs_operand_types::{OperandEnd, number_kind};
 use hs_tokens::Place;
 use hs_tree::{Arithmetic, Comparison, Head, Rvalue, Unary};
 use hs_types::{Integer, TypeId, Types};

@@ -1,18 +1,18 @@
 //! Operators on pointers, and on numbers or pointers (X3.159-1989 3.3.6, 3.3.8 and 3.3.9).
 
 ghost use Rattle.std.specs.Prelude.{◌≡◌};
-ghost use Rattle.hs_operands.specs.Answers.{Gives};
+ghost use Rattle.hs_operand_types.specs.Answers.{Gives};
 ghost use Rattle.hs_operands.specs.Pointers.{are_numbers, plus_of, minus_of, difference_by, is_equality, is_equal, may_be_compared, is_nil_test, pointers_compared, compared, stepped};
 ghost use Rattle.hs_operands.specs.Objects.{spacing};
 ghost use Rattle.hs_tree.specs.Kinds.{pointed};
 ghost use Rattle.hs_tree.specs.Trees.{type_of};
 ghost use Rattle.hs_tree.specs.Views.{view_right};
 
-use crate::OperandEnd;
-use crate::constants::is_null_constant;
 use crate::operators::{arithmetic, comparison, int_head};
 use crate::spacing::spacing_of;
-use crate::types::{are_compatible, is_pointer, is_void, number_kind, pointed};
+use hs_operand_types::{
+    OperandEnd, are_compatible, is_null_constant, is_pointer, is_void, number_kind, pointed,
+};
 use hs_tokens::Place;
 use hs_tree::{Arithmetic, Comparison, Head, Rvalue, Stride};
 use hs_types::{Integer, TypeId, Types};

@@ -4,7 +4,7 @@ ghost use Rattle.std.specs.Prelude.{◌≡◌};
 ghost use Rattle.hs_operands.specs.Objects.{spacing, spacing_by};
 ghost use Rattle.hs_tree.specs.Kinds.{pointed};
 
-use crate::types::{number_kind, pointed};
+use hs_operand_types::{number_kind, pointed};
 use hs_types::{TypeId, Types};
 
 /// What a pointer steps over: the type of the objects, the size of one, and whether the pointer is the left operand.

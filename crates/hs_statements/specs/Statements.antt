@@ -11,8 +11,8 @@ use Rattle.hs_linkage.specs.declared.translator.Translator.{Translator}
 use Rattle.hs_expressions.specs.Expressions.{typed, enter, leave, first_place}
 use Rattle.hs_expressions.specs.Operations.{value_of}
 use Rattle.hs_operands.specs.Assignments.{assigned}
-use Rattle.hs_operands.specs.Constants.{constant_value}
-use Rattle.hs_operands.specs.Conversions.{truth}
+use Rattle.hs_operand_types.specs.Constants.{constant_value}
+use Rattle.hs_operand_types.specs.Conversions.{truth}
 use Rattle.hs_statements.specs.declared.labels.Cases.{Cases}
 use Rattle.hs_statements.specs.declared.setting.Setting.{Setting}
 use Rattle.hs_syntax.specs.Positions.{first_of}

@@ -8,7 +8,8 @@ ghost use Rattle.hs_tree.specs.Views.{view_right};
 
 use hs_expressions::value;
 use hs_linkage::Translator;
-use hs_operands::{assigned, number_kind, truth};
+use hs_operand_types::number_kind;
+use hs_operands::{assigned, truth};
 use hs_syntax::Expr;
 use hs_tokens::Place;
 use hs_tree::Rvalue;

@@ -13,7 +13,7 @@ use crate::held::with;
 use hs_base::NoMemory;
 use hs_constants::Value;
 use hs_linkage::Translator;
-use hs_operands::{constant_value, number_kind};
+use hs_operand_types::{constant_value, number_kind};
 use hs_syntax::{Expr, Label as Syntax};
 use hs_tokens::Place;
 use hs_tree::Label;

@@ -2,7 +2,7 @@
 use Rattle.std.proofs.Common.{◌≡◌, ℕ, zero, suc, ◌-◌, Bool, true, false, ◌&&◌, ◌||◌, Option, None, Some, refl, ap, sym, ◌∙◌}
 use Rattle.std.specs.Prelude.{slice_get, ◌==◌}
 use native.Mathlib.Numerals.{unary_clauses}
-use Rattle.hs_operands.specs.Conversions.{same_type}
+use Rattle.hs_operand_types.specs.Conversions.{same_type}
 use Rattle.hs_typer.specs.Origins.{has_body, origins_agree, structs_agree, leaves_agree, objects_agree_within, objects_agree, lists_agree_by, lists_agree_within}
 use Rattle.hs_typer.specs.Pairs.{IsInside, both_more}
 use Rattle.hs_typer.specs.declared.agreement.Firsts.{Firsts}

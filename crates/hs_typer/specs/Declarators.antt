@@ -14,7 +14,7 @@ use Rattle.hs_typer.specs.declared.type_error.TypeError.TheVariants.{Untyped}
 use Rattle.hs_typer.specs.declared.typer.Entity.{Entity}
 use Rattle.hs_typer.specs.declared.typer.Entity.TheVariants as entity
 use Rattle.hs_names.specs.Scopes.{find, find_here, declared}
-use Rattle.hs_operands.specs.Constants.{constant_value}
+use Rattle.hs_operand_types.specs.Constants.{constant_value}
 use Rattle.hs_syntax.specs.Trees as syntax
 use Rattle.hs_syntax.specs.Trees.{Declared, Directly}
 use Rattle.hs_syntax.specs.declared.operators.Pointer.{Pointer}

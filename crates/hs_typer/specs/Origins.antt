@@ -6,8 +6,8 @@
 use Rattle.std.specs.Prelude.{ℕ, zero, suc, ◌==◌, Bool, true, false, not, ◌&&◌, ◌||◌, List, [], ◌∷◌, ◌++◌, slice_get, slice_set, Option, Some, None, is_some, nat_eq, Ok, Err, if◌then◌else◌}
 use Rattle.std.specs.Cmp.Lexicographic.{pointwise}
 use Rattle.indexmap.specs.IndexMap.{insert_entry}
-use Rattle.hs_operands.specs.Conversions.{same_type}
-use Rattle.hs_operands.specs.Types.{are_int, inside_both, both_are}
+use Rattle.hs_operand_types.specs.Conversions.{same_type}
+use Rattle.hs_operand_types.specs.Types.{are_int, inside_both, both_are}
 use Rattle.hs_tokens.specs.declared.place.Place.{Place}
 use Rattle.hs_tokens.specs.declared.token.Origin as token
 use Rattle.hs_tokens.specs.declared.token.Origin.TheVariants as origin

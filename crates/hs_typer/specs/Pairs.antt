@@ -3,7 +3,7 @@
 --     both_end a b                       two lists of parameters are at their end
 --     both_more a b                      the first of each of two lists, and the others
 use Rattle.std.specs.Prelude.{◌≡◌, Bool, true, false, Option, Some, None}
-use Rattle.hs_operands.specs.Types.{inside_both, both_are}
+use Rattle.hs_operand_types.specs.Types.{inside_both, both_are}
 use Rattle.hs_typer.specs.declared.agreement.Firsts.{Firsts}
 use Rattle.hs_typer.specs.declared.agreement.Pair.{Pair}
 use Rattle.hs_types.specs.declared.row.Parameters.{Parameters}

@@ -15,9 +15,9 @@ use Rattle.hs_typer.specs.declared.typer.Entity.{Entity}
 use Rattle.hs_typer.specs.declared.typer.Entity.TheVariants as entity
 use Rattle.hs_typer.specs.declared.typer.Typer.{Typer}
 use Rattle.hs_names.specs.Scopes.{Scoped, find}
-use Rattle.hs_operands.specs.Conversions.{head_at}
-use Rattle.hs_operands.specs.Operands as operand
-use Rattle.hs_operands.specs.Operands.{TypedOperand}
+use Rattle.hs_operand_types.specs.Conversions.{head_at}
+use Rattle.hs_operand_types.specs.Operands as operand
+use Rattle.hs_operand_types.specs.Operands.{TypedOperand}
 use Rattle.hs_syntax.specs.declared.word.Word.{Word}
 use Rattle.hs_tokens.specs.declared.place.Place.{Place}
 use Rattle.hs_tree.specs.Trees as tree

@@ -12,8 +12,8 @@ use Rattle.hs_typer.specs.declared.origins.Origins.{Origins}
 use Rattle.hs_typer.specs.declared.type_error.TypeError.{TypeError}
 use Rattle.hs_typer.specs.declared.type_error.TypeError.TheVariants.{Untyped, Undeclared, UnknownRoutine, Clash, NoMemory}
 use Rattle.hs_typer.specs.declared.typer.Typer.{Typer}
-use Rattle.hs_operands.specs.declared.operand_end.OperandEnd.{OperandEnd}
-use Rattle.hs_operands.specs.declared.operand_end.OperandEnd.TheVariants as end
+use Rattle.hs_operand_types.specs.declared.operand_end.OperandEnd.{OperandEnd}
+use Rattle.hs_operand_types.specs.declared.operand_end.OperandEnd.TheVariants as end
 use Rattle.hs_table.specs.declared.routine.Routine.{Routine}
 use Rattle.hs_types.specs.TypeTables.{TypeTable, basic_types}
 

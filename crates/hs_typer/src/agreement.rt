@@ -1,7 +1,7 @@
 //! Which types of several units are one (X3.159-1989 3.1.2.6).
 
 ghost use Rattle.std.specs.Prelude.{◌≡◌, ◌&&◌, IfSome, IfNone, option_copied, slice_get};
-ghost use Rattle.hs_operands.specs.Types.{is_int};
+ghost use Rattle.hs_operand_types.specs.Types.{is_int};
 ghost use Rattle.hs_typer.specs.Origins.{are_one_brace, are_one_tag, origins_agree, has_body, structs_agree, brace_in, enumerations_agree, leaves_agree, objects_agree, lists_agree, agree, fields_agree, enumerators_agree, tags_agree, first_field, first_enumerator, first_name};
 ghost use Rattle.hs_typer.specs.Pairs.{IsInside, AreApart, both_end, both_more};
 

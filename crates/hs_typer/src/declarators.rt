@@ -11,7 +11,7 @@ ghost use Rattle.hs_types.specs.TypeTables.{row_of, arrayed};
 use crate::{Entity, TypeError, Typer};
 use hs_base::NoMemory;
 use hs_constants::Value;
-use hs_operands::constant_value;
+use hs_operand_types::constant_value;
 use hs_syntax::{Declarator, Direct, Pointer, Word};
 use hs_tokens::Place;
 use hs_tree::{Rvalue, Variable};

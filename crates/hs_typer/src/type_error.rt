@@ -5,7 +5,7 @@ ghost use Rattle.hs_typer.specs.Primaries.{undeclared};
 ghost use Rattle.hs_typer.specs.Steps.{no_memory, lifted_end};
 
 use hs_base::{Bytes, NoMemory};
-use hs_operands::OperandEnd;
+use hs_operand_types::OperandEnd;
 use hs_syntax::Word;
 use hs_tokens::Place;
 use std::alloc::{AllocFailed, Global};

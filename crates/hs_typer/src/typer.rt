@@ -6,7 +6,7 @@ ghost use Rattle.hs_typer.specs.Steps.{beginning};
 use crate::{Log, Origins};
 use hs_base::NoMemory;
 use hs_names::Scopes;
-use hs_operands::Bound;
+use hs_operand_types::Bound;
 use hs_table::Table;
 use hs_tree::{Literals, Variable};
 use hs_types::{FieldId, TypeId, Types};

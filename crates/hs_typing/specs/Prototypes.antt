@@ -19,7 +19,7 @@ use Rattle.hs_fitting.specs.Claims.{Claims, IsClaimed, AreFulfilled, Endures, Is
 use Rattle.hs_fitting.specs.Entities.{IsAmong}
 use Rattle.hs_fitting.specs.Roles.{role_fits}
 use Rattle.hs_linkage.specs.declared.translator.Translator.{Translator}
-use Rattle.hs_operands.specs.declared.operand.Bound.TheVariants as bound
+use Rattle.hs_operand_types.specs.declared.operand.Bound.TheVariants as bound
 use Rattle.hs_table.specs.declared.routine.Routine.{Routine}
 use Rattle.hs_tree.specs.Fitting.{prototype_in, HasRole, HasRoleAs}
 use Rattle.hs_tree.specs.Sameness.{AreOne}

@@ -5,7 +5,7 @@ ghost use Rattle.hs_tree.specs.Views.{view_function};
 ghost use Rattle.hs_typing.specs.Programs.{main_number, may_be_main};
 
 use hs_linkage::Definitions;
-use hs_operands::{is_void, number_kind};
+use hs_operand_types::{is_void, number_kind};
 use hs_tree::Function;
 use hs_types::Types;
 

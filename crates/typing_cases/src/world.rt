@@ -4,7 +4,7 @@ use crate::expressions::designated_type;
 use crate::refusal::Refusal;
 use crate::texts::boxed;
 use hs_base::{NoMemory, Pos};
-use hs_operands::Bound;
+use hs_operand_types::Bound;
 use hs_syntax::Word;
 use hs_table::{Table, built_in};
 use hs_tokens::{Origin, Place, Text};

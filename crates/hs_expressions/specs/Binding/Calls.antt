@@ -14,20 +14,20 @@ use Rattle.hs_typer.specs.Steps.{lifted}
 use Rattle.hs_typer.specs.declared.type_error.TypeError.{TypeError}
 use Rattle.hs_typer.specs.declared.type_error.TypeError.TheVariants.{Untyped, Clash}
 use Rattle.hs_typer.specs.declared.typer.Typer.{Typer}
-use Rattle.hs_operands.specs.Answers.{◌>>=◌}
+use Rattle.hs_operand_types.specs.Answers.{◌>>=◌}
 use Rattle.hs_operands.specs.Assignments.{assigned, next_parameter, no_parameter, matched, signature_of_row, returned, called}
 use Rattle.hs_operands.specs.Calls.{call_of, call_routine_of}
-use Rattle.hs_operands.specs.Conversions.{head_at}
+use Rattle.hs_operand_types.specs.Conversions.{head_at}
 use Rattle.hs_operands.specs.Laws.Kept.{assigned_kept, each_kept}
 use Rattle.hs_operands.specs.Laws.Made.{Makes, gives, refuses, either_way, gives_then}
 use Rattle.hs_operands.specs.Laws.Typed.{all_with_one}
-use Rattle.hs_operands.specs.Operands as operand
-use Rattle.hs_operands.specs.Operands.{TypedOperand, head_of_operand}
-use Rattle.hs_operands.specs.declared.operand.Bound.{Bound}
-use Rattle.hs_operands.specs.declared.operand.Bound.TheVariants as bound
-use Rattle.hs_operands.specs.declared.operand.Designator.{Designator}
-use Rattle.hs_operands.specs.declared.operand_end.OperandEnd.{OperandEnd}
-use Rattle.hs_operands.specs.declared.operand_end.OperandEnd.TheVariants as end
+use Rattle.hs_operand_types.specs.Operands as operand
+use Rattle.hs_operand_types.specs.Operands.{TypedOperand, head_of_operand}
+use Rattle.hs_operand_types.specs.declared.operand.Bound.{Bound}
+use Rattle.hs_operand_types.specs.declared.operand.Bound.TheVariants as bound
+use Rattle.hs_operand_types.specs.declared.operand.Designator.{Designator}
+use Rattle.hs_operand_types.specs.declared.operand_end.OperandEnd.{OperandEnd}
+use Rattle.hs_operand_types.specs.declared.operand_end.OperandEnd.TheVariants as end
 use Rattle.hs_tokens.specs.declared.place.Place.{Place}
 use Rattle.hs_tree.specs.Fitting.{types_of, prototype_in, FitParameters, FitsSignature, FitsCalled, FitsPrototype, IsMarked}
 use Rattle.hs_tree.specs.Inside.{right}

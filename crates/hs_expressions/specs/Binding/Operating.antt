@@ -20,17 +20,17 @@ use Rattle.hs_typer.specs.declared.typer.Entity.{Entity}
 use Rattle.hs_typer.specs.declared.typer.Entity.TheVariants as entity
 use Rattle.hs_typer.specs.declared.typer.Typer.{Typer}
 use Rattle.hs_names.specs.Scopes.{Declared, newest, entity_of, find}
-use Rattle.hs_operands.specs.Answers.{◌>>=◌}
+use Rattle.hs_operand_types.specs.Answers.{◌>>=◌}
 use Rattle.hs_operands.specs.Assignments.{update_of, post_update_of, one}
-use Rattle.hs_operands.specs.Conversions.{head_at}
+use Rattle.hs_operand_types.specs.Conversions.{head_at}
 use Rattle.hs_operands.specs.Laws.Kept as keep
 use Rattle.hs_operands.specs.Laws.Made.{Makes, refuses, gives_then}
 use Rattle.hs_operands.specs.Objects.{object_of, target_of, member_of, size_of_operand}
-use Rattle.hs_operands.specs.Operands as operand
-use Rattle.hs_operands.specs.Operands.{TypedOperand}
+use Rattle.hs_operand_types.specs.Operands as operand
+use Rattle.hs_operand_types.specs.Operands.{TypedOperand}
 use Rattle.hs_operands.specs.Operators.{unary_of, arithmetic_of, not_of}
 use Rattle.hs_operands.specs.Pointers.{compared}
-use Rattle.hs_operands.specs.declared.operand_end.OperandEnd.{OperandEnd}
+use Rattle.hs_operand_types.specs.declared.operand_end.OperandEnd.{OperandEnd}
 use Rattle.hs_syntax.specs.declared.operators.AssignOperator.{AssignOperator}
 use Rattle.hs_syntax.specs.declared.operators.BinaryOperator.{BinaryOperator}
 use Rattle.hs_syntax.specs.declared.operators.BinaryOperator.TheVariants as binary

@@ -18,7 +18,7 @@ use Rattle.hs_typer.specs.declared.typer.Entity.{Entity}
 use Rattle.hs_typer.specs.declared.typer.Typer.{Typer}
 use Rattle.hs_names.specs.Scopes.{Scoped, Declared, left}
 use Rattle.hs_operands.specs.Objects.{loaded}
-use Rattle.hs_operands.specs.Operands.{TypedOperand}
+use Rattle.hs_operand_types.specs.Operands.{TypedOperand}
 use Rattle.hs_types.specs.TypeTables.{TypeTable}
 
 -- what is known after the answer

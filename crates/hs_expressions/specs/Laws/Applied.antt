@@ -17,12 +17,12 @@ use Rattle.hs_operands.specs.Laws.{IsTyped, IsTypedOperand}
 use Rattle.hs_operands.specs.Laws.BranchesTyped.{each_of}
 use Rattle.hs_operands.specs.Laws.Typed.{AreArguments, arguments_typed, arguments_readable, called-typed}
 use Rattle.hs_operands.specs.Objects.{address_of}
-use Rattle.hs_operands.specs.Operands as operand
-use Rattle.hs_operands.specs.Operands.{TypedOperand, head_of_operand}
-use Rattle.hs_operands.specs.declared.operand.Bound.{Bound}
-use Rattle.hs_operands.specs.declared.operand.Bound.TheVariants as bound
-use Rattle.hs_operands.specs.declared.operand.Designator.{Designator}
-use Rattle.hs_operands.specs.declared.operand_end.OperandEnd.{OperandEnd}
+use Rattle.hs_operand_types.specs.Operands as operand
+use Rattle.hs_operand_types.specs.Operands.{TypedOperand, head_of_operand}
+use Rattle.hs_operand_types.specs.declared.operand.Bound.{Bound}
+use Rattle.hs_operand_types.specs.declared.operand.Bound.TheVariants as bound
+use Rattle.hs_operand_types.specs.declared.operand.Designator.{Designator}
+use Rattle.hs_operand_types.specs.declared.operand_end.OperandEnd.{OperandEnd}
 use Rattle.hs_syntax.specs.declared.operators.PrefixOperator.{PrefixOperator}
 use Rattle.hs_syntax.specs.declared.operators.PrefixOperator.TheVariants as prefix
 use Rattle.hs_tokens.specs.declared.place.Place.{Place}

@@ -11,10 +11,10 @@ use Rattle.hs_typer.specs.declared.declarators.Derivation.TheVariants as derivat
 use Rattle.hs_typer.specs.declared.type_error.TypeError.{TypeError}
 use Rattle.hs_typer.specs.declared.type_error.TypeError.TheVariants.{Untyped}
 use Rattle.hs_operands.specs.Objects.{loaded_as, loaded}
-use Rattle.hs_operands.specs.Operands as operand
-use Rattle.hs_operands.specs.Operands.{TypedOperand}
-use Rattle.hs_operands.specs.declared.operand_end.OperandEnd.{OperandEnd}
-use Rattle.hs_operands.specs.declared.operand_end.OperandEnd.TheVariants as operand_end
+use Rattle.hs_operand_types.specs.Operands as operand
+use Rattle.hs_operand_types.specs.Operands.{TypedOperand}
+use Rattle.hs_operand_types.specs.declared.operand_end.OperandEnd.{OperandEnd}
+use Rattle.hs_operand_types.specs.declared.operand_end.OperandEnd.TheVariants as operand_end
 use Rattle.hs_syntax.specs.declared.word.Word.{Word}
 use Rattle.hs_tokens.specs.declared.place.Place.{Place}
 use Rattle.hs_tree.specs.Kinds.{is_readable, element}

@@ -20,8 +20,8 @@ use Rattle.hs_typer.specs.declared.typer.Typer.{Typer}
 use Rattle.hs_operands.specs.Laws.{IsTyped, IsTypedOperand}
 use Rattle.hs_operands.specs.Laws.Typed.{operators_typed}
 use Rattle.hs_operands.specs.Objects.{loaded}
-use Rattle.hs_operands.specs.Operands.{TypedOperand}
-use Rattle.hs_operands.specs.declared.operand_end.OperandEnd.{OperandEnd}
+use Rattle.hs_operand_types.specs.Operands.{TypedOperand}
+use Rattle.hs_operand_types.specs.declared.operand_end.OperandEnd.{OperandEnd}
 use Rattle.hs_tree.specs.Trees.{RightValue, TypedFunction, TypedProgram}
 use Rattle.hs_types.specs.Growing.{grows_then}
 use Rattle.hs_types.specs.TypeTables.{TypeTable, IsRight, Grows}

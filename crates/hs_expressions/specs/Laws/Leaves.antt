@@ -30,11 +30,11 @@ use Rattle.hs_names.specs.Scopes.{find, find_here, declared}
 use Rattle.hs_operands.specs.Assignments.{called}
 use Rattle.hs_operands.specs.Calls.{call_of, call_routine_of}
 use Rattle.hs_operands.specs.Objects.{object_of}
-use Rattle.hs_operands.specs.Operands as operand
-use Rattle.hs_operands.specs.Operands.{TypedOperand, head_of_operand}
-use Rattle.hs_operands.specs.declared.operand.Bound.{Bound}
-use Rattle.hs_operands.specs.declared.operand.Bound.TheVariants as bound
-use Rattle.hs_operands.specs.declared.operand.Designator.{Designator}
+use Rattle.hs_operand_types.specs.Operands as operand
+use Rattle.hs_operand_types.specs.Operands.{TypedOperand, head_of_operand}
+use Rattle.hs_operand_types.specs.declared.operand.Bound.{Bound}
+use Rattle.hs_operand_types.specs.declared.operand.Bound.TheVariants as bound
+use Rattle.hs_operand_types.specs.declared.operand.Designator.{Designator}
 use Rattle.hs_syntax.specs.Trees.{Declared}
 use Rattle.hs_syntax.specs.declared.operators.PrefixOperator.{PrefixOperator}
 use Rattle.hs_syntax.specs.declared.operators.PrefixOperator.TheVariants as prefix

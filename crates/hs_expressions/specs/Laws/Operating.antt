@@ -3,16 +3,16 @@ use Rattle.std.proofs.Common.{◌≡◌, ℕ, List, Option, Some, None, Result, 
 use Rattle.hs_expressions.specs.Operations.{as_value, as_object, binary_of, member_operand, stepped, prefix_value, operation_of_postfix, postfix_of, operation_of_assignment, assigned_by, assignment_of}
 use Rattle.hs_typer.specs.Steps.{lifted_end}
 use Rattle.hs_typer.specs.declared.type_error.TypeError.{TypeError}
-use Rattle.hs_operands.specs.Answers.{◌>>=◌}
+use Rattle.hs_operand_types.specs.Answers.{◌>>=◌}
 use Rattle.hs_operands.specs.Assignments.{update_of, post_update_of, one}
 use Rattle.hs_operands.specs.Laws.{IsTyped, IsTypedObject, IsTypedOperand, MakesTyped, MakesObject, OperatorsAreTyped}
 use Rattle.hs_operands.specs.Laws.Made.{Makes, refuses, gives_then}
 use Rattle.hs_operands.specs.Laws.Typed.{operators_typed, one-typed}
 use Rattle.hs_operands.specs.Objects.{object_of, target_of, member_of, size_of_operand}
-use Rattle.hs_operands.specs.Operands as operand
-use Rattle.hs_operands.specs.Operands.{TypedOperand}
+use Rattle.hs_operand_types.specs.Operands as operand
+use Rattle.hs_operand_types.specs.Operands.{TypedOperand}
 use Rattle.hs_operands.specs.Operators.{unary_of, not_of}
-use Rattle.hs_operands.specs.declared.operand_end.OperandEnd.{OperandEnd}
+use Rattle.hs_operand_types.specs.declared.operand_end.OperandEnd.{OperandEnd}
 use Rattle.hs_syntax.specs.declared.operators.AssignOperator.{AssignOperator}
 use Rattle.hs_syntax.specs.declared.operators.BinaryOperator.{BinaryOperator}
 use Rattle.hs_syntax.specs.declared.operators.BinaryOperator.TheVariants as binary

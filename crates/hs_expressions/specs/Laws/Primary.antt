@@ -15,12 +15,12 @@ use Rattle.hs_typer.specs.declared.typer.Entity.{Entity}
 use Rattle.hs_typer.specs.declared.typer.Entity.TheVariants as entity
 use Rattle.hs_typer.specs.declared.typer.Typer.{Typer}
 use Rattle.hs_names.specs.Scopes.{Declared, newest, entity_of, find}
-use Rattle.hs_operands.specs.Conversions.{head_at}
+use Rattle.hs_operand_types.specs.Conversions.{head_at}
 use Rattle.hs_operands.specs.Laws.{IsTypedOperand}
 use Rattle.hs_operands.specs.Laws.Added.{row_found}
 use Rattle.hs_operands.specs.Laws.Numbers.{integer_number}
-use Rattle.hs_operands.specs.Operands as operand
-use Rattle.hs_operands.specs.Operands.{TypedOperand}
+use Rattle.hs_operand_types.specs.Operands as operand
+use Rattle.hs_operand_types.specs.Operands.{TypedOperand}
 use Rattle.hs_syntax.specs.declared.word.Word.{Word}
 use Rattle.hs_tokens.specs.declared.place.Place.{Place}
 use Rattle.hs_tree.specs.Fitting.{IsLiteral, size_of_bytes}

@@ -18,8 +18,8 @@ use Rattle.hs_operands.specs.Laws.{IsTyped, IsTypedOperand}
 use Rattle.hs_operands.specs.Laws.Typed.{all_with_one}
 use Rattle.hs_operands.specs.Laws.BranchesTyped.{comma-typed}
 use Rattle.hs_operands.specs.Objects.{element_of, arrow_of, size_number, size_of_operand}
-use Rattle.hs_operands.specs.Operands as operand
-use Rattle.hs_operands.specs.Operands.{TypedOperand}
+use Rattle.hs_operand_types.specs.Operands as operand
+use Rattle.hs_operand_types.specs.Operands.{TypedOperand}
 use Rattle.hs_syntax.specs.Positions.{last_comma, position_of}
 use Rattle.hs_syntax.specs.Trees as syntax
 use Rattle.hs_syntax.specs.Trees.{Expression, Expressions, Lefts}

@@ -1,13 +1,13 @@
 -- Conversions as by assignment, assignments and casts are well typed.
 use Rattle.std.proofs.Common.{◌≡◌, ℕ, Bool, true, false, ◌&&◌, Option, Some, None, Ok, Err, refl, sym, subst, if◌then◌else◌}
 use Rattle.hs_tokens.specs.declared.place.Place.{Place}
-use Rattle.hs_operands.specs.Answers.{◌>>=◌}
+use Rattle.hs_operand_types.specs.Answers.{◌>>=◌}
 use Rattle.hs_operands.specs.Assignments.{assigned_pointer, assigned_number, assigned, assign_of, update_with, direction, advance_by, update_by, update_of, post_advance_by, post_update_by, post_update_of, cast_of}
-use Rattle.hs_operands.specs.Constants.{is_null_constant}
-use Rattle.hs_operands.specs.Conversions.{head_at, same_type, as_kind}
+use Rattle.hs_operand_types.specs.Constants.{is_null_constant}
+use Rattle.hs_operand_types.specs.Conversions.{head_at, same_type, as_kind}
 use Rattle.hs_operands.specs.Laws.{IsTyped, IsTypedObject, MakesTyped, MakesOfType}
 use Rattle.hs_operands.specs.Operators.{is_shift}
-use Rattle.hs_operands.specs.declared.operand_end.OperandEnd.TheVariants.{Untyped}
+use Rattle.hs_operand_types.specs.declared.operand_end.OperandEnd.TheVariants.{Untyped}
 use Rattle.hs_operands.specs.Laws.Made.{gives, refuses, either_way, gives_then}
 use Rattle.hs_operands.specs.Laws.Numbers.{any-number, same-is, as_kind-number, second-shift, second-common, known_number, converted-typed}
 use Rattle.hs_operands.specs.Laws.Stays.{number_kind-stays, is_number-stays, is_pointer-stays, is_scalar-stays, is_void-stays, is_readable-stays, pointed_size-stays}

@@ -4,11 +4,11 @@ use Rattle.std.specs.Prelude.{is_some}
 use Rattle.std.specs.List.{AllByRecursion}
 use Rattle.hs_tokens.specs.declared.place.Place.{Place}
 use Rattle.hs_operands.specs.Assignments.{as_pointer, pointers_chosen, pointer_branches, other_branches, numbers_chosen, branches_by, conditional_of, comma_of}
-use Rattle.hs_operands.specs.Constants.{is_null_constant}
-use Rattle.hs_operands.specs.Conversions.{head_at, same_type, as_kind, truth}
+use Rattle.hs_operand_types.specs.Constants.{is_null_constant}
+use Rattle.hs_operand_types.specs.Conversions.{head_at, same_type, as_kind, truth}
 use Rattle.hs_operands.specs.Laws.{Holds, IsTyped, MakesTyped}
-use Rattle.hs_operands.specs.Types.{are_compatible, is_open}
-use Rattle.hs_operands.specs.declared.operand_end.OperandEnd.TheVariants.{Untyped}
+use Rattle.hs_operand_types.specs.Types.{are_compatible, is_open}
+use Rattle.hs_operand_types.specs.declared.operand_end.OperandEnd.TheVariants.{Untyped}
 use Rattle.hs_operands.specs.Laws.AssignedTyped.{first-of}
 use Rattle.hs_operands.specs.Laws.Conditions.{IsCondition, truth-typed}
 use Rattle.hs_operands.specs.Laws.Made.{gives, refuses, either_way, gives_then}

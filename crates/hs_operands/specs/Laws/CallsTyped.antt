@@ -3,7 +3,7 @@ use Rattle.std.proofs.Common.{◌≡◌, List, [], ◌∷◌, ◌++◌, Option, 
 use Rattle.std.specs.Prelude.{slice_get}
 use Rattle.std.specs.List.{AllByRecursion}
 use Rattle.hs_tokens.specs.declared.place.Place.{Place}
-use Rattle.hs_operands.specs.Answers.{◌>>=◌}
+use Rattle.hs_operand_types.specs.Answers.{◌>>=◌}
 use Rattle.hs_operands.specs.Assignments.{assigned, one, next_parameter, no_parameter, matched, signature_of_row, returned, called}
 use Rattle.hs_operands.specs.Laws.{IsTyped}
 use Rattle.hs_operands.specs.Laws.AssignedTyped.{assigned-typed}

@@ -1,11 +1,11 @@
 -- What operators make of conditions is well typed.
 use Rattle.std.proofs.Common.{Ok, Err, refl, if◌then◌else◌}
 use Rattle.hs_tokens.specs.declared.place.Place.{Place}
-use Rattle.hs_operands.specs.Answers.{◌>>=◌}
-use Rattle.hs_operands.specs.Conversions.{head_at, is_not_nil, truth}
+use Rattle.hs_operand_types.specs.Answers.{◌>>=◌}
+use Rattle.hs_operand_types.specs.Conversions.{head_at, is_not_nil, truth}
 use Rattle.hs_operands.specs.Laws.{IsTyped, MakesTyped}
 use Rattle.hs_operands.specs.Operators.{not_of, and_of, or_of}
-use Rattle.hs_operands.specs.declared.operand_end.OperandEnd.TheVariants.{Untyped}
+use Rattle.hs_operand_types.specs.declared.operand_end.OperandEnd.TheVariants.{Untyped}
 use Rattle.hs_operands.specs.Laws.Made.{Makes, gives, refuses, either_way, gives_then}
 use Rattle.hs_operands.specs.Laws.Numbers.{integer_number, any-number}
 use Rattle.hs_operands.specs.Laws.Stays.{is_number-stays, is_pointer-stays}

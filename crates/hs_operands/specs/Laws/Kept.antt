@@ -5,21 +5,21 @@
 use Rattle.std.proofs.Common.{◌≡◌, ℕ, ◌==◌, Bool, true, false, ◌&&◌, List, [], ◌∷◌, Option, Some, None, Result, Ok, refl, if◌then◌else◌}
 use Rattle.std.specs.List.{AllByRecursion}
 use Rattle.hs_base.specs.Tests.{whichever}
-use Rattle.hs_operands.specs.Answers.{◌>>=◌}
+use Rattle.hs_operand_types.specs.Answers.{◌>>=◌}
 use Rattle.hs_operands.specs.Assignments.{assigned_pointer, assigned_number, assigned, assign_of, update_with, direction, advance_by, update_by, update_of, one, post_advance_by, post_update_by, post_update_of, cast_of, as_pointer, pointers_chosen, pointer_branches, other_branches, branches_by, conditional_of, comma_of}
-use Rattle.hs_operands.specs.Constants.{is_null_constant}
-use Rattle.hs_operands.specs.Conversions.{head_at, same_type, as_kind, truth, is_not_nil}
+use Rattle.hs_operand_types.specs.Constants.{is_null_constant}
+use Rattle.hs_operand_types.specs.Conversions.{head_at, same_type, as_kind, truth, is_not_nil}
 use Rattle.hs_operands.specs.Laws.AssignedTyped.{first-of}
 use Rattle.hs_operands.specs.Laws.Made.{Makes, gives, refuses, either_way, gives_then}
 use Rattle.hs_operands.specs.Laws.Numbers.{same-is}
 use Rattle.hs_operands.specs.Objects.{loaded_as, loaded, target_at, target_of, spacing, element_by, element_of, found_at, member_by, member_of, found_behind, arrow_by, arrow_of, size_by, size_number}
-use Rattle.hs_operands.specs.Operands as operand
-use Rattle.hs_operands.specs.Operands.{TypedOperand}
+use Rattle.hs_operand_types.specs.Operands as operand
+use Rattle.hs_operand_types.specs.Operands.{TypedOperand}
 use Rattle.hs_operands.specs.Operators.{with_number, with_numbers, unary_of, arithmetic_in, is_shift, arithmetic_of, comparison_in, comparison_of, not_of, and_of, or_of}
 use Rattle.hs_operands.specs.Pointers.{are_numbers, stepped, plus_of, apart, difference_by, minus_of, may_be_compared, is_equality, is_nil_test, nil_test, compared}
-use Rattle.hs_operands.specs.Types.{designates, are_compatible, is_open}
+use Rattle.hs_operand_types.specs.Types.{designates, are_compatible, is_open}
 use Rattle.hs_operands.specs.declared.objects.Found.{Found}
-use Rattle.hs_operands.specs.declared.operand_end.OperandEnd.{OperandEnd}
+use Rattle.hs_operand_types.specs.declared.operand_end.OperandEnd.{OperandEnd}
 use Rattle.hs_operands.specs.declared.spacing.Spacing.{Spacing}
 use Rattle.hs_tokens.specs.declared.place.Place.{Place}
 use Rattle.hs_tree.specs.Inside.{Node, right, left, EachRight, EachLeft, EachOf}

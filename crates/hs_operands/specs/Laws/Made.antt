@@ -4,9 +4,9 @@
 --     either_way, gives_then         a test, and a step after another
 use Rattle.std.proofs.Common.{◌≡◌, Bool, true, false, Result, Ok, Err, refl, subst, if◌then◌else◌}
 use Rattle.hs_tokens.specs.declared.place.Place.{Place}
-use Rattle.hs_operands.specs.Answers.{◌>>=◌}
-use Rattle.hs_operands.specs.declared.operand_end.OperandEnd.{OperandEnd}
-use Rattle.hs_operands.specs.declared.operand_end.OperandEnd.TheVariants.{Untyped}
+use Rattle.hs_operand_types.specs.Answers.{◌>>=◌}
+use Rattle.hs_operand_types.specs.declared.operand_end.OperandEnd.{OperandEnd}
+use Rattle.hs_operand_types.specs.declared.operand_end.OperandEnd.TheVariants.{Untyped}
 
 -- What is given meets the fact. `MakesTyped`, `MakesObject` and `MakesOfType` are this for their facts.
 abbrev pub Makes : {A : Type 0} → (A → Type 0) → Result A OperandEnd → Type 0

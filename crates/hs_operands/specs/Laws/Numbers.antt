@@ -3,7 +3,7 @@ use Rattle.std.proofs.Common.{◌≡◌, ℕ, Bool, true, false, Option, Some, N
 use Rattle.std.specs.Prelude.{is_some}
 use Rattle.std.proofs.lemmas.Bool.Decides.{nat_tests}
 use Rattle.hs_tokens.specs.declared.place.Place.{Place}
-use Rattle.hs_operands.specs.Conversions.{head_at, same_type, as_kind}
+use Rattle.hs_operand_types.specs.Conversions.{head_at, same_type, as_kind}
 use Rattle.hs_operands.specs.Laws.{IsTyped, MakesTyped}
 use Rattle.hs_operands.specs.Operators.{with_number, with_numbers, unary_of, in_common_of, arithmetic_in, shift_of, is_shift, arithmetic_of, comparison_in, comparison_of}
 use Rattle.hs_operands.specs.Laws.Made.{Makes, gives, refuses, either_way}

@@ -2,14 +2,14 @@
 use Rattle.std.proofs.Common.{◌≡◌, ℕ, List, Option, Some, None, Ok, Err, refl, ap, sym, subst, ◌∙◌}
 use Rattle.std.specs.Prelude.{slice_get, is_some}
 use Rattle.hs_tokens.specs.declared.place.Place.{Place}
-use Rattle.hs_operands.specs.Conversions.{head_at}
+use Rattle.hs_operand_types.specs.Conversions.{head_at}
 use Rattle.hs_operands.specs.Laws.{IsTyped, IsTypedObject, IsTypedOperand, MakesTyped, MakesObject}
 use Rattle.hs_operands.specs.Objects.{loaded_as, loaded, target_at, target_of, spacing, element_by, element_of, found_field, found_place, found_in, found_of_row, found_at, member_by, member_of, found_behind, arrow_by, arrow_of, address_of, size_by, size_number}
-use Rattle.hs_operands.specs.Operands as operand
-use Rattle.hs_operands.specs.Operands.{TypedOperand}
-use Rattle.hs_operands.specs.Types.{designates}
+use Rattle.hs_operand_types.specs.Operands as operand
+use Rattle.hs_operand_types.specs.Operands.{TypedOperand}
+use Rattle.hs_operand_types.specs.Types.{designates}
 use Rattle.hs_operands.specs.declared.objects.Found.{Found}
-use Rattle.hs_operands.specs.declared.operand_end.OperandEnd.TheVariants.{Untyped}
+use Rattle.hs_operand_types.specs.declared.operand_end.OperandEnd.TheVariants.{Untyped}
 use Rattle.hs_operands.specs.declared.spacing.Spacing.{Spacing}
 use Rattle.hs_operands.specs.Laws.Added.{row_found}
 use Rattle.hs_operands.specs.Laws.Made.{Makes, gives, refuses, either_way}

@@ -3,14 +3,14 @@ use Rattle.std.proofs.Common.{◌≡◌, ◌==◌, ℕ, Bool, true, false, ◌&&
 use Rattle.std.specs.Prelude.{is_some}
 use Rattle.std.proofs.lemmas.Bool.Decides.{nat_tests}
 use Rattle.hs_tokens.specs.declared.place.Place.{Place}
-use Rattle.hs_operands.specs.Constants.{is_null_constant}
-use Rattle.hs_operands.specs.Conversions.{head_at}
+use Rattle.hs_operand_types.specs.Constants.{is_null_constant}
+use Rattle.hs_operand_types.specs.Conversions.{head_at}
 use Rattle.hs_operands.specs.Laws.{IsTyped, MakesTyped}
 use Rattle.hs_operands.specs.Objects.{spacing_over, spacing_by, spacing}
 use Rattle.hs_operands.specs.Operators.{arithmetic_of, comparison_of}
 use Rattle.hs_operands.specs.Pointers.{are_numbers, stepped, plus_of, apart, difference_by, minus_of, is_equality, may_be_compared, pointers_compared, is_nil_test, nil_test, compared}
-use Rattle.hs_operands.specs.Types.{are_compatible}
-use Rattle.hs_operands.specs.declared.operand_end.OperandEnd.TheVariants.{Untyped}
+use Rattle.hs_operand_types.specs.Types.{are_compatible}
+use Rattle.hs_operand_types.specs.declared.operand_end.OperandEnd.TheVariants.{Untyped}
 use Rattle.hs_operands.specs.declared.spacing.Spacing.{Spacing}
 use Rattle.hs_operands.specs.Laws.Made.{gives, refuses, either_way}
 use Rattle.hs_operands.specs.Laws.Numbers.{arithmetic-typed, comparison-typed}

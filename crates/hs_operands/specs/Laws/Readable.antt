@@ -2,7 +2,7 @@
 use Rattle.std.proofs.Common.{◌≡◌, Bool, true, false, ◌&&◌, ◌||◌, Option, Some, None, is_some, Ok, refl, ap, if◌then◌else◌}
 use Rattle.hs_base.specs.Tests.{second_of_three, second_test}
 use Rattle.hs_operands.specs.Assignments.{assigned_pointer, assigned_number, assigned}
-use Rattle.hs_operands.specs.Conversions.{same_type}
+use Rattle.hs_operand_types.specs.Conversions.{same_type}
 use Rattle.hs_operands.specs.Laws.Made.{Makes, either_way}
 use Rattle.hs_tokens.specs.declared.place.Place.{Place}
 use Rattle.hs_tree.specs.Kinds.{number_kind, is_number, is_pointer, is_readable, is_struct_row}

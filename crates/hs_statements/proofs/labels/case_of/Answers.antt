@@ -1,7 +1,7 @@
 use Rattle.std.proofs.Common.{rules, ◌≡◌, nat_eq, false, Ok}
 use Rattle.std.specs.List.{list_any}
 use Rattle.indexmap.specs.IndexSet.{insert_key}
-use Rattle.hs_operands.specs.Constants.{constant_value}
+use Rattle.hs_operand_types.specs.Constants.{constant_value}
 use Rattle.hs_statements.specs.Statements.{valued, case_bits}
 use Rattle.hs_syntax.specs.Views.{view}
 use Rattle.hs_tree.specs.Views.{view_right}

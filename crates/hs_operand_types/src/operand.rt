@@ -1,7 +1,7 @@
 //! Operands: what an expression is before it is used.
 
 ghost use Rattle.std.specs.Prelude.{◌≡◌};
-ghost use Rattle.hs_operands.specs.Operands.{view_operand, head_of_operand};
+ghost use Rattle.hs_operand_types.specs.Operands.{view_operand, head_of_operand};
 
 use hs_base::Bytes;
 use hs_tree::{Head, Lvalue, Rvalue};

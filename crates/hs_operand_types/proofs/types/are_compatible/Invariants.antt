@@ -1,6 +1,6 @@
 use Rattle.std.proofs.Common.{◌≡◌}
-use Rattle.hs_operands.specs.Types.{compatible_within, are_compatible}
-use Rattle.hs_operands.proofs.types.are_compatible.Given as goal
+use Rattle.hs_operand_types.specs.Types.{compatible_within, are_compatible}
+use Rattle.hs_operand_types.proofs.types.are_compatible.Given as goal
 
 -- the types inside are compatible exactly if all are
 abbrev pub invariant-inside : goal.invariant-inside

@@ -2,9 +2,9 @@
 --     TypedOperand               one of the three
 --     view_operand               the one that an operand of the code is
 --     type_of_operand, place_of_operand
-use Rattle.hs_operands.specs.declared.operand.Designator.{Designator}
-use Rattle.hs_operands.specs.declared.operand.Operand.{Operand}
-use Rattle.hs_operands.specs.declared.operand.Operand.TheVariants.{Value, Object, Function}
+use Rattle.hs_operand_types.specs.declared.operand.Designator.{Designator}
+use Rattle.hs_operand_types.specs.declared.operand.Operand.{Operand}
+use Rattle.hs_operand_types.specs.declared.operand.Operand.TheVariants.{Value, Object, Function}
 use Rattle.hs_tree.specs.Trees.{RightValue, LeftValue, head_of, head_of_left}
 use Rattle.hs_tree.specs.Views.{view_right, view_left}
 use Rattle.hs_tree.specs.declared.head.Head.{Head}

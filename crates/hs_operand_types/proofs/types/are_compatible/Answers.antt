@@ -1,6 +1,6 @@
 use Rattle.std.proofs.Common.{rules, ◌∙◌}
-use Rattle.hs_operands.proofs.Compatible.{compatible_inside}
-use Rattle.hs_operands.proofs.types.are_compatible.Goals as goal
+use Rattle.hs_operand_types.proofs.Compatible.{compatible_inside}
+use Rattle.hs_operand_types.proofs.types.are_compatible.Goals as goal
 
 -- what is inside is left to compare
 pub inside-preserved : goal.inside-preserved

@@ -1,9 +1,9 @@
 -- Two types that are not the same are compatible if what is inside them is.
 use Rattle.std.proofs.Common.{◌≡◌, ℕ, zero, suc, ◌-◌, false, Some, refl}
 use native.Mathlib.Numerals.{unary_clauses}
-use Rattle.hs_operands.specs.Conversions.{same_type}
-use Rattle.hs_operands.specs.Types.{are_int, inside_both, compatible_within}
-use Rattle.hs_operands.specs.declared.types.Inside.{Inside}
+use Rattle.hs_operand_types.specs.Conversions.{same_type}
+use Rattle.hs_operand_types.specs.Types.{are_int, inside_both, compatible_within}
+use Rattle.hs_operand_types.specs.declared.types.Inside.{Inside}
 use Rattle.hs_types.specs.TypeTables.{TypeTable, row_of}
 use Rattle.hs_types.specs.declared.row.TypeId.{TypeId}
 

@@ -1,7 +1,7 @@
 //! Constant expressions and null pointer constants.
 
 ghost use Rattle.std.specs.Prelude.{◌≡◌};
-ghost use Rattle.hs_operands.specs.Constants.{folded_unary, folded_arithmetic, folded_comparison, constant_value, is_nil, is_cast_to_void, is_null_constant, points_to_void};
+ghost use Rattle.hs_operand_types.specs.Constants.{folded_unary, folded_arithmetic, folded_comparison, constant_value, is_nil, is_cast_to_void, is_null_constant, points_to_void};
 ghost use Rattle.hs_tree.specs.Kinds.{pointed};
 ghost use Rattle.hs_tree.specs.Views.{view_right};
 
@@ -237,7 +237,7 @@ fn is_cast_to_void(types: &Types, e: &Rvalue) -> bool
 
 /// Whether a value is the constant 0, with nothing in it divided by 0.
 fn is_zero(value: Option<Value>) -> bool
-    ensures { result ≡ Rattle.hs_operands.specs.Constants.is_zero value }
+    ensures { result ≡ Rattle.hs_operand_types.specs.Constants.is_zero value }
 {
     match value {
         Some(value) => value.bits == 0 && !value.fails,

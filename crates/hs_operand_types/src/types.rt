@@ -1,7 +1,7 @@
 //! Questions about types (X3.159-1989 3.1.2.5 and 3.1.2.6).
 
 ghost use Rattle.std.specs.Prelude.{◌≡◌};
-ghost use Rattle.hs_operands.specs.Types.{designates, is_open, are_int, inside_both, are_compatible};
+ghost use Rattle.hs_operand_types.specs.Types.{designates, is_open, are_int, inside_both, are_compatible};
 ghost use Rattle.hs_tree.specs.Kinds.{number_kind, pointed, element, is_pointer, is_scalar, is_void, is_readable};
 
 use hs_types::{Integer, Row, TypeId, Types};
@@ -43,7 +43,9 @@ pub fn pointed(types: &Types, id: TypeId) -> Option<TypeId>
 }
 
 /// The type of the elements of an array, or `None` if the type is no array.
-pub(crate) fn element(types: &Types, id: TypeId) -> Option<TypeId>
+///
+/// Example: `int` for `int [3]` and for `int []`.
+pub fn element(types: &Types, id: TypeId) -> Option<TypeId>
     ensures { result ≡ element types.now id }
 {
     match types.row(id)? {
@@ -58,14 +60,18 @@ pub(crate) fn element(types: &Types, id: TypeId) -> Option<TypeId>
 }
 
 /// Whether a type is a pointer.
-pub(crate) fn is_pointer(types: &Types, id: TypeId) -> bool
+///
+/// Example: `true` for `char *`.
+pub fn is_pointer(types: &Types, id: TypeId) -> bool
     ensures { result ≡ is_pointer types.now id }
 {
     pointed(types, id).is_some()
 }
 
 /// Whether a type is a number or a pointer.
-pub(crate) fn is_scalar(types: &Types, id: TypeId) -> bool
+///
+/// Example: `true` for `int` and `char *`, `false` for a struct.
+pub fn is_scalar(types: &Types, id: TypeId) -> bool
     ensures { result ≡ is_scalar types.now id }
 {
     number_kind(types, id).is_some() || is_pointer(types, id)
@@ -106,7 +112,9 @@ pub fn is_readable(types: &Types, id: TypeId) -> bool
 }
 
 /// Whether an object can be of the type, or will be once the type is complete.
-pub(crate) fn designates(types: &Types, id: TypeId) -> bool
+///
+/// Example: `false` for `void` and for functions.
+pub fn designates(types: &Types, id: TypeId) -> bool
     ensures { result ≡ designates types.now id }
 {
     match types.row(id) {
@@ -123,7 +131,9 @@ pub(crate) fn designates(types: &Types, id: TypeId) -> bool
 }
 
 /// Whether the type is an array whose length is not known.
-pub(crate) fn is_open(types: &Types, id: TypeId) -> bool
+///
+/// Example: `true` for `int []`.
+pub fn is_open(types: &Types, id: TypeId) -> bool
     ensures { result ≡ is_open types.now id }
 {
     match types.row(id) {
@@ -198,7 +208,7 @@ fn are_int(left: Option<Row>, right: Option<Row>) -> bool
 
 /// Whether the kind is `int`.
 fn is_int(kind: Integer) -> bool
-    ensures { result ≡ Rattle.hs_operands.specs.Types.is_int kind }
+    ensures { result ≡ Rattle.hs_operand_types.specs.Types.is_int kind }
 {
     match kind {
         Integer::Int => true,

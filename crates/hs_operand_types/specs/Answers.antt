@@ -1,7 +1,7 @@
 -- What an answer says of the definition: it is the definition's, or memory ran out.
 use Rattle.std.specs.Prelude.{◌≡◌, Result, Ok, Err}
-use Rattle.hs_operands.specs.declared.operand_end.OperandEnd.{OperandEnd}
-use Rattle.hs_operands.specs.declared.operand_end.OperandEnd.TheVariants.{Untyped, NoMemory}
+use Rattle.hs_operand_types.specs.declared.operand_end.OperandEnd.{OperandEnd}
+use Rattle.hs_operand_types.specs.declared.operand_end.OperandEnd.TheVariants.{Untyped, NoMemory}
 
 infixl 10 ◌>>=◌
 -- a step after another, if there is no refusal

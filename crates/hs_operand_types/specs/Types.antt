@@ -2,8 +2,8 @@
 --     designates types id              an object can be of the type, or will be once it is complete (X3.159-1989 3.3.3.2)
 --     are_compatible types a b         the types are compatible (3.1.2.6)
 use Rattle.std.specs.Prelude.{ℕ, zero, suc, ◌==◌, Bool, true, false, ◌||◌, Option, Some, None, if◌then◌else◌}
-use Rattle.hs_operands.specs.Conversions.{same_type}
-use Rattle.hs_operands.specs.declared.types.Inside.{Inside}
+use Rattle.hs_operand_types.specs.Conversions.{same_type}
+use Rattle.hs_operand_types.specs.declared.types.Inside.{Inside}
 use Rattle.hs_types.specs.TypeTables.{TypeTable, row_of}
 use Rattle.hs_types.specs.declared.integer.Integer.{Integer}
 use Rattle.hs_types.specs.declared.integer.Integer.TheVariants as kind

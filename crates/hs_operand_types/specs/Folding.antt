@@ -8,7 +8,7 @@ use Rattle.hs_constants.specs.Arithmetic.{unary_value, binary_value, chosen}
 use Rattle.hs_constants.specs.declared.operator.Binary.TheVariants as binary
 use Rattle.hs_constants.specs.declared.operator.Unary.TheVariants as unary
 use Rattle.hs_constants.specs.declared.value.Value.{Value}
-use Rattle.hs_operands.specs.Constants.{folded_unary, folded_arithmetic, folded_comparison, number_value, converted_value, of_both, of_chosen, cast_value, constant_value}
+use Rattle.hs_operand_types.specs.Constants.{folded_unary, folded_arithmetic, folded_comparison, number_value, converted_value, of_both, of_chosen, cast_value, constant_value}
 use Rattle.hs_tree.specs.Kinds.{number_kind, is_number}
 use Rattle.hs_tree.specs.Trees as tree
 use Rattle.hs_tree.specs.Trees.{RightValue}

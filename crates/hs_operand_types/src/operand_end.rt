@@ -1,7 +1,7 @@
 //! Why operands have no typed expression.
 
 ghost use Rattle.std.specs.Prelude.{◌≡◌};
-ghost use Rattle.hs_operands.specs.Answers.{no_memory};
+ghost use Rattle.hs_operand_types.specs.Answers.{no_memory};
 
 use hs_base::NoMemory;
 use hs_tokens::Place;
