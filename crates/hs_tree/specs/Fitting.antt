@@ -35,7 +35,7 @@ use Rattle.hs_types.specs.declared.row.Row.TheVariants as row
 use Rattle.hs_types.specs.declared.row.TypeId.{TypeId}
 use Rattle.hs_tree.specs.Inside.{Node, right, left, Phrase, of_statement, of_declaration, EachRight, EachBlock, EachExpression, IfAny}
 use Rattle.hs_tree.specs.Objects.{IsField, number_in, FitsStart, FitsGlobal}
-use Rattle.std.proofs.Common.{refl, ap}
+use Rattle.std.proofs.Common.{suc, refl, ap}
 
 -- the variable of an object of static storage duration
 abbrev pub variable_of_global : Option Global → Option VariableDecl
