@@ -12,7 +12,7 @@ use Rattle.hs_expressions.specs.Operations.{value_of}
 use Rattle.hs_fitting.specs.Initialising.{alone_always, braced_always}
 use Rattle.hs_fitting.specs.Moves.{IsWhole, whole_stays}
 use Rattle.hs_fitting.specs.Scalars.{open_not_whole}
-use Rattle.hs_initialisers.specs.Aggregates.{text_kind, count_begun}
+use Rattle.hs_aggregates.specs.Aggregates.{text_kind, count_begun}
 use Rattle.hs_initialisers.specs.Initialisers.{is_string, braced, all_of, sized_by, sized, alone, initialised, assigned_start, constant_start, starting, with_parts}
 use Rattle.hs_operands.specs.Assignments.{assigned}
 use Rattle.hs_operands.specs.Laws.Added.{row_found}

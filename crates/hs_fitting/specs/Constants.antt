@@ -10,7 +10,7 @@ use Rattle.hs_expressions.specs.Binding.Keeping.{IsBound, IsBoundObject}
 use Rattle.hs_fitting.specs.Answers.{none_some, Given}
 use Rattle.hs_fitting.specs.Categories.{pointer_not_void, array_no_scalar, alike_scalar, element_pointer, sized_pointer, struct_pointer}
 use Rattle.hs_fitting.specs.ConstantNumbers.{HasWideKinds, InKind, number_right}
-use Rattle.hs_initialisers.specs.Addresses.{start_of, is_offset, address_at, bytes_over, moved, stepped, address_value, address_of_object, is_null, constant_by, constant_in}
+use Rattle.hs_aggregates.specs.Addresses.{start_of, is_offset, address_at, bytes_over, moved, stepped, address_value, address_of_object, is_null, constant_by, constant_in}
 use Rattle.hs_operand_types.specs.Constants.{constant_value}
 use Rattle.hs_operands.specs.Laws.{IsTyped, IsTypedObject}
 use Rattle.hs_tree.specs.Fitting.{IsMarked, IsObjectOf, is_taken_variable, variable_of_global}

@@ -18,8 +18,8 @@ use Rattle.hs_fitting.specs.Scalars.{Subobject, Scalars, IsAt, IsSolid, scalar_w
 use Rattle.hs_fitting.specs.Staying.{scalar_size, text_kind_stays}
 use Rattle.hs_fitting.specs.Texts.{TextParts, text_parts}
 use Rattle.hs_fitting.specs.WideOperators.{assigned_wide}
-use Rattle.hs_initialisers.specs.Addresses.{constant_in}
-use Rattle.hs_initialisers.specs.Aggregates.{takes, text_kind}
+use Rattle.hs_aggregates.specs.Addresses.{constant_in}
+use Rattle.hs_aggregates.specs.Aggregates.{takes, text_kind}
 use Rattle.hs_initialisers.specs.Initialisers.{part_as, part_with, part_of, text_of, is_string, scalar, excess, simple}
 use Rattle.hs_operands.specs.Assignments.{assigned}
 use Rattle.hs_operands.specs.Laws.AssignedTyped.{assigned-typed}

@@ -8,7 +8,7 @@ use Rattle.hs_expressions.specs.Laws.{IsConstant, IsScoped}
 use Rattle.hs_expressions.specs.Laws.Always.{Always, Reaching, gives_always, refuses_always, looks_always, of_types_always, on_types_always, then_always, value_always}
 use Rattle.hs_expressions.specs.Laws.Extending.{typed_always}
 use Rattle.hs_expressions.specs.Laws.Grown.{Growing, plain_self, arrayed_grows, end_grows}
-use Rattle.hs_initialisers.specs.Aggregates.{text_kind, fresh, reached, Reached, whole, count_begun, takes}
+use Rattle.hs_aggregates.specs.Aggregates.{text_kind, fresh, reached, Reached, whole, count_begun, takes}
 use Rattle.hs_initialisers.specs.Initialisers.{Filled, part_of, text_of, is_string, lone_string, scalar, excess, simple, placed_value, whole_at, text_filled, text_or, placed, all_placed, braced, all_of, sized_by, sized, alone, listed, initialised, assigned_start, constant_start, starting, with_parts}
 use Rattle.hs_initialisers.specs.InlineWords.{inline_word, inline_in_list, inline_list, inline_words}
 use Rattle.hs_operands.specs.Assignments.{assigned}

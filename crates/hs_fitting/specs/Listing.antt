@@ -14,7 +14,7 @@ use Rattle.hs_fitting.specs.Scalars.{Subobject, Scalars, IsAt, IsSolid, whole_so
 use Rattle.hs_fitting.specs.Staying.{takes_stays, text_kind_stays}
 use Rattle.hs_fitting.specs.Texts.{TextParts, text_parts}
 use Rattle.hs_fitting.specs.Walking.{Nested, Target, reached_target, whole_target, inside_nested, nested_end, nested_count}
-use Rattle.hs_initialisers.specs.Aggregates.{text_kind, fresh, takes, reached, Reached, whole, count_begun}
+use Rattle.hs_aggregates.specs.Aggregates.{text_kind, fresh, takes, reached, Reached, whole, count_begun}
 use Rattle.hs_initialisers.specs.Initialisers.{Filled, text_of, is_string, lone_string, placed_value, whole_at as whole_reached, text_filled, text_or, placed, all_placed, braced, all_of, alone}
 use Rattle.hs_syntax.specs.Trees as syntax
 use Rattle.hs_syntax.specs.Trees.{Expression, Initialising, Initialisers}

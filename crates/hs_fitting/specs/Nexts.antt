@@ -9,7 +9,7 @@ use Rattle.hs_fitting.specs.Answers.{none_some, false_true}
 use Rattle.hs_fitting.specs.Fields.{FieldThere, field_there}
 use Rattle.hs_fitting.specs.Moves.{IsWhole}
 use Rattle.hs_fitting.specs.Scalars.{Aggregate, Subobject, Scalars, Within, IsAt, IsSolidRow, IsSolid, room, Beyond, Next}
-use Rattle.hs_initialisers.specs.Aggregates.{element_at, member_at, itself, next_by, next_in, advanced}
+use Rattle.hs_aggregates.specs.Aggregates.{element_at, member_at, itself, next_by, next_in, advanced}
 use Rattle.hs_tree.specs.Kinds.{is_scalar}
 use Rattle.hs_tree.specs.Objects as object
 use Rattle.hs_tree.specs.Objects.{field_of, IsField, IsScalarAt}

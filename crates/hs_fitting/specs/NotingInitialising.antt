@@ -7,7 +7,7 @@ use Rattle.hs_fitting.specs.Noting.{NamesAllow, Noting, Notes}
 use Rattle.hs_fitting.specs.NotingSteps.{gives_notes, refuses_notes, looks_notes, of_types_notes, on_types_notes, after_notes}
 use Rattle.hs_fitting.specs.NotingTyping.{valued_notes}
 use Rattle.hs_fitting.specs.Rightness.{Righting, right_self, arrayed_rights, end_rights}
-use Rattle.hs_initialisers.specs.Aggregates.{text_kind, fresh, reached, Reached, whole, count_begun, takes}
+use Rattle.hs_aggregates.specs.Aggregates.{text_kind, fresh, reached, Reached, whole, count_begun, takes}
 use Rattle.hs_initialisers.specs.Initialisers.{Filled, part_of, text_of, is_string, lone_string, scalar, excess, simple, placed_value, whole_at, text_filled, text_or, placed, all_placed, braced, all_of, sized_by, sized, alone, listed, initialised, assigned_start, constant_start, starting, with_parts}
 use Rattle.hs_initialisers.specs.InlineWords.{inline_word, inline_in_list, inline_list, inline_words}
 use Rattle.hs_operands.specs.Assignments.{assigned}

@@ -17,7 +17,7 @@ use Rattle.hs_fitting.specs.PartLists.{AreParts, InElements, parts_until, comple
 use Rattle.hs_fitting.specs.Readying.{Started, then_started}
 use Rattle.hs_fitting.specs.Scalars.{Within, IsAt, IsSolidRow, IsSolid, whole_at}
 use Rattle.hs_fitting.specs.Sizing.{MayHaveStart, may_start_solid, IsSized, sized_started}
-use Rattle.hs_initialisers.specs.Aggregates.{count_begun}
+use Rattle.hs_aggregates.specs.Aggregates.{count_begun}
 use Rattle.hs_initialisers.specs.Initialisers.{Filled, braced, all_of, sized, alone, initialised}
 use Rattle.hs_syntax.specs.Trees as syntax
 use Rattle.hs_syntax.specs.Trees.{Expression, Initialising, Initialisers}

@@ -12,7 +12,7 @@ use Rattle.std.proofs.Common.{◌≡◌, ◌≤◌, ◌+◌, ◌*◌, ◌||◌, 
 use Rattle.std.specs.Prelude.{is_some}
 use Rattle.hs_fitting.specs.Answers.{false_true, Taken, Given}
 use Rattle.hs_fitting.specs.Moves.{IsWhole}
-use Rattle.hs_initialisers.specs.Aggregates.{next_in, advanced, fresh}
+use Rattle.hs_aggregates.specs.Aggregates.{next_in, advanced, fresh}
 use Rattle.hs_tree.specs.Kinds.{kind_of_row, pointed_of_row, is_scalar, IsScalar}
 use Rattle.hs_tree.specs.Objects.{IsScalarAt}
 use Rattle.hs_types.specs.Layouts.{most_bytes}

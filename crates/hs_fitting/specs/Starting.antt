@@ -16,7 +16,7 @@ use Rattle.hs_fitting.specs.Scalars.{IsSolid}
 use Rattle.hs_fitting.specs.Sizing.{MayHaveStart, may_start_solid}
 use Rattle.hs_fitting.specs.Staying.{text_kind_stays}
 use Rattle.hs_fitting.specs.WideOperators.{assigned_wide}
-use Rattle.hs_initialisers.specs.Aggregates.{text_kind}
+use Rattle.hs_aggregates.specs.Aggregates.{text_kind}
 use Rattle.hs_initialisers.specs.Initialisers.{is_string, assigned_start, constant_start, starting, with_parts}
 use Rattle.hs_operands.specs.Assignments.{assigned}
 use Rattle.hs_operands.specs.Laws.AssignedTyped.{assigned-typed}

@@ -8,7 +8,7 @@ use Rattle.hs_base.specs.Options.{some_there, some_same}
 use Rattle.hs_fitting.specs.Answers.{false_true}
 use Rattle.hs_fitting.specs.Moves.{IsWhole}
 use Rattle.hs_fitting.specs.Scalars.{Aggregate, Subobject, IsSolidRow, IsSolid, whole_solid}
-use Rattle.hs_initialisers.specs.Aggregates.{member_at, next_by, next_in, takes, character_row, character_of, text_kind}
+use Rattle.hs_aggregates.specs.Aggregates.{member_at, next_by, next_in, takes, character_row, character_of, text_kind}
 use Rattle.hs_tree.specs.Kinds.{kind_of_row, pointed_of_row, element_of_row, length_of_row, element, is_scalar, array_length}
 use Rattle.hs_tree.specs.Objects.{field_in, field_of}
 use Rattle.hs_types.specs.Growing.{layout_stays}

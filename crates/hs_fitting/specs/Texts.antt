@@ -10,7 +10,7 @@ use Rattle.hs_fitting.specs.Nexts.{if_some, at_most, element_within, array_size}
 use Rattle.hs_fitting.specs.PartLists.{AreParts, characters_parts}
 use Rattle.hs_fitting.specs.Scalars.{Subobject, Scalars, IsAt, IsSolid, open_not_whole}
 use Rattle.hs_fitting.specs.Staying.{text_kind_stays, element_stays, length_stays}
-use Rattle.hs_initialisers.specs.Aggregates.{is_character, character_row, character_of, text_kind}
+use Rattle.hs_aggregates.specs.Aggregates.{is_character, character_row, character_of, text_kind}
 use Rattle.hs_initialisers.specs.Initialisers.{characters, that_fit, text_with, text_as, text_by, text_of}
 use Rattle.hs_operands.specs.Laws.Stays.{number_kind-stays}
 use Rattle.hs_syntax.specs.Trees as syntax

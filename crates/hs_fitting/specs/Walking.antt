@@ -12,7 +12,7 @@ use Rattle.hs_fitting.specs.Moves.{IsWhole}
 use Rattle.hs_fitting.specs.Nexts.{next_known}
 use Rattle.hs_fitting.specs.Scalars.{Aggregate, Subobject, Scalars, Within, IsAt, IsSolid, room, Beyond, Next, whole_solid, whole_room, whole_at, open_not_whole}
 use Rattle.hs_fitting.specs.Staying.{next_stays, takes_stays}
-use Rattle.hs_initialisers.specs.Aggregates.{next_in, advanced, fresh, unfilled, takes, Reached, reached_by, reached_within, reached_in, reached, whole_by, whole_in, whole, count_begun, most_types}
+use Rattle.hs_aggregates.specs.Aggregates.{next_in, advanced, fresh, unfilled, takes, Reached, reached_by, reached_within, reached_in, reached, whole_by, whole_in, whole, count_begun, most_types}
 use Rattle.hs_operands.specs.Laws.Made.{either_way}
 use Rattle.hs_tree.specs.Kinds.{is_scalar}
 use Rattle.hs_types.specs.TypeTables.{TypeTable, row_of, size_of, IsRight, Grows}

@@ -11,7 +11,7 @@ use Rattle.hs_expressions.specs.Laws.Extending.{typed_always}
 use Rattle.hs_expressions.specs.Laws.Reached.{scoped_after}
 use Rattle.hs_fitting.specs.Initialising.{alone_always, braced_always}
 use Rattle.hs_fitting.specs.Moves.{IsWhole, whole_stays}
-use Rattle.hs_initialisers.specs.Aggregates.{text_kind, count_begun}
+use Rattle.hs_aggregates.specs.Aggregates.{text_kind, count_begun}
 use Rattle.hs_initialisers.specs.Initialisers.{is_string, braced, all_of, sized_by, sized, alone, initialised, assigned_start, constant_start, starting, with_parts}
 use Rattle.hs_operands.specs.Assignments.{assigned, assigned_pointer, assigned_number}
 use Rattle.hs_operand_types.specs.Conversions.{same_type}

@@ -5,9 +5,9 @@ use Rattle.hs_typer.specs.Steps.{Step, Refuses, Steps, ◌>>=◌, then_with, giv
 use Rattle.hs_typer.specs.declared.type_error.TypeError.{TypeError}
 use Rattle.hs_typer.specs.declared.type_error.TypeError.TheVariants.{Untyped, Undeclared, UnknownRoutine, Clash, NoMemory}
 use Rattle.hs_typer.specs.declared.typer.Typer.{Typer}
-use Rattle.hs_initialisers.specs.Aggregates.{Reached, fresh, takes, reached, whole, text_kind}
+use Rattle.hs_aggregates.specs.Aggregates.{Reached, fresh, takes, reached, whole, text_kind}
 use Rattle.hs_initialisers.specs.Initialisers.{Filled, all_of, alone, simple, excess, is_string, lone_string, text_or, text_of, text_filled, whole_at, placed, placed_value, all_placed, braced}
-use Rattle.hs_initialisers.specs.declared.aggregates.Subobject.{Subobject}
+use Rattle.hs_aggregates.specs.declared.aggregates.Subobject.{Subobject}
 use Rattle.hs_syntax.specs.Trees as syntax
 use Rattle.hs_syntax.specs.Trees.{Expression, Initialisers}
 use Rattle.hs_tokens.specs.declared.place.Place.{Place}

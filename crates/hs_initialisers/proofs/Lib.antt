@@ -1,4 +1,2 @@
 pub mod Choices
-pub mod Counted
-pub mod Reaching
 mod Rows

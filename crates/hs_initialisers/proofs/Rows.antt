@@ -4,7 +4,7 @@ use Rattle.std.specs.Prelude.{codes, Result}
 use Rattle.hs_typer.specs.Steps.{beginning}
 use Rattle.hs_typer.specs.declared.type_error.TypeError.TheVariants.{Untyped}
 use Rattle.hs_typer.specs.declared.typer.Typer.{Typer}
-use Rattle.hs_initialisers.specs.Aggregates.{most_types}
+use Rattle.hs_aggregates.specs.Aggregates.{most_types}
 use Rattle.hs_initialisers.specs.Initialisers.{initialised}
 use Rattle.hs_syntax.specs.Trees as syntax
 use Rattle.hs_syntax.specs.Trees.{Expression, Initialising, Initialisers}

@@ -4,10 +4,10 @@
 use Rattle.std.specs.Prelude.{ℕ, suc, ◌==◌, nat_le, Bool, true, false, ◌&&◌, List, [], ◌∷◌, ◌++◌, length, take, Option, Some, None, is_some, Result, Ok, Err, if◌then◌else◌}
 use Rattle.hs_expressions.specs.Expressions.{typed}
 use Rattle.hs_expressions.specs.Operations.{value_of}
-use Rattle.hs_initialisers.specs.Addresses.{constant_in}
-use Rattle.hs_initialisers.specs.Aggregates.{Reached, fresh, takes, reached, whole, text_kind, count_begun}
-use Rattle.hs_initialisers.specs.declared.aggregates.Aggregate.{Aggregate}
-use Rattle.hs_initialisers.specs.declared.aggregates.Subobject.{Subobject}
+use Rattle.hs_aggregates.specs.Addresses.{constant_in}
+use Rattle.hs_aggregates.specs.Aggregates.{Reached, fresh, takes, reached, whole, text_kind, count_begun}
+use Rattle.hs_aggregates.specs.declared.aggregates.Aggregate.{Aggregate}
+use Rattle.hs_aggregates.specs.declared.aggregates.Subobject.{Subobject}
 use Rattle.hs_operands.specs.Assignments.{assigned}
 use Rattle.hs_syntax.specs.Positions.{position_of}
 use Rattle.hs_syntax.specs.Trees as syntax

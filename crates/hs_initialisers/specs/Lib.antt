@@ -1,4 +1,2 @@
-pub mod Addresses
-pub mod Aggregates
 pub mod Initialisers
 pub mod InlineWords

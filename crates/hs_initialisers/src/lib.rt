@@ -2,16 +2,11 @@
 //! `specs/Initialisers.antt` has the definition.
 #![tactic(auto)]
 
-mod addresses;
-mod aggregates;
-mod begun;
 mod inline;
-mod kinds;
 mod lists;
 mod objects;
 mod parts;
 mod texts;
-mod walking;
 
 pub use inline::inline_words;
 pub use objects::{initialised, starting};

@@ -1,23 +1,21 @@
 //! Lists of initialisers in braces (X3.159-1989 3.5.7).
 
 ghost use Rattle.std.specs.Prelude.{◌≡◌, ◌∷◌, [], map, option_map, IfOk};
-ghost use Rattle.hs_typer.specs.Steps.{Steps};
-ghost use Rattle.hs_initialisers.specs.Aggregates.{fresh};
-ghost use Rattle.hs_initialisers.specs.Initialisers.{placed_value, text_filled, placed, all_placed, braced};
+ghost use Rattle.hs_typer.specs.Steps.{Gives, Steps};
+ghost use Rattle.hs_aggregates.specs.Aggregates.{fresh, whole};
+ghost use Rattle.hs_initialisers.specs.Initialisers.{placed_value, text_filled, placed, all_placed, braced, whole_at};
 ghost use Rattle.hs_syntax.specs.StatementViews.{initialisers_from};
 ghost use Rattle.hs_syntax.specs.Views.{view, view_initialiser};
 
-use crate::aggregates::{Aggregate, Subobject, fresh};
-use crate::begun::Begun;
-use crate::kinds::text_kind;
 use crate::parts::{excess, joined, simple};
 use crate::texts::{is_string, lone_string, text_of};
-use crate::walking::{Destination, reached, whole_at};
+use hs_aggregates::{Aggregate, Begun, Destination, Subobject, fresh, reached, text_kind, whole};
 use hs_base::NoMemory;
 use hs_syntax::{Expr, Initialiser};
+use hs_tokens::Place;
 use hs_tree::Part;
 use hs_typer::{TypeError, Typer};
-use hs_types::TypeId;
+use hs_types::{TypeId, Types};
 use std::alloc::Global;
 
 /// The parts so far, and the aggregates that have begun.
@@ -174,4 +172,14 @@ fn listed(
 {
     let begun = one_begun(alloc, fresh(it))?;
     all_placed(alloc, typer, Filled { parts: done, begun }, its)
+}
+
+/// The member or element that a list in braces initialises. If nothing is left, the list is refused at its `{`.
+fn whole_at(types: &Types, at: Place, begun: Begun) -> Result<Destination, TypeError>
+    ensures { Gives (λ to. (to.it, to.begun)) (whole_at at (whole types.now begun)) result }
+{
+    match whole(types, begun)? {
+        Some(to) => Ok(to),
+        None => Err(TypeError::Untyped(at)),
+    }
 }

@@ -9,11 +9,10 @@ ghost use Rattle.hs_syntax.specs.Views.{view, view_initialiser};
 ghost use Rattle.hs_tree.specs.Views.{view_initial};
 ghost use Rattle.hs_types.specs.TypeTables.{arrayed};
 
-use crate::aggregates::{Subobject, takes};
-use crate::kinds::text_kind;
 use crate::lists::{Filled, braced, number_of};
 use crate::parts::{excess, simple};
 use crate::texts::is_string;
+use hs_aggregates::{Subobject, takes, text_kind};
 use hs_expressions::value;
 use hs_operands::assigned;
 use hs_syntax::{Expr, Initialiser};

@@ -6,10 +6,8 @@ ghost use Rattle.hs_initialisers.specs.Initialisers.{part_of, scalar, excess, si
 ghost use Rattle.hs_syntax.specs.Views.{view};
 ghost use Rattle.hs_tree.specs.Views.{view_right};
 
-use crate::addresses::constant_in;
-use crate::aggregates::Subobject;
-use crate::kinds::text_kind;
 use crate::texts::{is_string, text_of};
+use hs_aggregates::{Subobject, constant_in, text_kind};
 use hs_base::NoMemory;
 use hs_expressions::value;
 use hs_operands::assigned;

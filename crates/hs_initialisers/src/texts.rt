@@ -2,14 +2,13 @@
 
 ghost use Rattle.std.specs.Prelude.{◌≡◌, IfOk, map, option_map, option_copied};
 ghost use Rattle.hs_typer.specs.Steps.{Gives};
-ghost use Rattle.hs_initialisers.specs.Aggregates.{text_kind};
+ghost use Rattle.hs_aggregates.specs.Aggregates.{text_kind};
 ghost use Rattle.hs_initialisers.specs.Initialisers.{characters, that_fit, text_by, text_of, is_string, lone_string};
 ghost use Rattle.hs_syntax.specs.StatementViews.{initialisers_from};
 ghost use Rattle.hs_syntax.specs.Views.{view, view_initialiser};
 ghost use Rattle.hs_tree.specs.Kinds.{element};
 
-use crate::aggregates::{Subobject, after};
-use crate::kinds::{array_length, text_kind};
+use hs_aggregates::{Subobject, after, array_length, text_kind};
 use hs_base::NoMemory;
 use hs_expressions::string_bytes;
 use hs_operand_types::element;

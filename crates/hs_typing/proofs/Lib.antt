@@ -1,3 +1,2 @@
 mod Completed
 mod Refused
-mod Turns

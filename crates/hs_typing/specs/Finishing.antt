@@ -26,7 +26,7 @@ use Rattle.hs_types.specs.declared.row.Row.{Row}
 use Rattle.hs_types.specs.declared.row.Row.TheVariants as row
 use Rattle.hs_types.specs.declared.row.TypeId.{TypeId}
 use Rattle.hs_types.specs.TableLaws.{grows_row}
-use Rattle.hs_typing.specs.Ends.{or_same, finished_row, finished_object, global_of, globals_of, sized_global, sized_globals, taken_globals}
+use Rattle.hs_ends.specs.Ends.{or_same, finished_row, finished_object, global_of, globals_of, sized_global, sized_globals, taken_globals}
 use Rattle.hs_typing.specs.Programs.{parts_of, assembled}
 
 -- ---- tables to which types are added

@@ -12,7 +12,7 @@ use Rattle.hs_table.specs.declared.routine.Routine.{Routine}
 use Rattle.hs_typer.specs.declared.typer.RoutineCall.{RoutineCall}
 use Rattle.hs_types.specs.TypeTables.{TypeTable}
 use Rattle.hs_types.specs.declared.row.TypeId.{TypeId}
-use Rattle.hs_typing.specs.Ends.{no_types, with_call, first_types}
+use Rattle.hs_ends.specs.Ends.{no_types, with_call, first_types}
 
 -- ---- the types of the first calls
 

@@ -20,7 +20,7 @@ use Rattle.hs_types.specs.declared.row.FieldId.{FieldId}
 use Rattle.hs_types.specs.declared.row.Row.{Row}
 use Rattle.hs_types.specs.declared.row.Row.TheVariants as row
 use Rattle.hs_types.specs.declared.row.TypeId.{TypeId}
-use Rattle.hs_typing.specs.Ends.{taken_globals}
+use Rattle.hs_ends.specs.Ends.{taken_globals}
 use Rattle.hs_typing.specs.Finishing.{IsSameOrOne, IsEnded, AreEnded, program_at_end, objects_ended}
 
 -- ---- an array of unknown length has no parts

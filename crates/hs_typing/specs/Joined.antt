@@ -18,7 +18,7 @@ use Rattle.hs_typer.specs.declared.origins.Origin.{Origin}
 use Rattle.hs_typer.specs.declared.origins.Origins.{Origins}
 use Rattle.hs_typer.specs.declared.typer.Tag.TheVariants as tag
 use Rattle.hs_types.specs.TypeTables.{TypeTable, body_in}
-use Rattle.hs_typing.specs.Ends.{taken_globals}
+use Rattle.hs_ends.specs.Ends.{taken_globals}
 use Rattle.hs_typing.specs.Finishing.{program_at_end, globals_add}
 
 -- ---- what stands for each struct

@@ -39,7 +39,7 @@ use Rattle.hs_tree.specs.Kinds.{is_number, is_void, number_kind}
 use Rattle.hs_tree.specs.Trees.{TypedFunction, TypedProgram}
 use Rattle.hs_typer.specs.declared.type_error.TypeError.{TypeError}
 use Rattle.hs_types.specs.TypeTables.{TypeTable, IsRight, Grows}
-use Rattle.hs_typing.specs.Ends.{passes}
+use Rattle.hs_ends.specs.Ends.{passes}
 use Rattle.hs_typing.specs.Finishing.{program_at_end, finished_types}
 use Rattle.hs_typing.specs.Globals.{all_globals}
 use Rattle.hs_typing.specs.Joined.{joined_at_end}

@@ -23,7 +23,7 @@ use Rattle.hs_typer.specs.declared.typer.Taken.{Taken}
 use Rattle.hs_typer.specs.declared.typer.Taken.TheVariants as taken
 use Rattle.hs_types.specs.TypeTables.{TypeTable}
 use Rattle.hs_types.specs.declared.row.FieldId.{FieldId}
-use Rattle.hs_typing.specs.Ends.{with_taken_global, taken_globals, with_taken_field, taken_fields}
+use Rattle.hs_ends.specs.Ends.{with_taken_global, taken_globals, with_taken_field, taken_fields}
 use Rattle.hs_typing.specs.Finishing.{AreEnded, program_at_end, objects_ended}
 
 -- ---- keys that are put in

@@ -27,7 +27,7 @@ use Rattle.hs_typer.specs.declared.type_error.TypeError.{TypeError}
 use Rattle.hs_typer.specs.declared.type_error.TypeError.TheVariants as typing
 use Rattle.hs_types.specs.TypeTables.{TypeTable}
 use Rattle.hs_types.specs.declared.row.FieldId.{FieldId}
-use Rattle.hs_typing.specs.Ends.{globals_of, sized_globals, taken_globals, taken_fields, no_types, first_types, bound_routines, passes}
+use Rattle.hs_ends.specs.Ends.{globals_of, sized_globals, taken_globals, taken_fields, no_types, first_types, bound_routines, passes}
 use Rattle.hs_typing.specs.declared.program.ProgramError.{ProgramError}
 use Rattle.hs_typing.specs.declared.program.ProgramError.TheVariants.{Refused, NoMain, Limit, NoMemory}
 use Rattle.hs_typing.specs.declared.program.Typed.{Typed}

@@ -32,7 +32,7 @@ use Rattle.hs_typer.specs.declared.typer.RoutineCall.{RoutineCall}
 use Rattle.hs_types.specs.TypeTables.{TypeTable}
 use Rattle.hs_types.specs.declared.row.ListId.{ListId}
 use Rattle.hs_types.specs.declared.row.TypeId.{TypeId}
-use Rattle.hs_typing.specs.Ends.{no_types, first_types, listed_next, listed_in, prototype_of_row, prototype_of, bound_routine, bound_routines}
+use Rattle.hs_ends.specs.Ends.{no_types, first_types, listed_next, listed_in, prototype_of_row, prototype_of, bound_routine, bound_routines}
 use Rattle.hs_typing.specs.Finishing.{program_at_end, finished_types, finished_objects}
 use Rattle.hs_typing.specs.FirstCalls.{none_count, first_count, HasFirst, first_known, IsCalled, none_called, first_called}
 use Rattle.hs_typing.specs.Marking.{all_marked}

@@ -2,11 +2,7 @@
 //! definition.
 #![tactic(auto)]
 
-mod bytes;
-mod ends;
 mod main_function;
-mod objects;
 mod program;
-mod routines;
 
 pub use program::{ProgramError, program_of};

@@ -7,15 +7,14 @@ ghost use Rattle.hs_linkage.specs.Works.{before_units};
 ghost use Rattle.hs_syntax.specs.Views.{view_unit};
 ghost use Rattle.hs_tree.specs.Fitting.{Fits};
 ghost use Rattle.hs_tree.specs.Views.{view_function};
-ghost use Rattle.hs_typing.specs.Ends.{globals_of, taken_globals, no_types, first_types, bound_routines};
+ghost use Rattle.hs_ends.specs.Ends.{globals_of, taken_globals, no_types, first_types, bound_routines};
 ghost use Rattle.hs_typing.specs.Programs.{parts_of, assembled, usable_main, within, with_main, no_memory, refusal_of, ended, typed, view_typed, view_program, IsTyped, IsProgram};
 
-use crate::bytes::passes;
-use crate::ends::{taken_fields, taken_globals};
 use crate::main_function::{main_number, may_be_main};
-use crate::objects::{globals_of, sized_globals};
-use crate::routines::{bound_routines, first_types};
 use hs_base::{Limit, LimitKind, NoMemory};
+use hs_ends::{
+    bound_routines, first_types, globals_of, passes, sized_globals, taken_fields, taken_globals,
+};
 use hs_functions::functions_of;
 use hs_linkage::{Definitions, Objects, Translator};
 use hs_same_types::representatives;

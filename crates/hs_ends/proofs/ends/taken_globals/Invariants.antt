@@ -1,0 +1,10 @@
+use Rattle.std.proofs.Common.{◌≡◌, [], length}
+use Rattle.hs_ends.specs.Ends.{taken_globals}
+use Rattle.hs_ends.proofs.ends.taken_globals.Given as goal
+
+-- the addresses that are left come after those so far
+abbrev pub invariant-rest : goal.invariant-rest
+invariant-rest l = taken_globals l.all.keys l.rest ≡ taken_globals [] l.fn.its
+
+abbrev pub decreases-rest : goal.decreases-rest
+decreases-rest l = length l.rest

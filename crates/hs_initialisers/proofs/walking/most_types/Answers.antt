@@ -1,8 +1,0 @@
-use Rattle.std.proofs.Common.{refl}
-use Rattle.hs_initialisers.specs.Aggregates.{most_types}
-use Rattle.hs_initialisers.proofs.walking.most_types.Goals as goal
-
--- the number itself
-pub returns : goal.returns
-unfolding most_types
-returns c = refl
