@@ -73,6 +73,14 @@ struct Ends {
     taken: TakenFields,
 }
 
+/// The reason, once nothing needs what is held. A function that drops a large struct itself takes a minute to prove.
+fn given_up<T: Drop>(held: T, why: ProgramError) -> ProgramError
+    ensures { result ≡ why }
+{
+    drop(held);
+    why
+}
+
 /// The objects, with the types that they have at the end, without their sizes.
 fn globals_at_end(alloc: Global, m: &mut Translator) -> Result<Vec<Object>, NoMemory>
     ensures globals { IfOk result
@@ -160,10 +168,11 @@ fn within(it: Typed) -> Result<Typed, ProgramError>
     ensures { IsTyped (within (view_typed it)) result }
 {
     if passes(it.globals.items(), it.literals.items()) {
-        return Err(ProgramError::Limit(Limit {
+        let limit = Limit {
             kind: LimitKind::Objects,
             reached: LimitKind::Objects.number(),
-        }));
+        };
+        return Err(given_up(it, ProgramError::Limit(limit)));
     }
     Ok(it)
 }
@@ -208,7 +217,7 @@ fn with_main(
 {
     match main {
         Some(number) => completed(alloc, m, functions, number),
-        None => Err(ProgramError::NoMain),
+        None => Err(given_up((m, functions), ProgramError::NoMain)),
     }
 }
 
@@ -245,7 +254,7 @@ fn translated(alloc: Global, m: Translator, units: &[Unit]) -> Result<Typed, Pro
             let main = usable_main(&all, &functions, main_number(&all.definitions));
             with_main(alloc, all, functions, main)
         }
-        Err(why) => Err(refused(why)),
+        Err(why) => Err(given_up(all, refused(why))),
     }
 }
 
