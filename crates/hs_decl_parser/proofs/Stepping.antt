@@ -17,7 +17,7 @@ use Rattle.hs_expr_parser.specs.Laws.Along.{stays}
 use Rattle.hs_expr_parser.specs.Steps.{expression_at, assignment_at, conditional_at, some_specifiers_at, declarator_at}
 use Rattle.hs_decl_parser.specs.Goals as goal
 use Rattle.hs_decl_parser.specs.Reading.{Shorter, Controls, reading, braces_rule, starting_value, declared_rule, bare, inner_rule, statement_by, function_rule, specified_rule}
-use Rattle.hs_decl_parser.specs.Steps.{braces_at, initialiser_at, initialisers_at, start_at, item_from, item_at, items_at, declared_at, declaration_at, declarations_at, inner_at, block_at, test_at, optional_at, if_at, while_at, do_at, controls_at, for_at, switch_at, ended_at, return_at, ended_expression_at, plain_at, statement_at, label_at, labels_at, labelled_at, statements_at, function_at, external_from, specified_at, external_at}
+use Rattle.hs_decl_parser.specs.Steps.{braces_at, initialiser_at, initialisers_at, start_at, item_from, item_at, items_at, declared_at, declaration_at, declarations_at, inner_at, block_at, test_at, optional_at, if_at, while_at, do_at, controls_at, for_at, switch_at, ended_at, return_at, ended_expression_at, plain_at, statement_at, label_at, labels_at, labelled_at, statements_at, function_at, external_from, specified_at, external_at, else_at}
 use Rattle.hs_decl_parser.specs.Words.{statement_word_of, keyword_at, begins_label}
 use Rattle.hs_decl_parser.specs.declared.words.StatementWord.{StatementWord}
 use Rattle.hs_decl_parser.specs.declared.words.StatementWord.TheVariants.{If, While, Do, For, Switch, Break, Continue, Return}
@@ -304,24 +304,17 @@ if_alone known at test taken rest is =
 
 pub if_otherwise : (known : Known) (at : Place) (test : Expression) (taken : Statement) (rest : List SourceToken) (word : Place) (others : List SourceToken)
     → keyword_at (codes "else") rest ≡ Some (word, others)
-    → if_on known at test taken rest ≡ (statement_at known others >>= (λ otherwise. Some (tree.if_else at test taken otherwise.0, otherwise.1)))
-unfolding if_on
+    → if_on known at test taken rest ≡ else_at known at test taken others
+unfolding if_on else_at
 if_otherwise known at test taken rest word others is =
     found_goes (λ word others. statement_at known others >>= (λ otherwise. Some (tree.if_else at test taken otherwise.0, otherwise.1)))
     (Some (tree.if_ at test taken, rest))
     word others is
 
--- an `if` with an `else`, by what its parts read
-pub if_whole : (known : Known) (at : Place) (rest behind left others end : List SourceToken) (test : Expression) (taken otherwise : Statement) (word : Place)
-    → test_at known rest ≡ Some (test, behind) → statement_at known behind ≡ Some (taken, left) → keyword_at (codes "else") left ≡ Some (word, others)
-    → statement_at known others ≡ Some (otherwise, end) → if_at known at rest ≡ Some (tree.if_else at test taken otherwise, end)
-if_whole known at rest behind left others end test taken otherwise word tested took ahead after =
-    let step : Expression × List SourceToken → Read Statement =
-    λ it. statement_at known it.1 >>= (λ first. if_on known at it.0 first.0 first.1) in
-    let later : Statement × List SourceToken → Read Statement = λ first. if_on known at test first.0 first.1 in
-    let last : Statement × List SourceToken → Read Statement = λ it. Some (tree.if_else at test taken it.0, it.1) in
-    if_step known at rest ∙ ap (λ (it : Read Expression). it >>= step) tested ∙ ap (λ (it : Read Statement). it >>= later) took
-    ∙ if_otherwise known at test taken left word others ahead ∙ ap (λ (it : Read Statement). it >>= last) after
+pub else_step : (known : Known) (at : Place) (test : Expression) (taken : Statement) (rest : List SourceToken)
+    → else_at known at test taken rest ≡ (statement_at known rest >>= (λ otherwise. Some (tree.if_else at test taken otherwise.0, otherwise.1)))
+unfolding else_at
+else_step known at test taken rest = refl
 
 pub while_step : (known : Known) (at : Place) (rest : List SourceToken)
     → while_at known at rest ≡ (test_at known rest >>= (λ test. statement_at known test.1 >>= (λ body. Some (tree.while_ at test.0 body.0, body.1))))

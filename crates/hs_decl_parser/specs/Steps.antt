@@ -109,6 +109,12 @@ plain_at known source rest = plain_rule known (reading known) source rest
 unfoldable pub statement_at : Known → List SourceToken → Read Statement
 statement_at known tokens = statement_rule known (reading known) tokens
 
+-- what follows the `else` of an `if` with that test and that first branch
+unfoldable pub else_at : Known → Place → Expression → Statement → List SourceToken → Read Statement
+else_at known at test taken rest = do
+  otherwise ← statement_at known rest
+  Some (tree.if_else at test taken otherwise.0, otherwise.1)
+
 -- a label that begins with that token
 unfoldable pub label_at : Known → SourceToken → List SourceToken → Read Labelling
 label_at known source rest = label_rule known source rest

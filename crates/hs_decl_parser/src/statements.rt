@@ -2,9 +2,9 @@
 
 ghost use Rattle.std.specs.Prelude.{◌≡◌, ◌<◌, ◌≤◌, [], length, map, IfOk};
 ghost use Rattle.hs_syntax.specs.StatementViews.{view_labelled};
-ghost use Rattle.hs_syntax.specs.Views.{view_statement, view_block};
+ghost use Rattle.hs_syntax.specs.Views.{view, view_statement, view_block};
 ghost use Rattle.hs_expr_parser.specs.Given.{Gives};
-ghost use Rattle.hs_decl_parser.specs.Steps.{inner_at, block_at, if_at, while_at, do_at, for_at, switch_at, ended_at, return_at, ended_expression_at, statement_at, labelled_at, statements_at};
+ghost use Rattle.hs_decl_parser.specs.Steps.{inner_at, block_at, if_at, else_at, while_at, do_at, for_at, switch_at, ended_at, return_at, ended_expression_at, statement_at, labelled_at, statements_at};
 
 use crate::ahead::{keyword, keyword_ahead};
 use crate::declarations::declarations;
@@ -14,7 +14,7 @@ use crate::words::{StatementWord, statement_word_of};
 use hs_expr_parser::{
     ParseEnd, TypeNames, expression, first, is_mark_ahead, is_punctuator, mark, place_of,
 };
-use hs_syntax::{Block, Labelled, Stmt, with};
+use hs_syntax::{Block, Expr, Labelled, Stmt, with};
 use hs_tokens::{Place, SourceToken};
 use std::alloc::Global;
 
@@ -118,27 +118,56 @@ fn if_statement<'a>(
     ensures shorter { IfOk result (λ x. length x.1.now < length rest.now) }
 {
     let (test, behind) = test(alloc, known, rest)?;
-    let (taken, left) = statement(alloc, known, behind)?;
-    let Some((_, others)) = keyword_ahead(left, b"else") else {
-        return Ok((
-            Stmt::If {
-                at,
-                test,
-                then: Box::new(alloc, taken)?,
-            },
-            left,
-        ));
-    };
-    let (otherwise, end) = statement(alloc, known, others)?;
+    let (test, (then, left)) = with(test, boxed_statement(alloc, known, behind))?;
+    match keyword_ahead(left, b"else") {
+        Some((_, others)) => with_else(alloc, known, at, test, then, others),
+        None => Ok((Stmt::If { at, test, then }, left)),
+    }
+}
+
+/// Reads the statement after the `else` of an `if` (X3.159-1989 3.6.4.1).
+///
+/// `statement`
+#[cycle(statement)]
+#[tactic(auto, using(crate::proofs::Stepping::else_step))]
+fn with_else<'a>(
+    alloc: Global,
+    known: &TypeNames,
+    at: Place,
+    test: Expr,
+    then: Box<Stmt>,
+    rest: &'a [SourceToken],
+) -> Result<(Stmt, &'a [SourceToken]), ParseEnd>
+    ensures read { Gives (λ x. (view_statement x.0, x.1.now)) result (else_at known.now at (view test) (view_statement then.value) rest.now) }
+    ensures shorter { IfOk result (λ x. length x.1.now < length rest.now) }
+{
+    let ((test, then), (otherwise, left)) = with(
+        (test, then),
+        boxed_statement(alloc, known, rest),
+    )?;
     Ok((
         Stmt::IfElse {
             at,
             test,
-            then: Box::new(alloc, taken)?,
-            otherwise: Box::new(alloc, otherwise)?,
+            then,
+            otherwise,
         },
-        end,
+        left,
     ))
+}
+
+/// Reads a statement that another one holds, into a box: a function that holds a box pays little for the type of what is in it.
+#[cycle(statement)]
+fn boxed_statement<'a>(
+    alloc: Global,
+    known: &TypeNames,
+    tokens: &'a [SourceToken],
+) -> Result<(Box<Stmt>, &'a [SourceToken]), ParseEnd>
+    ensures read { Gives (λ x. (view_statement x.0.value, x.1.now)) result (statement_at known.now tokens.now) }
+    ensures shorter { IfOk result (λ x. length x.1.now < length tokens.now) }
+{
+    let (it, rest) = statement(alloc, known, tokens)?;
+    Ok((Box::new(alloc, it)?, rest))
 }
 
 /// Reads a `while` after its word (X3.159-1989 3.6.5.1).
@@ -156,8 +185,7 @@ fn while_statement<'a>(
     ensures shorter { IfOk result (λ x. length x.1.now < length rest.now) }
 {
     let (test, behind) = test(alloc, known, rest)?;
-    let (test, (body, left)) = with(test, statement(alloc, known, behind))?;
-    let (test, body) = with(test, Box::new(alloc, body))?;
+    let (test, (body, left)) = with(test, boxed_statement(alloc, known, behind))?;
     Ok((Stmt::While { at, test, body }, left))
 }
 
@@ -175,11 +203,10 @@ fn do_statement<'a>(
     ensures read { Gives (λ x. (view_statement x.0, x.1.now)) result (do_at known.now at rest.now) }
     ensures shorter { IfOk result (λ x. length x.1.now < length rest.now) }
 {
-    let (body, behind) = statement(alloc, known, rest)?;
+    let (body, behind) = boxed_statement(alloc, known, rest)?;
     let (body, (_, next)) = with(body, keyword(behind, b"while"))?;
     let (body, (test, end)) = with(body, test(alloc, known, next))?;
     let ((body, test), (_, left)) = with((body, test), mark(end, b";"))?;
-    let (test, body) = with(test, Box::new(alloc, body))?;
     Ok((Stmt::Do { at, body, test }, left))
 }
 
@@ -198,8 +225,7 @@ fn for_statement<'a>(
     ensures shorter { IfOk result (λ x. length x.1.now < length rest.now) }
 {
     let (controls, behind) = for_controls(alloc, known, rest)?;
-    let (controls, (body, left)) = with(controls, statement(alloc, known, behind))?;
-    let (controls, body) = with(controls, Box::new(alloc, body))?;
+    let (controls, (body, left)) = with(controls, boxed_statement(alloc, known, behind))?;
     Ok((
         Stmt::For {
             at,

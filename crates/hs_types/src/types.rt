@@ -1,10 +1,11 @@
 //! The table of types.
 
-ghost use Rattle.std.specs.Prelude.{◌≡◌, ◌≤◌, ◌<◌, Some, None, IfOk, IfErr, OnOk, OnErr, IfSome, IsTrue, slice_get, length, option_copied};
+ghost use Rattle.std.specs.Prelude.{◌≡◌, [], ◌≤◌, ◌<◌, Some, None, IfOk, IfErr, OnOk, OnErr, IfSome, IsTrue, slice_get, length, option_copied};
 ghost use Rattle.hs_types.specs.TypeTables.{basic_types, row_of, layout_of, is_complete, size_of, body_of, constants_of};
 ghost use Rattle.hs_types.specs.TypeTables.{with_row, id_of, with_list, list_id_of, arrayed, completed, with_struct};
 ghost use Rattle.hs_types.specs.TypeTables.{with_enumeration, enumerated, measured, awaits_body, FitsRow, IsBody, AreApart, AreInside, AreAligned, Grows};
 ghost use Rattle.hs_types.specs.Layouts.{most_bytes};
+ghost use Rattle.hs_types.specs.Rows.{basic_rows};
 ghost use Rattle.hs_types.specs.Refusals.{IsRefusal, IsUnmeasured, no_memory};
 
 use crate::body::Measured;
@@ -63,6 +64,27 @@ impl Model for Types {
     ghost invariant = { λ it. IsRight (record { rows = it.rows; lists = it.lists; structs = it.structs.items; enumerations = it.enumerations.items }) };
 }
 
+/// Puts the basic types into a list that has none: `void`, the integer types, `char *` and `char **`. It only borrows the list, as a function
+/// that owns it drops it at each of these twelve exits.
+fn place_basic(rows: &mut Interned<Row>) -> Result<(), NoMemory>
+    requires { rows.old ≡ [] }
+    ensures { OnOk result (rows.new ≡ basic_rows) }
+{
+    rows.place(Row::Void)?;
+    rows.place(Row::Integer(Integer::Char))?;
+    rows.place(Row::Integer(Integer::SignedChar))?;
+    rows.place(Row::Integer(Integer::UnsignedChar))?;
+    rows.place(Row::Integer(Integer::Short))?;
+    rows.place(Row::Integer(Integer::UnsignedShort))?;
+    rows.place(Row::Integer(Integer::Int))?;
+    rows.place(Row::Integer(Integer::UnsignedInt))?;
+    rows.place(Row::Integer(Integer::Long))?;
+    rows.place(Row::Integer(Integer::UnsignedLong))?;
+    rows.place(Row::Pointer(TypeId::integer(Integer::Char)))?;
+    rows.place(Row::Pointer(TypeId::char_pointer()))?;
+    Ok(())
+}
+
 impl Types {
     ghost use Rattle.hs_types.specs.TypeTables.{IsRight};
 
@@ -71,18 +93,7 @@ impl Types {
         ensures { IfOk result (λ types. types ≡ basic_types) }
     {
         let mut rows = Interned::new(alloc);
-        rows.place(Row::Void)?;
-        rows.place(Row::Integer(Integer::Char))?;
-        rows.place(Row::Integer(Integer::SignedChar))?;
-        rows.place(Row::Integer(Integer::UnsignedChar))?;
-        rows.place(Row::Integer(Integer::Short))?;
-        rows.place(Row::Integer(Integer::UnsignedShort))?;
-        rows.place(Row::Integer(Integer::Int))?;
-        rows.place(Row::Integer(Integer::UnsignedInt))?;
-        rows.place(Row::Integer(Integer::Long))?;
-        rows.place(Row::Integer(Integer::UnsignedLong))?;
-        rows.place(Row::Pointer(TypeId::integer(Integer::Char)))?;
-        rows.place(Row::Pointer(TypeId::char_pointer()))?;
+        place_basic(&mut rows)?;
         Ok(Types {
             rows,
             lists: Interned::new(alloc),

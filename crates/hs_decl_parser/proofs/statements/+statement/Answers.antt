@@ -3,11 +3,10 @@ use Rattle.std.specs.Prelude.{codes}
 use Rattle.std.proofs.lemmas.List.{map-append}
 use Rattle.std.proofs.lemmas.Result.{err_from_is_err_and}
 use Rattle.hs_syntax.specs.StatementViews.{view_labelled}
-use Rattle.hs_syntax.specs.Views.{view, view_statement}
 use Rattle.hs_expr_parser.specs.Ahead.{is_mark_ahead}
 use Rattle.hs_decl_parser.specs.Steps.{labelled_at, statements_at}
 use Rattle.hs_expr_parser.specs.Laws.Fails.{fails_along}
-use Rattle.hs_decl_parser.proofs.Stepping.{if_whole, statements_goes, statements_fails}
+use Rattle.hs_decl_parser.proofs.Stepping.{statements_goes, statements_fails}
 use Rattle.hs_decl_parser.proofs.statements.+statement.Goals as goal
 
 -- one that fails
@@ -34,11 +33,3 @@ statements-statements-preserved t c =
           ∙ c.statements.invariant.0,
       omega (arith, c.in_ok-it.ensures.shorter, c.statements.invariant.1),
     )
-
--- with an `else`
-pub if_statement-returns-clause-read : goal.if_statement-returns-clause-read
-if_statement-returns-clause-read t c =
-    rw (c.in_ok-new-2.ensures.ok, c.in_ok-new-3.ensures.ok)
-    (if_whole c.args.known.now c.args.at c.args.rest.now c.in_ok-test.behind.now c.in_ok-taken.left.now c.in-Some.others.now c.in_ok-otherwise.end.now
-    (view c.in_ok-test.test) (view_statement c.in_ok-taken.taken) (view_statement c.in_ok-otherwise.otherwise) c.in-Some.field-0-0
-    c.in_ok-test.ensures.read c.in_ok-taken.ensures.read c.in-Some.ensures.read c.in_ok-otherwise.ensures.read)

@@ -9,6 +9,12 @@ decreases-statement l = 8 * length l.tokens.now + 1
 abbrev pub decreases-if_statement : goal.decreases-if_statement
 decreases-if_statement l = 8 * length l.rest.now + 5
 
+abbrev pub decreases-with_else : goal.decreases-with_else
+decreases-with_else l = 8 * length l.rest.now + 4
+
+abbrev pub decreases-boxed_statement : goal.decreases-boxed_statement
+decreases-boxed_statement l = 8 * length l.tokens.now + 2
+
 abbrev pub decreases-while_statement : goal.decreases-while_statement
 decreases-while_statement l = 8 * length l.rest.now + 5
 
