@@ -4,6 +4,7 @@
 mod command;
 mod memory;
 mod real;
+mod silent;
 
 use hs_base::NoMemory;
 use hs_cases::{Case, File, cases};

@@ -1,9 +1,11 @@
 //! Cases over files and a sink in memory.
 
-use crate::command::status_of;
-use hs_base::{MemFiles, MemSink, NoMemory};
-use hs_cases::{File, bytes_of, listing_of, option, push_bytes, words_of};
-use hs_command::Status;
+use crate::command::{status_of, status_with};
+use crate::silent::Silent;
+use hs_base::NoMemory;
+use hs_cases::{File, bytes_of, listing_of, option, parted, push_bytes, words_of};
+use hs_memory::{MemFiles, MemSink};
+use hs_report::Status;
 use std::alloc::{AllocError, Global};
 
 /// How many bytes a call may write here, unless the option `@room` says.
@@ -15,6 +17,7 @@ fn line_of<'a>(kind: &str, text: &'a str) -> &'a str {
         (Some(words), _) => words,
         (None, "check") => "check|main.c",
         (None, "slide") => "run|--mover|slide|main.c",
+        (None, "caller") => "run|--mover|9|main.c",
         (None, _) => "run|main.c",
     }
 }
@@ -53,12 +56,40 @@ fn shown(alloc: Global, status: Status, written: &[u8]) -> Result<String, AllocE
     }
 }
 
+/// The words of a call. A case of the kind `wordless` has none.
+fn words_in(alloc: Global, kind: &str, text: &str) -> Result<Vec<String>, AllocError> {
+    match kind {
+        "wordless" => Ok(Vec::new(alloc)),
+        _ => words_of(alloc, line_of(kind, text), '|'),
+    }
+}
+
+/// The mover that the option `@mover` names, or none.
+fn mover_of(text: &str) -> Option<Silent> {
+    let (name, times) = parted(option(text, "@mover ")?, " ");
+    match name {
+        "careless" => Some(Silent::Careless),
+        "witness" => Some(Silent::Witness),
+        "poor" => Some(Silent::Poor),
+        _ => Some(Silent::Verbose(times.parse().unwrap_or(0))),
+    }
+}
+
 /// What a text without escapes is answered by.
 fn answer_to(alloc: Global, shared: &[File], kind: &str, text: &str) -> Result<String, NoMemory> {
-    let words = words_of(alloc, line_of(kind, text), '|')?;
+    let words = words_in(alloc, kind, text)?;
     let mut files = files_of(alloc, shared, text)?;
     let mut out = sink_of(alloc, text)?;
-    let status = status_of(alloc, words.as_slice(), &mut files, &mut out)?;
+    let status = match kind {
+        "caller" => status_with(
+            alloc,
+            words.as_slice(),
+            &mut files,
+            &mut out,
+            mover_of(text),
+        )?,
+        _ => status_of(alloc, words.as_slice(), &mut files, &mut out)?,
+    };
     Ok(shown(alloc, status, out.written())?)
 }
 

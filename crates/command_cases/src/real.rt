@@ -1,9 +1,9 @@
 //! Cases over the files of the folder.
 
 use crate::command::status_of;
-use hs_base::MemSink;
 use hs_cases::{parted, words_of};
-use hs_command::HostFiles;
+use hs_host::HostFiles;
+use hs_memory::MemSink;
 use std::rt::Files;
 use std::{fs, io};
 

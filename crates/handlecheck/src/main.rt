@@ -2,8 +2,10 @@
 #![tactic(auto)]
 
 use hs_command::refuse_memory;
-pub use hs_command::{HostFiles, HostSink, Status, run};
+pub use hs_command::run;
+pub use hs_host::{HostFiles, HostSink};
 use hs_movers::{Mover, Scripted, Seeded, Slide, Still};
+pub use hs_report::Status;
 use std::alloc::AllocError;
 use std::env::Env;
 use std::process::ExitCode;

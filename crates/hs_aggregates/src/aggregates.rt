@@ -16,6 +16,7 @@ const MOST_BYTES: u32 = 16_777_216;
 /// An aggregate that a list of initialisers goes through, or a scalar in braces.
 #[derive(Clone, Copy)]
 pub struct Aggregate {
+    /// The type of the aggregate or of the scalar.
     pub type_id: TypeId,
     /// The byte of the whole object at which it begins.
     pub offset: u32,
@@ -30,6 +31,7 @@ pub struct Aggregate {
 pub struct Subobject {
     /// The byte of the whole object at which it begins.
     pub offset: u32,
+    /// The type that an initialiser has to fit.
     pub type_id: TypeId,
     /// The field that it is, if it is one.
     pub field: Option<FieldId>,

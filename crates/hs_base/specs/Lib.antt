@@ -3,7 +3,6 @@ pub mod Entries
 pub mod Files
 pub mod Keys
 pub mod Limit
-pub mod Memory
 pub mod Options
 pub mod Reads
 pub mod Sink

@@ -1,5 +1,5 @@
 -- A report that is right, and what was put of it.
-use Rattle.std.proofs.Common.{◌≡◌, ℕ, List, [], ◌∷◌, ◌++◌, Option, Some, None, Err, refl, sym, ap, ◌∙◌, inl, inr, append_assoc}
+use Rattle.std.proofs.Common.{◌≡◌, ℕ, List, [], Option, Some, None, Err, refl, sym, ◌∙◌, inl, inr}
 use Rattle.std.specs.Prelude.{codes}
 use Rattle.hs_base.specs.Files.{Listing, Counts, Read}
 use Rattle.hs_base.specs.Reads.{Makes, MadeReads, AreRight}
@@ -8,14 +8,15 @@ use Rattle.hs_words.specs.Words.{Asked, IsCheck, IsCommand, IsNoCheck, IsRun}
 use Rattle.hs_words.specs.declared.command.WordsError.{WordsError}
 use Rattle.hs_words.specs.declared.command.WordsError.TheVariants as ends
 use Rattle.hs_command.specs.Movers.{Telling, first_of}
-use Rattle.hs_command.specs.Report.{text_of, Call, Written, IsCheckAnswer, IsVerdict, IsReport, IsPutAs, IsPutReport}
+use Rattle.hs_report.specs.Texts.{text_of}
+use Rattle.hs_command.specs.Report.{Call, Written, IsCheckAnswer, IsVerdict, IsReport, IsPutAs, IsPutReport}
 use Rattle.hs_command.specs.Runs.{IsAnswered, IsPutRun, IsRunAnswer, IsRunVerdict}
-use Rattle.hs_command.specs.declared.report.Report.{Report}
-use Rattle.hs_command.specs.declared.report.Report.TheVariants.{Accepted, Hazards, Refused, NoMain, Unbuilt, Usage, Missing, Unread, Limited, NoMemory}
-use Rattle.hs_command.specs.declared.run_report.RunReport.{RunReport}
-use Rattle.hs_command.specs.declared.run_report.RunReport.TheVariants.{Plain}
-use Rattle.hs_command.specs.declared.status.Status.{Status}
-use Rattle.hs_command.specs.declared.status.Status.TheVariants as status
+use Rattle.hs_report.specs.declared.report.Report.{Report}
+use Rattle.hs_report.specs.declared.report.Report.TheVariants.{Accepted, Hazards, Refused, NoMain, Unbuilt, Usage, Missing, Unread, Limited, NoMemory}
+use Rattle.hs_report.specs.declared.run_report.RunReport.{RunReport}
+use Rattle.hs_report.specs.declared.run_report.RunReport.TheVariants.{Plain}
+use Rattle.hs_report.specs.declared.status.Status.{Status}
+use Rattle.hs_report.specs.declared.status.Status.TheVariants as status
 use Rattle.hs_command.proofs.RightReads.{right_of}
 
 -- what is right of the named files is right of the words
@@ -94,14 +95,6 @@ no_check_of_run : (words : List (List ℕ)) (it : Asked) → IsRun words it → 
 no_check_of_run words it is_run = inl (λ check. differ (sym check ∙ is_run.command)) where
   differ : ◌≡◌ {A = Option (List ℕ)} (Some (codes "check")) (Some (codes "run")) → ⊥
   differ same = absurd cc
-
--- the pieces of the text of a fault, grouped otherwise
-pub fault_is : (number word file line col : List ℕ)
-    → ((codes "error " ++ number ++ 32 ∷ (word ++ codes " at ")) ++ file) ++ 58 ∷ (line ++ 58 ∷ col)
-    ≡ codes "error " ++ number ++ 32 ∷ (word ++ codes " at " ++ (file ++ 58 ∷ (line ++ 58 ∷ col)))
-fault_is number word file line col =
-    append_assoc (codes "error " ++ number ++ 32 ∷ (word ++ codes " at ")) file (58 ∷ (line ++ 58 ∷ col))
-    ∙ ap (λ (rest : List ℕ). codes "error " ++ rest) (append_assoc number (32 ∷ (word ++ codes " at ")) (file ++ 58 ∷ (line ++ 58 ∷ col)))
 
 -- what a call is about that is not known yet: its reads
 abbrev pub call_of : {F : Type 0} → (F → Option Listing) → (F → Counts) → F → F → List (List ℕ) → List Telling → Written → Written → List Read → Call

@@ -21,21 +21,22 @@ use Rattle.hs_words.specs.Words.{Asked, IsCheck, IsRun, first_word}
 use Rattle.hs_typing.specs.declared.program.ProgramError.TheVariants as program
 use Rattle.hs_source.specs.Source.{IsLimitOf}
 use Rattle.hs_command.specs.Causes.{AreSafe, Checks, Headline, HasCauses, HasCheckCauses}
-use Rattle.hs_command.specs.Report.{IsBut, status_of, AreAsked, IsReport, Written, IsPutAs, Call, IsCheckAnswer, status_after}
+use Rattle.hs_report.specs.Texts.{status_of, run_status, run_text, status_of_outcome, status_of_stop}
+use Rattle.hs_command.specs.Report.{IsBut, AreAsked, IsReport, Written, IsPutAs, Call, IsCheckAnswer, status_after}
 use Rattle.hs_command.specs.Movers.{Telling, first_of, told_with}
-use Rattle.hs_command.specs.Runs.{HaveNoProgram, HaveRun, IsAnswered, IsRunAnswer, IsRunVerdict, report_of, run_status, run_text, status_of_outcome, status_of_stop}
+use Rattle.hs_command.specs.Runs.{HaveNoProgram, HaveRun, IsAnswered, IsRunAnswer, IsRunVerdict, report_of}
 use Rattle.hs_command.specs.RunCauses.{AsksRunOf, HasRunCauses, IsAnsweredSo, IsEnd, IsRanSo}
 use Rattle.hs_command.specs.Words.{HasNoRun, IsNoCommand}
 use Rattle.hs_settings.specs.declared.settings.Settings.{Settings}
 use Rattle.hs_command.proofs.RunCauses as runs
 use Rattle.hs_command.proofs.RunCounts.{unread_rose}
 use Rattle.hs_command.proofs.RunOutcomes as none
-use Rattle.hs_command.specs.declared.report.Report.{Report}
-use Rattle.hs_command.specs.declared.report.Report.TheVariants.{Accepted, Hazards, Refused, NoMain, Unbuilt, Usage, Missing, Unread, Limited, NoMemory}
-use Rattle.hs_command.specs.declared.run_report.RunReport.{RunReport}
-use Rattle.hs_command.specs.declared.run_report.RunReport.TheVariants.{NotToml, BadVersion, BadEntry, BadScript, BadInput, Plain, Shown}
-use Rattle.hs_command.specs.declared.status.Status.{Status}
-use Rattle.hs_command.specs.declared.status.Status.TheVariants as status
+use Rattle.hs_report.specs.declared.report.Report.{Report}
+use Rattle.hs_report.specs.declared.report.Report.TheVariants.{Accepted, Hazards, Refused, NoMain, Unbuilt, Usage, Missing, Unread, Limited, NoMemory}
+use Rattle.hs_report.specs.declared.run_report.RunReport.{RunReport}
+use Rattle.hs_report.specs.declared.run_report.RunReport.TheVariants.{NotToml, BadVersion, BadEntry, BadScript, BadInput, Plain, Shown}
+use Rattle.hs_report.specs.declared.status.Status.{Status}
+use Rattle.hs_report.specs.declared.status.Status.TheVariants as status
 use Rattle.hs_command.proofs.Outcomes.{faulty_status, typed_status}
 use Rattle.hs_command.proofs.Units.{AreUnique}
 use Rattle.hs_command.proofs.Causes.{IsCause, cut, whole, cause, no_check, but, usage_only, usage, whole_put, unwritten_only, headline_by, causes_by}

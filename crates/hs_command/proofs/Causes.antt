@@ -17,12 +17,13 @@ use Rattle.hs_source.specs.Laws.{are_parsed}
 use Rattle.hs_source.specs.Source.{IsLimitOf}
 use Rattle.hs_table.specs.Tables.{built_in_table}
 use Rattle.hs_command.specs.Causes.{AreSafe, Spells, Checks, AreFaulty, HaveSyntax, AreUntyped, HaveNoMain, AreLimited, AreUnread, HasCheckCauses, IsRejected}
-use Rattle.hs_command.specs.Report.{IsBut, text_of, status_of, AreUnbuilt, IsReport, Written, IsPutAs, Call, status_after}
+use Rattle.hs_report.specs.Texts.{text_of, status_of}
+use Rattle.hs_command.specs.Report.{IsBut, AreUnbuilt, IsReport, Written, IsPutAs, Call, status_after}
 use Rattle.hs_command.specs.Words.{IsNoCommand}
-use Rattle.hs_command.specs.declared.report.Report.{Report}
-use Rattle.hs_command.specs.declared.report.Report.TheVariants.{Accepted, Hazards, Refused, NoMain, Unbuilt, Usage, Missing, Unread, Limited, NoMemory}
-use Rattle.hs_command.specs.declared.status.Status.{Status}
-use Rattle.hs_command.specs.declared.status.Status.TheVariants as status
+use Rattle.hs_report.specs.declared.report.Report.{Report}
+use Rattle.hs_report.specs.declared.report.Report.TheVariants.{Accepted, Hazards, Refused, NoMain, Unbuilt, Usage, Missing, Unread, Limited, NoMemory}
+use Rattle.hs_report.specs.declared.status.Status.{Status}
+use Rattle.hs_report.specs.declared.status.Status.TheVariants as status
 use Rattle.hs_command.proofs.Outcomes.{Comes, unread, syntax, deep, untyped, unbuilt, counted, status_by, Agrees, agrees, one_status, hazards_status, faulty_status, typed_status}
 use Rattle.hs_command.proofs.RightReads.{miss_rose, fault_rose, fault_rose_last}
 use Rattle.hs_command.proofs.Units.{AreUnique}

@@ -26,13 +26,14 @@ use Rattle.hs_checker.specs.Straight.Grammar.{IsStraight}
 use Rattle.hs_source.specs.Source.{AreTyped, HaveProgram, HasSyntaxAt, IsTooDeep, IsLimitOf}
 use Rattle.hs_checker.specs.Source.{IsTheProgram, SpellsNone}
 use Rattle.hs_command.specs.Causes.{Asks, Spells}
-use Rattle.hs_command.specs.Faults.{placed_by, typed_by}
-use Rattle.hs_command.specs.Report.{Call, IsReport, status_of}
-use Rattle.hs_command.specs.declared.fault.Fault.{Fault}
-use Rattle.hs_command.specs.declared.report.Report.{Report}
-use Rattle.hs_command.specs.declared.report.Report.TheVariants.{Accepted, Hazards, Refused, NoMain, Unbuilt, Usage, Missing, Unread, Limited, NoMemory}
-use Rattle.hs_command.specs.declared.status.Status.{Status}
-use Rattle.hs_command.specs.declared.status.Status.TheVariants as status
+use Rattle.hs_report.specs.Faults.{placed_by, typed_by}
+use Rattle.hs_report.specs.Texts.{status_of}
+use Rattle.hs_command.specs.Report.{Call, IsReport}
+use Rattle.hs_report.specs.declared.fault.Fault.{Fault}
+use Rattle.hs_report.specs.declared.report.Report.{Report}
+use Rattle.hs_report.specs.declared.report.Report.TheVariants.{Accepted, Hazards, Refused, NoMain, Unbuilt, Usage, Missing, Unread, Limited, NoMemory}
+use Rattle.hs_report.specs.declared.status.Status.{Status}
+use Rattle.hs_report.specs.declared.status.Status.TheVariants as status
 use Rattle.hs_command.proofs.RightReads.{told_fits, fault_rose}
 use Rattle.hs_command.proofs.Units.{AreUnique, typed-no_syntax, typed-not_deep, syntax-not_deep, same_outcome}
 

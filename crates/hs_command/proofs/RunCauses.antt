@@ -26,13 +26,14 @@ use Rattle.hs_words.specs.Words.{Asked, IsRun}
 use Rattle.hs_command.specs.Movers.{told_with}
 use Rattle.hs_command.specs.Report.{Call, IsBut, names_of}
 use Rattle.hs_command.specs.RunCauses.{AsksRun, AsksRunOf, IsEnd}
-use Rattle.hs_command.specs.Runs.{HasNoSettings, HasSettings, HaveNoProgram, HaveRun, IsRunAnswer, IsRunOfProgram, report_of, run_status, status_of_outcome, status_of_stop}
-use Rattle.hs_command.specs.declared.report.Report.{Report}
-use Rattle.hs_command.specs.declared.report.Report.TheVariants.{Accepted, Hazards, Refused, NoMain, Unbuilt, Usage, Missing, Unread, Limited, NoMemory}
-use Rattle.hs_command.specs.declared.run_report.RunReport.{RunReport}
-use Rattle.hs_command.specs.declared.run_report.RunReport.TheVariants.{NotToml, BadVersion, BadEntry, BadScript, BadInput, Plain, Shown}
-use Rattle.hs_command.specs.declared.status.Status.{Status}
-use Rattle.hs_command.specs.declared.status.Status.TheVariants as status
+use Rattle.hs_report.specs.Texts.{run_status, status_of_outcome, status_of_stop}
+use Rattle.hs_command.specs.Runs.{HasNoSettings, HasSettings, HaveNoProgram, HaveRun, IsRunAnswer, IsRunOfProgram, report_of}
+use Rattle.hs_report.specs.declared.report.Report.{Report}
+use Rattle.hs_report.specs.declared.report.Report.TheVariants.{Accepted, Hazards, Refused, NoMain, Unbuilt, Usage, Missing, Unread, Limited, NoMemory}
+use Rattle.hs_report.specs.declared.run_report.RunReport.{RunReport}
+use Rattle.hs_report.specs.declared.run_report.RunReport.TheVariants.{NotToml, BadVersion, BadEntry, BadScript, BadInput, Plain, Shown}
+use Rattle.hs_report.specs.declared.status.Status.{Status}
+use Rattle.hs_report.specs.declared.status.Status.TheVariants as status
 use Rattle.hs_command.proofs.RightReads.{fault_rose, steady_first, steady_later, told_fits, up}
 use Rattle.hs_command.proofs.RunOutcomes.{Agrees, IsNone, agrees, none_or_typed, one_status, read_as, right_behind, status_for, told_answered}
 use Rattle.hs_command.proofs.Units.{AreUnique}

@@ -23,14 +23,15 @@ use Rattle.hs_tree.specs.Trees.{TypedProgram}
 use Rattle.hs_words.specs.Words.{Asked}
 use Rattle.hs_command.specs.Movers.{Telling, told_with}
 use Rattle.hs_command.specs.RunCauses.{IsEnd}
-use Rattle.hs_command.specs.Report.{IsNoProgram, names_of, status_of}
-use Rattle.hs_command.specs.Runs.{HaveNoProgram, HaveRun, IsRunOfProgram, IsRunVerdict, report_of, run_status}
-use Rattle.hs_command.specs.declared.report.Report.{Report}
-use Rattle.hs_command.specs.declared.report.Report.TheVariants.{Accepted, Hazards, Refused, NoMain, Unbuilt, Usage, Missing, Unread, Limited, NoMemory}
-use Rattle.hs_command.specs.declared.run_report.RunReport.{RunReport}
-use Rattle.hs_command.specs.declared.run_report.RunReport.TheVariants.{NotToml, BadVersion, BadEntry, BadScript, BadInput, Plain, Shown}
-use Rattle.hs_command.specs.declared.status.Status.{Status}
-use Rattle.hs_command.specs.declared.status.Status.TheVariants as status
+use Rattle.hs_report.specs.Texts.{status_of, run_status}
+use Rattle.hs_command.specs.Report.{IsNoProgram, names_of}
+use Rattle.hs_command.specs.Runs.{HaveNoProgram, HaveRun, IsRunOfProgram, IsRunVerdict, report_of}
+use Rattle.hs_report.specs.declared.report.Report.{Report}
+use Rattle.hs_report.specs.declared.report.Report.TheVariants.{Accepted, Hazards, Refused, NoMain, Unbuilt, Usage, Missing, Unread, Limited, NoMemory}
+use Rattle.hs_report.specs.declared.run_report.RunReport.{RunReport}
+use Rattle.hs_report.specs.declared.run_report.RunReport.TheVariants.{NotToml, BadVersion, BadEntry, BadScript, BadInput, Plain, Shown}
+use Rattle.hs_report.specs.declared.status.Status.{Status}
+use Rattle.hs_report.specs.declared.status.Status.TheVariants as status
 use Rattle.hs_command.proofs.RightReads.{fault_rose, miss_rose, rose_on, up}
 use Rattle.hs_command.proofs.RunCauses.{ran_status}
 use Rattle.hs_command.proofs.RunOutcomes.{right_behind}

@@ -18,11 +18,12 @@ use Rattle.hs_table.specs.declared.routine.Routine.{Routine}
 use Rattle.hs_tree.specs.Trees.{TypedProgram}
 use Rattle.hs_typing.specs.declared.program.ProgramError.{ProgramError}
 use Rattle.hs_typing.specs.declared.program.ProgramError.TheVariants as program
-use Rattle.hs_command.specs.Report.{IsNoProgram, status_of}
-use Rattle.hs_command.specs.declared.report.Report.{Report}
-use Rattle.hs_command.specs.declared.report.Report.TheVariants.{Accepted, Hazards, Refused, NoMain, Unbuilt, Usage, Missing, Unread, Limited, NoMemory}
-use Rattle.hs_command.specs.declared.status.Status.{Status}
-use Rattle.hs_command.specs.declared.status.Status.TheVariants as status
+use Rattle.hs_report.specs.Texts.{status_of}
+use Rattle.hs_command.specs.Report.{IsNoProgram}
+use Rattle.hs_report.specs.declared.report.Report.{Report}
+use Rattle.hs_report.specs.declared.report.Report.TheVariants.{Accepted, Hazards, Refused, NoMain, Unbuilt, Usage, Missing, Unread, Limited, NoMemory}
+use Rattle.hs_report.specs.declared.status.Status.{Status}
+use Rattle.hs_report.specs.declared.status.Status.TheVariants as status
 use Rattle.hs_command.proofs.Outcomes.{placed_refusal, placed_status, typed_status, status_of_reading, status_of_typing, no_both, no_program, same_error, same_why, no_syntax, not_deep, not_both, one_outcome}
 use Rattle.hs_command.proofs.RightReads.{steady_first, steady_later, up}
 use Rattle.hs_command.proofs.Units.{AreUnique}

@@ -30,10 +30,10 @@ use Rattle.hs_command.specs.Movers.{Telling, told_with}
 use Rattle.hs_command.specs.Names.{Names}
 use Rattle.hs_command.specs.Report.{AreNoted, IsRefusedReport, names_of}
 use Rattle.hs_command.specs.Runs.{IsFileIn, IsFileOf, IsReportOfRun, IsRunOfProgram, IsRunOfSources, IsRunVerdict, IsShownAs, report_of}
-use Rattle.hs_command.specs.declared.report.Report.{Report}
-use Rattle.hs_command.specs.declared.report.Report.TheVariants.{NoMemory}
-use Rattle.hs_command.specs.declared.run_report.RunReport.{RunReport}
-use Rattle.hs_command.specs.declared.run_report.RunReport.TheVariants.{NotToml, BadVersion, BadEntry, BadScript, BadInput, Plain, Shown}
+use Rattle.hs_report.specs.declared.report.Report.{Report}
+use Rattle.hs_report.specs.declared.report.Report.TheVariants.{NoMemory}
+use Rattle.hs_report.specs.declared.run_report.RunReport.{RunReport}
+use Rattle.hs_report.specs.declared.run_report.RunReport.TheVariants.{NotToml, BadVersion, BadEntry, BadScript, BadInput, Plain, Shown}
 
 -- the name of the file, by the names that were noted
 file_of : (noted : Names) (names : List (List ℕ)) (outcome : Outcome) (file : List ℕ) → IfSome noted (λ its. its ≡ names) → IsFileIn noted outcome file

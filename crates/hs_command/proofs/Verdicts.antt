@@ -3,8 +3,8 @@ use Rattle.std.proofs.Common.{ℕ, List}
 use Rattle.hs_base.specs.Files.{Read}
 use Rattle.hs_table.specs.Tables.{built_in_table}
 use Rattle.hs_command.specs.Report.{IsNoProgram, IsVerdict}
-use Rattle.hs_command.specs.declared.report.Report.{Report}
-use Rattle.hs_command.specs.declared.report.Report.TheVariants.{Accepted, Hazards, Refused, NoMain, Unbuilt, Usage, Missing, Unread, Limited, NoMemory}
+use Rattle.hs_report.specs.declared.report.Report.{Report}
+use Rattle.hs_report.specs.declared.report.Report.TheVariants.{Accepted, Hazards, Refused, NoMain, Unbuilt, Usage, Missing, Unread, Limited, NoMemory}
 
 pub no_program_verdict : (reads : List Read) (names : List (List ℕ)) (report : Report) → IsNoProgram built_in_table reads names report
     → IsVerdict reads names report

@@ -26,15 +26,16 @@ use Rattle.hs_typer.specs.declared.type_error.TypeError.{TypeError}
 use Rattle.hs_typing.specs.declared.program.ProgramError.TheVariants as program
 use Rattle.hs_source.specs.Source.{AreParsed, AreTyped, HaveProgram, HasSyntaxAt, IsLimitOf}
 use Rattle.hs_checker.specs.Source.{IsTheProgram, SpellsNone}
-use Rattle.hs_command.specs.Faults.{placed_by, typed_by}
-use Rattle.hs_command.specs.Report.{Call, IsBut, IsPutAs, text_of, HasProgramOf, AreUnbuilt, HaveSyntaxAt, ComeTo, ArePast}
+use Rattle.hs_report.specs.Faults.{placed_by, typed_by}
+use Rattle.hs_report.specs.Texts.{text_of}
+use Rattle.hs_command.specs.Report.{Call, IsBut, IsPutAs, HasProgramOf, AreUnbuilt, HaveSyntaxAt, ComeTo, ArePast}
 use Rattle.hs_command.specs.Movers.{Telling, first_of}
 use Rattle.hs_command.specs.RunCauses.{HasRunCauses}
 use Rattle.hs_command.specs.Words.{IsNoCommand}
-use Rattle.hs_command.specs.declared.fault.Fault.{Fault}
-use Rattle.hs_command.specs.declared.report.Report.TheVariants.{Hazards}
-use Rattle.hs_command.specs.declared.status.Status.{Status}
-use Rattle.hs_command.specs.declared.status.Status.TheVariants as status
+use Rattle.hs_report.specs.declared.fault.Fault.{Fault}
+use Rattle.hs_report.specs.declared.report.Report.TheVariants.{Hazards}
+use Rattle.hs_report.specs.declared.status.Status.{Status}
+use Rattle.hs_report.specs.declared.status.Status.TheVariants as status
 
 -- The words ask for the check of files, the listing is known, reading these files gives this outcome, and no fault rose in the call.
 pub record Asks (call : Call) (outcome : Result Source ReadError) : Type 0 where

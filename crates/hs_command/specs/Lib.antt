@@ -1,10 +1,7 @@
 pub mod Causes
-pub mod Faults
-pub mod Host
 pub mod Movers
 pub mod Names
 pub mod Report
 pub mod RunCauses
 pub mod Runs
-pub mod Status
 pub mod Words

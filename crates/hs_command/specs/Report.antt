@@ -1,6 +1,5 @@
--- What a call of the program may answer, what each answer means, and the text that is put for it. Own to this project.
---     text_of report              the bytes of the report's line
---     status_of report            its status
+-- What a call of the program may answer, and what each answer means. Own to this project.
+-- The text of each report and its status are in `hs_report/specs/Texts.antt`.
 --     IsNoProgram ..              what the report of files that come to no program says of them
 --     IsReport ..                 what the report of a check, or of words that ask for nothing, says is so, of what the reads gave
 --     IsRefusedReport ..          the report of files that come to no program
@@ -9,10 +8,8 @@
 --                                 write fault
 -- What the report of a run says is in `Runs.antt`, with the answers of all calls.
 -- The causes of each status, and the headline, are in `Causes.antt`.
-use Rattle.std.specs.Prelude.{◌≡◌, ◌⊎◌, ℕ, ◌<◌, List, [], ◌∷◌, ◌++◌, codes, map, Option, Some, None, Result, Ok, Err, IfSome, IsSomeAnd, slice_get}
-use Rattle.std.specs.Fmt.{decimal}
+use Rattle.std.specs.Prelude.{◌≡◌, ◌⊎◌, ℕ, ◌<◌, List, [], map, Option, Some, None, Result, Ok, Err, IfSome, IsSomeAnd, slice_get}
 use Rattle.hs_base.specs.Files.{Listing, Counts, Read}
-use Rattle.hs_base.specs.Limit as limits
 use Rattle.hs_base.specs.Reads.{AreRight}
 use Rattle.hs_base.specs.Sink.{IsPut}
 use Rattle.hs_base.specs.declared.errors.Failed.{Failed}
@@ -37,57 +34,15 @@ use Rattle.hs_checker.specs.Source.{IsTheProgram, SpellsNone}
 use Rattle.hs_command.specs.Movers.{Telling}
 use Rattle.hs_command.specs.Words.{IsNoCommand}
 use Rattle.hs_command.specs.Names.{Names}
-use Rattle.hs_command.specs.Faults.{number_of, word_of, placed_by, typed_by}
-use Rattle.hs_command.specs.declared.fault.Fault.{Fault}
-use Rattle.hs_command.specs.declared.fault.Fault.TheVariants.{Syntax}
-use Rattle.hs_command.specs.declared.report.Refusal.{Refusal}
-use Rattle.hs_command.specs.declared.report.Report.{Report}
-use Rattle.hs_command.specs.declared.report.Report.TheVariants.{Accepted, Hazards, Refused, NoMain, Unbuilt, Usage, Missing, Unread, Limited, NoMemory}
-use Rattle.hs_command.specs.declared.status.Status.{Status}
-use Rattle.hs_command.specs.declared.status.Status.TheVariants as status
-
--- a text and its LF
-abbrev pub line : List ℕ → List ℕ
-line text = text ++ 10 ∷ []
-
--- a place, by the name of its file: `FILE:LINE:COLUMN`
-abbrev pub place_of : Refusal → List ℕ
-place_of refusal = refusal.file ++ 58 ∷ (decimal refusal.pos.line ++ 58 ∷ decimal refusal.pos.col)
-
--- the fault of a refusal and its place
-abbrev pub fault_of : Refusal → List ℕ
-fault_of refusal = codes "error " ++ decimal (number_of refusal.fault) ++ 32 ∷ (word_of refusal.fault ++ codes " at " ++ place_of refusal)
-
--- a space and the name, if a name is reported
-abbrev pub name_told : Option (List ℕ) → List ℕ
-name_told None = []
-name_told (Some name) = 32 ∷ name
-
--- the line that is put for a report
-abbrev pub text_of : Report → List ℕ
-text_of Accepted = line (codes "accepted")
-text_of (Hazards count) = line (codes "hazards " ++ decimal count)
-text_of (Refused refusal) = line (fault_of refusal ++ name_told refusal.name)
-text_of NoMain = line (codes "error 14 NoMain")
-text_of Unbuilt = line (codes "error 24 Unbuilt")
-text_of Usage = line (codes "usage: handlecheck check|repair|run|gen [options] FILE...")
-text_of (Missing name) = line (codes "missing " ++ name)
-text_of (Unread name) = line (codes "unread " ++ name)
-text_of (Limited limit) = line (codes "limit " ++ limits.word_of limit.kind ++ 32 ∷ decimal limit.reached)
-text_of NoMemory = line (codes "no memory")
-
--- the status of a report that was put whole
-abbrev pub status_of : Report → Status
-status_of Accepted = status.Done
-status_of (Hazards count) = status.Hazards
-status_of (Refused refusal) = status.Refused
-status_of NoMain = status.Refused
-status_of Unbuilt = status.Refused
-status_of Usage = status.Usage
-status_of (Missing name) = status.Unread
-status_of (Unread name) = status.Unread
-status_of (Limited limit) = status.Limited
-status_of NoMemory = status.NoMemory
+use Rattle.hs_report.specs.Faults.{placed_by, typed_by}
+use Rattle.hs_report.specs.Texts.{text_of, status_of}
+use Rattle.hs_report.specs.declared.fault.Fault.{Fault}
+use Rattle.hs_report.specs.declared.fault.Fault.TheVariants.{Syntax}
+use Rattle.hs_report.specs.declared.report.Refusal.{Refusal}
+use Rattle.hs_report.specs.declared.report.Report.{Report}
+use Rattle.hs_report.specs.declared.report.Report.TheVariants.{Accepted, Hazards, Refused, NoMain, Unbuilt, Usage, Missing, Unread, Limited, NoMemory}
+use Rattle.hs_report.specs.declared.status.Status.{Status}
+use Rattle.hs_report.specs.declared.status.Status.TheVariants as status
 
 -- What follows speaks of the bytes that the reads of a call gave: `IsReadAs` and `IsRefusedAs` say what these come to.
 

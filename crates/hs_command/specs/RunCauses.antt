@@ -20,16 +20,17 @@ use Rattle.hs_tree.specs.Trees.{TypedProgram}
 use Rattle.hs_typer.specs.declared.type_error.TypeError.{TypeError}
 use Rattle.hs_typing.specs.declared.program.ProgramError.TheVariants as program
 use Rattle.hs_words.specs.Words.{Asked, IsRun}
-use Rattle.hs_command.specs.Faults.{placed_by, typed_by}
+use Rattle.hs_report.specs.Faults.{placed_by, typed_by}
 use Rattle.hs_command.specs.Movers.{Telling, first_of}
 use Rattle.hs_command.specs.Report.{Call, IsBut}
-use Rattle.hs_command.specs.Runs.{HasSettings, IsRunVerdict, report_of, run_status, status_of_outcome}
-use Rattle.hs_command.specs.declared.fault.Fault.{Fault}
-use Rattle.hs_command.specs.declared.run_report.Ran.{Ran}
-use Rattle.hs_command.specs.declared.run_report.RunReport.{RunReport}
-use Rattle.hs_command.specs.declared.run_report.RunReport.TheVariants.{Shown}
-use Rattle.hs_command.specs.declared.status.Status.{Status}
-use Rattle.hs_command.specs.declared.status.Status.TheVariants as status
+use Rattle.hs_report.specs.Texts.{run_status, status_of_outcome}
+use Rattle.hs_command.specs.Runs.{HasSettings, IsRunVerdict, report_of}
+use Rattle.hs_report.specs.declared.fault.Fault.{Fault}
+use Rattle.hs_report.specs.declared.run_report.Ran.{Ran}
+use Rattle.hs_report.specs.declared.run_report.RunReport.{RunReport}
+use Rattle.hs_report.specs.declared.run_report.RunReport.TheVariants.{Shown}
+use Rattle.hs_report.specs.declared.status.Status.{Status}
+use Rattle.hs_report.specs.declared.status.Status.TheVariants as status
 
 -- The words ask for a run, the listing is known, the table, the script and the input that it names are this or fail so, and no fault rose in
 -- the call.

@@ -1,13 +1,12 @@
 -- What the report of a run says, and what a call did. Own to this project.
---     run_text report, run_status report     the text that is put for it, and its status
---     IsRan ..                the run of a program, as it is shown
---     IsGivenUpAs ..          a run that passed a limit
+-- The text of each report and its status are in `hs_report/specs/Texts.antt`.
+--     ShowsRun ..             the run of a program, as it is shown
+--     IsRunOfProgram ..       what the report says of the run of a program
 --     IsRunOfSources ..       what the report says of the sources, once the table, the script and the input are there
 --     IsRunVerdict ..         what it says of all that was read
 --     IsRunAnswer             what a call did that runs a program
 --     IsAnswered              what a call did
-use Rattle.std.specs.Prelude.{◌≡◌, ◌⊎◌, ℕ, List, [], ◌++◌, codes, Option, Some, IfSome, IsSomeAnd, Ok, Err, slice_get}
-use Rattle.std.specs.Fmt.{decimal}
+use Rattle.std.specs.Prelude.{◌≡◌, ◌⊎◌, ℕ, List, [], ◌++◌, Option, Some, IfSome, IsSomeAnd, Ok, Err, slice_get}
 use Rattle.hs_base.specs.Files.{Read}
 use Rattle.hs_base.specs.Reads.{AreRight}
 use Rattle.hs_directives.specs.Reads.{AreFirstReads, IsReadAs}
@@ -20,8 +19,6 @@ use Rattle.hs_meaning.specs.Runs.{run}
 use Rattle.hs_meaning.specs.declared.input.Input.{Input}
 use Rattle.hs_meaning.specs.declared.outcome.Outcome.{Outcome}
 use Rattle.hs_meaning.specs.declared.outcome.Outcome.TheVariants.{Finished, Stopped, TurnsSpent}
-use Rattle.hs_meaning.specs.declared.outcome.Stop.{Stop}
-use Rattle.hs_meaning.specs.declared.outcome.Stop.TheVariants as stop
 use Rattle.hs_movers.specs.declared.script.Script.{Script}
 use Rattle.hs_run_text.specs.RunTexts as runs
 use Rattle.hs_runner.specs.Runs.{IsGivenUp, PassesOps}
@@ -35,47 +32,14 @@ use Rattle.hs_tree.specs.Trees.{TypedProgram}
 use Rattle.hs_words.specs.Words.{Asked, IsRun}
 use Rattle.hs_command.specs.Movers.{Telling, first_of, told_with}
 use Rattle.hs_command.specs.Names.{Names}
-use Rattle.hs_command.specs.Report.{Call, IsCheckAnswer, IsNoProgram, IsPutAs, Written, line, names_of, status_of, text_of}
-use Rattle.hs_command.specs.declared.report.Report.TheVariants.{Missing, Unread, Limited, NoMemory}
-use Rattle.hs_command.specs.declared.run_report.Ran.{Ran}
-use Rattle.hs_command.specs.declared.run_report.RunReport.{RunReport}
-use Rattle.hs_command.specs.declared.run_report.RunReport.TheVariants.{NotToml, BadVersion, BadEntry, BadScript, BadInput, Plain, Shown}
-use Rattle.hs_command.specs.declared.status.Status.{Status}
-use Rattle.hs_command.specs.declared.status.Status.TheVariants as status
-
--- ---- the text and the status
-
--- the text that is put for a report
-abbrev pub run_text : RunReport → List ℕ
-run_text NotToml = line (codes "error 16 NotToml")
-run_text BadVersion = line (codes "error 17 BadVersion")
-run_text (BadEntry name) = line (codes "error 18 BadEntry " ++ name)
-run_text (BadScript number) = line (codes "error 19 BadScript line " ++ decimal number)
-run_text (BadInput number) = line (codes "error 23 BadInput line " ++ decimal number)
-run_text (Plain report) = text_of report
-run_text (Shown ran) = ran.text
-
--- the status of a stop: a stale pointer and a purged handle have one of their own
-abbrev pub status_of_stop : Stop → Status
-status_of_stop stop.Stale = status.RanStale
-status_of_stop stop.Purged = status.RanStale
-status_of_stop _ = status.RanStopped
-
--- the status of a run by how it ended
-abbrev pub status_of_outcome : Outcome → Status
-status_of_outcome (Finished number) = status.Done
-status_of_outcome (Stopped why at) = status_of_stop why
-status_of_outcome TurnsSpent = status.RanOut
-
--- the status of a report that was put whole
-abbrev pub run_status : RunReport → Status
-run_status NotToml = status.Refused
-run_status BadVersion = status.Refused
-run_status (BadEntry name) = status.Refused
-run_status (BadScript number) = status.Refused
-run_status (BadInput number) = status.Refused
-run_status (Plain report) = status_of report
-run_status (Shown ran) = status_of_outcome ran.outcome
+use Rattle.hs_report.specs.Texts.{text_of, run_text, run_status}
+use Rattle.hs_command.specs.Report.{Call, IsCheckAnswer, IsNoProgram, IsPutAs, Written, names_of}
+use Rattle.hs_report.specs.declared.report.Report.TheVariants.{Missing, Unread, Limited, NoMemory}
+use Rattle.hs_report.specs.declared.run_report.Ran.{Ran}
+use Rattle.hs_report.specs.declared.run_report.RunReport.{RunReport}
+use Rattle.hs_report.specs.declared.run_report.RunReport.TheVariants.{NotToml, BadVersion, BadEntry, BadScript, BadInput, Plain, Shown}
+use Rattle.hs_report.specs.declared.status.Status.{Status}
+use Rattle.hs_report.specs.declared.status.Status.TheVariants as status
 
 -- ---- what is said of the sources
 

@@ -7,18 +7,18 @@ ghost use Rattle.hs_base.specs.Reads.{Makes, MadeReads};
 ghost use Rattle.hs_words.specs.Words.{IsCheck, IsCommand, IsRun, asked_of};
 ghost use Rattle.hs_command.specs.Causes.{Headline, HasCauses};
 ghost use Rattle.hs_command.specs.Movers.{Telling, first_of};
-ghost use Rattle.hs_command.specs.Report.{IsPutAs, IsPutReport, text_of};
+ghost use Rattle.hs_report.specs.Texts.{text_of};
+ghost use Rattle.hs_command.specs.Report.{IsPutAs, IsPutReport};
 ghost use Rattle.hs_command.specs.Runs.{IsAnswered, IsPutRun};
 ghost use Rattle.hs_command.specs.Words.{IsNoCommand};
 
 use crate::judge::judge;
-use crate::report::{NO_MEMORY, USAGE};
 use crate::running::run_named;
-use crate::{Report, RunReport, Status};
 use hs_base::{Files, Sink};
 use hs_decl_parser::units_are_unambiguous;
 use hs_meaning::straight::safe_without_stale_uses;
 use hs_movers::Mover;
+use hs_report::{Report, RunReport, Status, no_memory_line, usage_line};
 use hs_words::{Command, RunWords, WordsError, command_of};
 use std::alloc::Global;
 
@@ -37,7 +37,7 @@ pub fn refuse_memory<O: Sink>(out: &mut O) -> Status
     ensures { IsPutAs (text_of Report.NoMemory) Status.NoMemory (record { bytes = O.written out.old; faults = O.faults out.old })
         (record { bytes = O.written out.new; faults = O.faults out.new }) result }
 {
-    put(out, NO_MEMORY.as_bytes(), Status::NoMemory)
+    put(out, no_memory_line().as_bytes(), Status::NoMemory)
 }
 
 /// Puts the line of a report.
@@ -47,7 +47,7 @@ fn put_report<O: Sink>(alloc: Global, out: &mut O, report: &Report) -> Status
 {
     match report.text(alloc) {
         Ok(text) => put(out, text.as_slice(), report.status()),
-        Err(_) => put(out, NO_MEMORY.as_bytes(), Status::NoMemory),
+        Err(_) => put(out, no_memory_line().as_bytes(), Status::NoMemory),
     }
 }
 
@@ -58,7 +58,7 @@ fn put_run<O: Sink>(alloc: Global, out: &mut O, report: &RunReport) -> Status
 {
     match report.text(alloc) {
         Ok(text) => put(out, text.as_slice(), report.status()),
-        Err(_) => put(out, NO_MEMORY.as_bytes(), Status::NoMemory),
+        Err(_) => put(out, no_memory_line().as_bytes(), Status::NoMemory),
     }
 }
 
@@ -152,7 +152,7 @@ fn obey<F: Files, O: Sink>(
         Command::Check(names) => check_named(alloc, names.as_slice(), files, out),
         Command::Run(asked) => match chosen(movers, asked.mover) {
             Some(mut mover) => run_chosen(alloc, asked, files, out, &mut mover),
-            None => put(out, USAGE.as_bytes(), Status::Usage),
+            None => put(out, usage_line().as_bytes(), Status::Usage),
         },
     }
 }
@@ -165,7 +165,7 @@ fn refuse<O: Sink>(out: &mut O, error: WordsError) -> Status
         (record { bytes = O.written out.new; faults = O.faults out.new }) result }
 {
     match error {
-        WordsError::Usage => put(out, USAGE.as_bytes(), Status::Usage),
+        WordsError::Usage => put(out, usage_line().as_bytes(), Status::Usage),
         WordsError::NoMemory => refuse_memory(out),
     }
 }

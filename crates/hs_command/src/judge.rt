@@ -7,12 +7,12 @@ ghost use Rattle.hs_base.specs.Reads.{Makes, MadeReads};
 ghost use Rattle.hs_directives.specs.Reads.{AreFirstReads};
 ghost use Rattle.hs_command.specs.Report.{IsReportOf, IsReportOfTree, IsVerdict};
 
-use crate::Report;
 use crate::file_names::FileNames;
 use crate::reading::{read_noting, refused};
 use hs_base::{Files, NoMemory};
 use hs_checker::{check, straight_of};
 use hs_directives::Source;
+use hs_report::Report;
 use hs_table::built_in;
 use hs_tree::straight::Straight;
 use std::alloc::Global;

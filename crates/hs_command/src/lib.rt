@@ -3,22 +3,10 @@
 #![tactic(auto)]
 
 mod command;
-mod fault;
 mod file_names;
-mod host_files;
-mod host_sink;
 mod judge;
 mod named_files;
 mod reading;
-mod report;
-mod run_report;
 mod running;
-mod status;
 
 pub use command::{refuse_memory, run};
-pub use fault::Fault;
-pub use host_files::HostFiles;
-pub use host_sink::HostSink;
-pub use report::{Refusal, Report};
-pub use run_report::{Ran, RunReport};
-pub use status::Status;

@@ -9,13 +9,12 @@ ghost use Rattle.hs_source.specs.Source.{IsSource};
 ghost use Rattle.hs_source.specs.declared.source.SourceError.TheVariants as ends;
 ghost use Rattle.hs_command.specs.Report.{AreNoted, IsFaultAt, IsRefusedReport, unplaced};
 
-use crate::fault::{placed_by, typed_by};
 use crate::file_names::FileNames;
 use crate::named_files::NamedFiles;
-use crate::{Fault, Refusal, Report};
 use hs_base::{Bytes, Files, Pos};
 use hs_decl_parser::ParseError;
 use hs_directives::{ReadError, Source};
+use hs_report::{Fault, Refusal, Report, placed_by, typed_by};
 use hs_source::{SourceError, read_program};
 use hs_table::Table;
 use hs_tree::Program;

@@ -14,7 +14,6 @@ ghost use Rattle.hs_command.specs.Runs.{IsFileIn, IsReportOfRun, IsRunOfSources,
 
 use crate::file_names::FileNames;
 use crate::reading::{read_noting, refused};
-use crate::{Ran, Report, RunReport};
 use hs_base::{Bytes, Files, LimitKind, NoMemory};
 use hs_code::Code;
 use hs_lower::lower;
@@ -22,6 +21,7 @@ use hs_lower_expressions::LowerEnd;
 use hs_machine::{MachineEnd, Transcript};
 use hs_meaning::{Input, Outcome};
 use hs_movers::{Mover, Script};
+use hs_report::{Ran, Report, RunReport};
 use hs_run_text::print_run;
 use hs_runner::run_code;
 use hs_settings::{Settings, SettingsError, read_settings};

@@ -7,7 +7,7 @@ use Rattle.hs_linkage.specs.declared.translator.StaticObject.{StaticObject}
 use Rattle.hs_linkage.specs.declared.translator.Translator.{Translator}
 use Rattle.hs_expressions.specs.Expressions.{enter}
 use Rattle.hs_syntax.specs.Trees as syntax
-use Rattle.hs_syntax.specs.Trees.{Declaration, Declaring, Directly, Expression, Initialising, Specified, Specification}
+use Rattle.hs_syntax.specs.Trees.{Declaration, Directly, Expression, Initialising, Specified, Specification}
 use Rattle.hs_syntax.specs.declared.operators.Basic.TheVariants as basic
 use Rattle.hs_syntax.specs.declared.operators.Storage.TheVariants as storage
 use Rattle.hs_syntax.specs.declared.word.Word.{Word}

@@ -25,7 +25,7 @@ fn with_taken_global(done: IndexSet<u32>, it: Taken) -> Result<IndexSet<u32>, No
 
 /// The places of the objects whose addresses the program takes, once each.
 ///
-/// Example: the place of `x` for `&x + 0 != &x`, if `x` is an object of the program.
+/// Example: the place of `x` once, if the program says `&x` twice and `x` is an object outside functions.
 pub fn taken_globals(alloc: Global, its: &[Taken]) -> Result<IndexSet<u32>, NoMemory>
     ensures { IfOk result (λ all. all.keys ≡ taken_globals [] its.now) }
 {

@@ -23,7 +23,7 @@ use Rattle.hs_syntax.specs.Trees.{Expression, Initialising}
 use Rattle.hs_tokens.specs.declared.place.Place.{Place}
 use Rattle.hs_tree.specs.Kinds.{category_of_row, category_of}
 use Rattle.hs_tree.specs.Trees as tree
-use Rattle.hs_tree.specs.Trees.{RightValue, Starting}
+use Rattle.hs_tree.specs.Trees.{RightValue}
 use Rattle.hs_tree.specs.declared.constant.Part.{Part}
 use Rattle.hs_typer.specs.Declarators.{untyped_end}
 use Rattle.hs_typer.specs.Steps.{Step, then_with, ◌>>=◌, give, kept, with_types, lifted, of_types, on_types}

@@ -46,7 +46,7 @@ use Rattle.hs_names.specs.Scopes.{Declared}
 use Rattle.hs_operands.specs.Laws.{IsTyped}
 use Rattle.hs_operand_types.specs.declared.operand.Bound.{Bound}
 use Rattle.hs_operand_types.specs.declared.operand.Bound.TheVariants as bound
-use Rattle.hs_statements.specs.Statements.{valued}
+use Rattle.hs_branches.specs.Branches.{valued}
 use Rattle.hs_syntax.specs.Trees.{Expression}
 use Rattle.hs_tree.specs.Fitting.{types_of, variable_of_global, IsObjectOf, IsVariableOf}
 use Rattle.hs_tree.specs.Kinds.{Category, of_function, category_of_row, category_of}

@@ -5,7 +5,7 @@
 use Rattle.std.proofs.Common.{Bool, true, false, Result, Ok, Err, if◌then◌else◌}
 use Rattle.hs_expressions.specs.Laws.{IsScoped}
 use Rattle.hs_expressions.specs.Laws.Always as typing_law
-use Rattle.hs_expressions.specs.Laws.Always.{Anything, Reaching}
+use Rattle.hs_expressions.specs.Laws.Always.{Reaching}
 use Rattle.hs_fitting.specs.Moves.{Moves, any_reaches, moves_self, moves_then, moves_typer}
 use Rattle.hs_linkage.specs.Works.{Work, work_with, ◌>>=◌, ◌>>◌, pass, stop, typing, with_typer, knowing, same_work, unless}
 use Rattle.hs_linkage.specs.declared.translator.Translator.{Translator}

@@ -12,7 +12,7 @@ use Rattle.hs_fitting.specs.Scalars.{Aggregate, Subobject, Scalars, Within, IsAt
 use Rattle.hs_aggregates.specs.Aggregates.{element_at, member_at, itself, next_by, next_in, advanced}
 use Rattle.hs_tree.specs.Kinds.{is_scalar}
 use Rattle.hs_tree.specs.Objects as object
-use Rattle.hs_tree.specs.Objects.{field_of, IsField, IsScalarAt}
+use Rattle.hs_tree.specs.Objects.{field_of, IsField}
 use Rattle.hs_types.specs.Layouts.{array_layout, most_bytes}
 use Rattle.hs_types.specs.TypeTables.{TypeTable, row_of, body_of, layout_of, size_in, size_of, IsRight, IsArrayOf}
 use Rattle.hs_types.specs.declared.body.Body.{Body}

@@ -13,7 +13,7 @@ use Rattle.hs_expressions.specs.Laws.Reached.{reaches_types, scoped_after}
 use Rattle.hs_fitting.specs.Listed.{listed_is}
 use Rattle.hs_fitting.specs.Owned.{OwnTop, top_later, OwnDerivation, derivation_later, OwnGiven}
 use Rattle.hs_fitting.specs.Stating.{entered_scoped}
-use Rattle.hs_names.specs.Scopes.{Declared, newest, entity_of, find}
+use Rattle.hs_names.specs.Scopes.{find}
 use Rattle.hs_syntax.specs.declared.operators.Pointer.{Pointer}
 use Rattle.hs_syntax.specs.declared.operators.Pointer.TheVariants as pointer
 use Rattle.hs_syntax.specs.declared.word.Word.{Word}

@@ -20,7 +20,7 @@ use Rattle.hs_tokens.specs.declared.place.Place.{Place}
 use Rattle.hs_typer.specs.Declarators.{formed, length_of, pointers_of, word_of, place_of, parameter_type}
 use Rattle.hs_typer.specs.Declaring.{list_of, parameter}
 use Rattle.hs_typer.specs.Specifiers as specifying
-use Rattle.hs_typer.specs.Specifiers.{no_specifiers, with_basic, with_type, with_storage, type_from, typedef_of}
+use Rattle.hs_typer.specs.Specifiers.{no_specifiers, with_type, with_storage, type_from, typedef_of}
 use Rattle.hs_typer.specs.Steps.{then_with, ◌>>=◌, ◌>>◌, give, look, kept, of_types, on_types, with_types, mapped}
 use Rattle.hs_typer.specs.declared.declarators.Derivation.{Derivation}
 use Rattle.hs_typer.specs.declared.declarators.Derivation.TheVariants as derivation

@@ -24,7 +24,7 @@ use Rattle.hs_functions.specs.Functions.{parameters_of}
 use Rattle.hs_functions.specs.Opening.{opened, opened_type}
 use Rattle.hs_names.specs.Scopes.{entered}
 use Rattle.hs_syntax.specs.Trees as syntax
-use Rattle.hs_syntax.specs.Trees.{Specification, Declared, Parameters}
+use Rattle.hs_syntax.specs.Trees.{Declared, Parameters}
 use Rattle.hs_tokens.specs.declared.place.Place.{Place}
 use Rattle.hs_typer.specs.Steps.{then_with, ◌>>◌, give}
 use Rattle.hs_typer.specs.declared.type_error.TypeError.{TypeError}

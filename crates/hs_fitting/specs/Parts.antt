@@ -20,7 +20,7 @@ use Rattle.hs_fitting.specs.Sizing.{MayHaveStart, may_start_solid, IsSized, size
 use Rattle.hs_aggregates.specs.Aggregates.{count_begun}
 use Rattle.hs_initialisers.specs.Initialisers.{Filled, braced, all_of, sized, alone, initialised}
 use Rattle.hs_syntax.specs.Trees as syntax
-use Rattle.hs_syntax.specs.Trees.{Expression, Initialising, Initialisers}
+use Rattle.hs_syntax.specs.Trees.{Initialising}
 use Rattle.hs_tokens.specs.declared.place.Place.{Place}
 use Rattle.hs_tree.specs.Kinds.{IsScalar}
 use Rattle.hs_tree.specs.Objects as object

@@ -9,7 +9,8 @@ use Rattle.hs_base.specs.Tests.{not_false, or_true, both_true}
 use Rattle.hs_fitting.specs.Works.{Always, AlwaysIf, passes_always, stops_always, then_always, next_always, tested_always, scoped_always}
 use Rattle.hs_linkage.specs.Works.{knowing, unless}
 use Rattle.hs_operand_types.specs.Constants.{constant_value}
-use Rattle.hs_statements.specs.Statements.{valued, valued_if, condition, condition_if, switched, case_bits, case_label, default_label, labelled, all_labelled, no_cases, declared_all, returned, looping, switching, switch_cases, stated, block_inside, all_stated, in_function, body_of}
+use Rattle.hs_branches.specs.Branches.{valued, valued_if, condition, condition_if, switched, case_bits, case_label, default_label, labelled, all_labelled, no_cases, returned}
+use Rattle.hs_statements.specs.Statements.{declared_all, looping, switching, switch_cases, stated, block_inside, all_stated, in_function, body_of}
 use Rattle.hs_syntax.specs.Positions.{first_of}
 use Rattle.hs_syntax.specs.Trees as syntax
 use Rattle.hs_syntax.specs.Trees.{Expression, Labelling, Statement, Compound, Statements}

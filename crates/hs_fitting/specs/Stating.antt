@@ -20,7 +20,8 @@ use Rattle.hs_names.specs.Scopes.{left}
 use Rattle.hs_operands.specs.Assignments.{assigned}
 use Rattle.hs_operand_types.specs.Constants.{constant_value}
 use Rattle.hs_operand_types.specs.Conversions.{truth}
-use Rattle.hs_statements.specs.Statements.{valued, valued_if, condition, condition_if, switched_by, switched, case_bits, case_label, default_label, labelled, all_labelled, no_cases, cases_of, with_declaration, declared_all, returned_as, returned, looping, switching, entered, ended, scoped, switch_cases, stated, block_inside, all_stated, in_function, body_of}
+use Rattle.hs_branches.specs.Branches.{valued, valued_if, condition, condition_if, switched_by, switched, case_bits, case_label, default_label, labelled, all_labelled, no_cases, cases_of, returned_as, returned}
+use Rattle.hs_statements.specs.Statements.{with_declaration, declared_all, looping, switching, entered, ended, scoped, switch_cases, stated, block_inside, all_stated, in_function, body_of}
 use Rattle.hs_syntax.specs.Positions.{first_of}
 use Rattle.hs_syntax.specs.Trees as syntax
 use Rattle.hs_syntax.specs.Trees.{Expression, Declaration, Labelling, Statement, Compound, Statements}

@@ -4,7 +4,7 @@
 --     externals_right                    the external declarations of a unit
 use Rattle.std.proofs.Common.{◌≡◌, ℕ, suc, ◌+◌, Bool, true, List, [], ◌∷◌, ◌++◌, length, slice_get, Option, Some, None, Result, Ok, Err, refl, sym, ap, subst, ◌∙◌, arith}
 use Rattle.std.specs.Prelude.{◌==◌}
-use Rattle.std.proofs.lemmas.List.{append_assoc, append-nil}
+use Rattle.std.proofs.lemmas.List.{append_assoc}
 use Rattle.std.specs.List.{AllByRecursion}
 use Rattle.hs_base.specs.Entries.{all_appended}
 use Rattle.hs_declarations.specs.Declarations.{block_declared, file_declared}
@@ -27,7 +27,7 @@ use Rattle.hs_linkage.specs.Definitions.{has_static, is_internal, text_of, defin
 use Rattle.hs_linkage.specs.Works.{work_with, pass}
 use Rattle.hs_linkage.specs.declared.translator.Translator.{Translator}
 use Rattle.hs_syntax.specs.Trees as syntax
-use Rattle.hs_syntax.specs.Trees.{Declaration, Declared, Compound, ExternalDeclaration, Specification}
+use Rattle.hs_syntax.specs.Trees.{Declaration, ExternalDeclaration}
 use Rattle.hs_syntax.specs.declared.word.Word.{Word}
 use Rattle.hs_tokens.specs.declared.place.Place.{Place}
 use Rattle.hs_tree.specs.Fitting.{FitsDefinition}

@@ -21,11 +21,11 @@ use Rattle.hs_operand_types.specs.declared.operand_end.OperandEnd.{OperandEnd}
 use Rattle.hs_operand_types.specs.declared.operand_end.OperandEnd.TheVariants as end
 use Rattle.hs_syntax.specs.Positions.{position_of}
 use Rattle.hs_syntax.specs.Trees as syntax
-use Rattle.hs_syntax.specs.Trees.{Expression, Initialising, Initialisers}
+use Rattle.hs_syntax.specs.Trees.{Expression, Initialising}
 use Rattle.hs_tokens.specs.declared.place.Place.{Place}
 use Rattle.hs_tree.specs.Kinds.{number_kind, is_number, is_pointer, is_readable}
 use Rattle.hs_tree.specs.Trees as tree
-use Rattle.hs_tree.specs.Trees.{RightValue, Starting, type_of}
+use Rattle.hs_tree.specs.Trees.{RightValue, type_of}
 use Rattle.hs_tree.specs.declared.constant.Part.{Part}
 use Rattle.hs_typer.specs.Declarators.{untyped_end}
 use Rattle.hs_typer.specs.Steps.{Step, then_with, ◌>>=◌, give, kept, with_types, lifted, of_types, on_types}

@@ -11,7 +11,7 @@ use Rattle.hs_operand_types.specs.Types.{are_compatible, is_open}
 use Rattle.hs_tokens.specs.declared.place.Place.{Place}
 use Rattle.hs_tree.specs.Kinds.{number_kind, is_pointer, is_void, pointed}
 use Rattle.hs_tree.specs.Trees as tree
-use Rattle.hs_tree.specs.Trees.{RightValue, LeftValue, type_of, type_of_left}
+use Rattle.hs_tree.specs.Trees.{RightValue, type_of}
 use Rattle.hs_types.specs.Integers.{common}
 use Rattle.hs_types.specs.Rows.{integer_id}
 use Rattle.hs_types.specs.TypeTables.{TypeTable}

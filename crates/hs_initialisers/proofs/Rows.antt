@@ -7,7 +7,7 @@ use Rattle.hs_typer.specs.declared.typer.Typer.{Typer}
 use Rattle.hs_aggregates.specs.Aggregates.{most_types}
 use Rattle.hs_initialisers.specs.Initialisers.{initialised}
 use Rattle.hs_syntax.specs.Trees as syntax
-use Rattle.hs_syntax.specs.Trees.{Expression, Initialising, Initialisers}
+use Rattle.hs_syntax.specs.Trees.{Initialising, Initialisers}
 use Rattle.hs_syntax.specs.declared.word.Word.{Word}
 use Rattle.hs_tokens.specs.declared.place.Place.{Place}
 use Rattle.hs_tokens.specs.declared.token.Origin.TheVariants.{Plain}

@@ -1,9 +1,7 @@
 //! Statements (X3.159-1989 3.6) as typed statements, or the first refusal. `specs/Statements.antt` has the definition.
 #![tactic(auto)]
 
-mod conditions;
 mod held;
-mod labels;
 mod setting;
 mod statements;
 

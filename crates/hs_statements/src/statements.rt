@@ -9,11 +9,12 @@ ghost use Rattle.hs_syntax.specs.Views.{view_declaration as view_decl, view_stat
 ghost use Rattle.hs_tree.specs.RowLaws.{view_labelled, one_statement};
 ghost use Rattle.hs_tree.specs.Views.{view_declaration, view_item, view_statement, view_block};
 
-use crate::conditions::{condition, condition_if, returned, switched, valued, valued_if};
 use crate::held::{boxed, with};
-use crate::labels::{Cases, all_labelled};
 use crate::setting::Setting;
 use hs_base::NoMemory;
+use hs_branches::{
+    Cases, all_labelled, condition, condition_if, returned, switched, valued, valued_if,
+};
 use hs_declarations::block_declaration;
 use hs_linkage::Translator;
 use hs_syntax::{Block as Compound, Decl, Labelled as Syntax, Stmt, first_of_specifiers};
