@@ -1,4 +1,4 @@
-/* What the programs here call of the Memory Manager, the Toolbox and the C library. The header is
+/* What the examples call of the Memory Manager, the Toolbox and the C library. The header is
    this project's own. Its prototypes are simplified: the real ones have Size, OSErr and Boolean,
    and there is MemError too. What a routine does is said by the table that a run is given:
    table.toml, or events.toml. */

@@ -1,4 +1,4 @@
-/* What the programs here print with. */
+/* What the examples print with. */
 #include "mac.h"
 #include "print.h"
 

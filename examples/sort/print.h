@@ -1,0 +1,2 @@
+void Print(const char *text);
+void PrintNumber(long n);
