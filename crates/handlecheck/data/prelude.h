@@ -1,8 +1,3 @@
-/* The four routines that a straight program may call. */
-#ifndef PRELUDE
-#define PRELUDE
-char **NewHandle(long n);
-void HLock(char **h);
-void HUnlock(char **h);
-int putchar(int c);
-#endif
+/* The routines that straight programs call. */
+char **NewHandle(long n); void HLock(char **h);
+void HUnlock(char **h); int putchar(int c);
