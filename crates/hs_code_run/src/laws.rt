@@ -4,7 +4,7 @@ ghost use Rattle.hs_code.specs.Codes.{view_program};
 ghost use Rattle.hs_code.specs.declared.function_code.Placed.{Placed};
 ghost use Rattle.hs_code_run.specs.Codes.{CodeFunction, CodeProgram, Point, code_program};
 ghost use Rattle.hs_code_run.specs.Depths.{AreStacked, IsDeepPoint};
-ghost use Rattle.hs_code_run.specs.Laws.Epochs.{RanKeeps, is_shift_at};
+ghost use Rattle.hs_code_run.specs.Laws.Epochs.{EpochsKept, is_shift_at};
 ghost use Rattle.hs_code_run.specs.Runs.{Comes, starting_point};
 ghost use Rattle.hs_code_run.specs.Steps.{stepped};
 ghost use Rattle.hs_meaning.specs.Laws.Turns.{later};
@@ -33,7 +33,7 @@ pub fn a_run_stays_with_more_turns()
 pub fn only_shifts_move()
     ensures { (program : CodeProgram) (point : Point) (s : State)
         → is_shift_at (slice_get point.frame.code.ops point.frame.at) ≡ false
-        → RanKeeps s (stepped program point s) }
+        → EpochsKept s (stepped program point s) }
 {}
 
 /// Steps keep the depth, in a program whose operations have their operands: a run begins at an operation that is reached with nothing on the

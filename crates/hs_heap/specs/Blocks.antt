@@ -4,6 +4,7 @@
 --     with_lock, with_purge_bit, with_state, emptied, disposed      changes of a block, or the stop
 --     resized, reallocated            changes that take memory
 --     size_of, state_of, master_of, cells_of      what is answered of it, or the stop
+--     if_current refuse current s block     what a pointer into it is refused for, if it is not current
 --     place_for s count block         where a use through a pointer begins, or the stop; loaded, stored, what it reads and leaves
 --     IsInRange block                 its life and its bytes are within their limits
 --     StaysDisposed old new           a disposed block stays disposed
@@ -68,9 +69,13 @@ with_state byte = with_bits (nat_le 128 byte) (nat_le 64 (byte % 128))
 abbrev pub without_cells : Block → Block
 without_cells block = if block.locked then block else record block { cells = []; life = block.life + 1; presence = Emptied }
 
--- the block after it
+-- the last life that a block can have (own)
+abbrev pub last_life : ℕ
+last_life = 4294967295
+
+-- The block after EmptyHandle. A block of the last life is not emptied, because no pointer could be told from those of its next life (own).
 abbrev pub emptied : Block → Result Block HeapStop
-emptied = changed without_cells
+emptied block = if block.life == last_life then changed (λ block. block) block else changed without_cells block
 
 -- DisposeHandle ends the block, also one that was emptied, and also a locked one ("Releasing Relocatable Blocks").
 abbrev pub ended : Block → Block
@@ -122,7 +127,7 @@ reallocated size block =
 
 -- its life can be raised, if it is to be
 abbrev pub has_life : Block → Bool
-has_life block = block.locked || nat_lt block.life 4294967295
+has_life block = block.locked || nat_lt block.life last_life
 
 -- it was disposed
 abbrev pub is_disposed : Presence → Bool
@@ -147,13 +152,18 @@ abbrev pub range_at : ℤ → ℕ → ℕ → Result ℕ HeapStop
 range_at (pos at) count size = if nat_le (at + count) size then Ok at else Err stop.Range
 range_at (negsuc at) count size = Err stop.Range
 
--- A use of that many cells through a pointer: it is tested for a disposed block, an old life, an old epoch and its range, in this order (own).
+-- A pointer into a block is tested for a disposed block, an old life and an old epoch, in this order (own). If a test applies, it is refused for
+-- that, and otherwise it is current.
+abbrev pub if_current : {A : Type 0} → (HeapStop → A) → A → Spot → Block → A
+if_current refuse current s block =
+    if is_disposed block.presence then refuse stop.Disposed
+    else if not (s.life == block.life) then refuse stop.Old
+    else if not (s.epoch == block.epoch) then refuse stop.Stale
+    else current
+
+-- a use of that many cells through a pointer: the pointer is tested first, and then its range
 abbrev pub place_for : Spot → ℕ → Block → Result ℕ HeapStop
-place_for s count block =
-    if is_disposed block.presence then Err stop.Disposed
-    else if not (s.life == block.life) then Err stop.Old
-    else if not (s.epoch == block.epoch) then Err stop.Stale
-    else range_at s.offset count (reach block.presence block.cells)
+place_for s count block = if_current Err (range_at s.offset count (reach block.presence block.cells)) s block
 
 -- where two uses begin; the first is tested first
 abbrev pub places_of : Result ℕ HeapStop → Result ℕ HeapStop → Result (ℕ × ℕ) HeapStop
@@ -199,12 +209,10 @@ IsCopied (Ok cells) old new (Err why) = ⊥
 IsCopied (Err wanted) old new (Ok _) = ⊥
 IsCopied (Err wanted) old new (Err why) = (why ≡ wanted) × (new ≡ old)
 
--- A life is at most 4294967295 as long as a pointer can be of it; emptying a block of that life raises it once more. A block has at most
--- 16777216 bytes.
+-- A block has at most 16777216 bytes, and its life is one that a pointer can have.
 pub record IsInRange (block : Block) : Type 0 where
   pub bytes : length block.cells ≤ 16777216
-  pub life : block.life ≤ 4294967296
-  pub usable : block.presence ≡ Present → block.life ≤ 4294967295
+  pub life : block.life ≤ last_life
 
 -- A role that takes memory acted on the block, or stopped; or what it makes is more than there is room for, or its life has ended, or there
 -- is no memory. Only the first changes anything.

@@ -181,7 +181,7 @@ impl Heap {
         self.rows[b as usize - 1].set_state(s)
     }
 
-    /// Takes the cells of the block away, unless it is locked (EmptyHandle). Pointers into it are then of an old life.
+    /// Takes the cells of the block away, unless it is locked or of the last life, 4294967295 (EmptyHandle). Pointers into it are then of an old life.
     pub fn empty(&mut self, b: u32) -> Result<(), HeapStop>
         requires made { IsMade self.old b }
         ensures acts { Acts emptied b self.old self.new result }

@@ -15,14 +15,14 @@ use std::marker::Model;
 use std::mem::replace;
 
 /// The last life of which pointers can be.
-const MOST_LIFE: u64 = 4_294_967_295;
+const LAST_LIFE: u32 = 4_294_967_295;
 
 /// A relocatable block.
 #[derive(Drop)]
 pub(crate) struct Row {
     cells: Vec<Cell>,
-    /// How often the program emptied or reallocated it. Of an emptied block it can be one more than a pointer can say.
-    life: u64,
+    /// How often the program emptied or reallocated it.
+    life: u32,
     epoch: u32,
     locked: bool,
     purgeable: bool,
@@ -145,14 +145,18 @@ impl Row {
         Ok(())
     }
 
-    /// Takes the cells away, unless the block is locked.
+    /// Takes the cells away, unless the block is locked or of the last life.
     pub(crate) fn empty(&mut self) -> Result<(), HeapStop>
         ensures acts { RoleActs (emptied self.old) self.old self.new result }
         ensures same_epoch { self.new.epoch ≡ self.old.epoch }
         ensures stays_disposed { StaysDisposed self.old self.new }
         ensures shrinks { length self.new.cells ≤ length self.old.cells }
     {
-        if self.standing()? && !self.locked {
+        let is_here = self.standing()?;
+        if self.life == LAST_LIFE {
+            return Ok(());
+        }
+        if is_here && !self.locked {
             self.cells.clear();
             self.life += 1;
             self.presence = Presence::Emptied;
@@ -210,7 +214,7 @@ impl Row {
         }
         Ok(Some(Spot {
             block: number,
-            life: self.life as u32,
+            life: self.life,
             epoch: self.epoch,
             offset: 0,
         }))
@@ -255,7 +259,7 @@ impl Row {
         if self.is_disposed() {
             return Err(HeapStop::Disposed);
         }
-        if u64::from(p.life) != self.life {
+        if p.life != self.life {
             return Err(HeapStop::Old);
         }
         if p.epoch != self.epoch {
@@ -330,7 +334,7 @@ impl Row {
         if self.locked {
             return Ok(());
         }
-        if self.life >= MOST_LIFE || size as usize > room {
+        if self.life == LAST_LIFE || size as usize > room {
             return Err(HeapEnd::Full);
         }
         let mut cells = Vec::new(alloc);

@@ -11,7 +11,7 @@
 use Rattle.std.specs.Prelude.{ℤ, ℕ, pos, negsuc, ◌+◌, ◌==◌, nat_le, Bool, true, false, not, ◌&&◌, [], ◌∷◌, ◌++◌, length, replicate, slice_get, Option, Some, None, Result, Ok, Err, if◌then◌else◌}
 use Rattle.std.specs.List.{list_any}
 use Rattle.std.specs.Ordering.{int_eq}
-use Rattle.hs_heap.specs.Blocks.{Block, new_block, changed, emptied}
+use Rattle.hs_heap.specs.Blocks.{Block, new_block}
 use Rattle.hs_heap.specs.Memory.{block_at, put_block, live_bytes, has_room}
 use Rattle.hs_heap.specs.declared.cell.Cell.TheVariants.{Undefined}
 use Rattle.hs_heap.specs.declared.cell.Pointer.{Pointer}
@@ -122,10 +122,6 @@ if_granted value change machine = if is_granted value machine then change (asked
 -- nothing is asked of its life
 abbrev pub any_life : Block → Bool
 any_life block = true
-
--- A block of the last life is not emptied (own).
-abbrev pub emptied_once : Block → Result Block HeapStop
-emptied_once block = if block.life == 4294967295 then changed (λ block. block) block else emptied block
 
 -- ---- blocks and objects that are made
 

@@ -1,7 +1,9 @@
 -- Laws of runs.
+pub mod Changes
 pub mod Epochs
 pub mod Fuel
 pub mod Handles
+pub mod Outputs
 pub mod Paces
 pub mod Schedules
 pub mod Shifts

@@ -39,12 +39,12 @@ abbrev pub gone_stop : Option Object → Option Stop
 gone_stop None = Some stop.BadPointer
 gone_stop (Some its) = stops_if (has_ended its.storage) stop.Gone
 
--- a pointer that is used, but for its range; what is filled is no handle
+-- A pointer that is used, but for its range. A handle is tested for its block as any other argument is; then, what is filled is no handle.
 abbrev pub used_stop : Bool → Pointer → Machine → Option Stop
 used_stop is_filled Nil machine = None
 used_stop is_filled (Fixed object at) machine = gone_stop (slice_get machine.objects object)
-used_stop true (Handle block) machine = Some stop.BadPointer
-used_stop false (Handle block) machine = handle_stop size_of (Handle block) machine
+used_stop is_filled (Handle block) machine =
+    first_stop (handle_stop size_of (Handle block) machine ∷ stops_if is_filled stop.BadPointer ∷ [])
 used_stop is_filled (Spot its) machine = current_stop (Spot its) machine
 
 -- of one argument: a struct is skipped

@@ -9,14 +9,14 @@
 --     stride_bytes stride bits              how many bytes a step is
 use Rattle.std.specs.Prelude.{ℤ, ℕ, pos, negsuc, ◌+ℤ◌, ◌-ℤ◌, ◌*ℤ◌, neg_ℤ, int_le, int_lt, int_div, ◌==◌, Bool, true, false, not, ◌&&◌, [], ◌∷◌, Option, Some, None}
 use Rattle.std.specs.Ordering.{int_eq}
-use Rattle.hs_heap.specs.Blocks.{Block, is_disposed}
+use Rattle.hs_heap.specs.Blocks.{Block, if_current}
 use Rattle.hs_heap.specs.Memory.{block_at}
 use Rattle.hs_heap.specs.declared.cell.Pointer.{Pointer}
 use Rattle.hs_heap.specs.declared.cell.Pointer.TheVariants.{Nil, Fixed, Handle, Spot}
 use Rattle.hs_heap.specs.declared.cell.Spot as spot
 use Rattle.hs_meaning.specs.Machine.{Machine}
 use Rattle.hs_meaning.specs.Numbers.{signed, bits_of}
-use Rattle.hs_meaning.specs.Stops.{Stops, stops_if, first_stop}
+use Rattle.hs_meaning.specs.Stops.{Stops, stops_if, stop_of}
 use Rattle.hs_meaning.specs.Values.{are_one_pointer}
 use Rattle.hs_meaning.specs.declared.outcome.Stop.{Stop}
 use Rattle.hs_meaning.specs.declared.outcome.Stop.TheVariants as stop
@@ -25,20 +25,16 @@ use Rattle.hs_tree.specs.declared.operators.Comparison.TheVariants.{Less, Greate
 use Rattle.hs_tree.specs.declared.operators.Stride.{Stride}
 
 -- a pointer into a block is tested as at a load, but for its range
-abbrev pub current_in : spot.Spot → Option Block → Stops
-current_in its None = Some stop.BadPointer ∷ []
-current_in its (Some block) =
-    stops_if (is_disposed block.presence) stop.Disposed
-    ∷ stops_if (not (its.life == block.life)) stop.Old
-    ∷ stops_if (not (its.epoch == block.epoch)) stop.Stale
-    ∷ []
+abbrev pub current_in : spot.Spot → Option Block → Option Stop
+current_in its None = Some stop.BadPointer
+current_in its (Some block) = if_current (λ why. Some (stop_of why)) None its block
 
--- the first of them; other pointers are not tested
+-- other pointers are not tested
 abbrev pub current_stop : Pointer → Machine → Option Stop
 current_stop Nil machine = None
 current_stop (Fixed object at) machine = None
 current_stop (Handle block) machine = None
-current_stop (Spot its) machine = first_stop (current_in its (block_at machine.blocks its.block))
+current_stop (Spot its) machine = current_in its (block_at machine.blocks its.block)
 
 -- two numbers of bytes, if they are of one thing
 abbrev pub offsets_if : Bool → ℤ → ℤ → Option (ℤ × ℤ)

@@ -4,12 +4,12 @@
 --     role_machine role values machine     the machine after it
 -- The argument of a role that is no handle role is tested first; a state byte is no number.
 use Rattle.std.specs.Prelude.{ℕ, ◌%◌, Bool, true, false, not, List, [], ◌∷◌, ◌++◌, Option, Some, None, Result}
-use Rattle.hs_heap.specs.Blocks.{Block, disposed, size_of, resized, with_lock, with_purge_bit, state_of, with_state, reallocated, has_life}
+use Rattle.hs_heap.specs.Blocks.{Block, emptied, disposed, size_of, resized, with_lock, with_purge_bit, state_of, with_state, reallocated, has_life}
 use Rattle.hs_heap.specs.declared.cell.Pointer.{Pointer}
 use Rattle.hs_heap.specs.declared.cell.Pointer.TheVariants.{Nil, Fixed, Handle, Spot}
 use Rattle.hs_heap.specs.declared.stop.HeapStop.{HeapStop}
 use Rattle.hs_meaning.specs.Accesses.{use_stops, cells_at, with_cells_at}
-use Rattle.hs_meaning.specs.Handles.{handle_stop, changed_by, answer_by, if_granted, asked, reshaped_by, any_life, emptied_once, makes_block, makes_object, handle_if, object_if, with_block, with_object_if, dispose_stop, disposed_object, is_size, size_for}
+use Rattle.hs_meaning.specs.Handles.{handle_stop, changed_by, answer_by, if_granted, asked, reshaped_by, any_life, makes_block, makes_object, handle_if, object_if, with_block, with_object_if, dispose_stop, disposed_object, is_size, size_for}
 use Rattle.hs_meaning.specs.Machine.{Machine}
 use Rattle.hs_meaning.specs.Numbers.{signed}
 use Rattle.hs_meaning.specs.Stops.{Stops, stops_if}
@@ -81,7 +81,7 @@ role_stops Purge (its ∷ []) machine = handle_stops (with_purge_bit true) its m
 role_stops NoPurge (its ∷ []) machine = handle_stops (with_purge_bit false) its machine
 role_stops GetState (its ∷ []) machine = handle_stops state_of its machine
 role_stops SetState (its ∷ byte ∷ []) machine = state_stop byte ∷ handle_stops (with_state (state_in byte)) its machine
-role_stops Empty (its ∷ []) machine = handle_stops emptied_once its machine
+role_stops Empty (its ∷ []) machine = handle_stops emptied its machine
 role_stops Realloc (its ∷ size ∷ []) machine = number_stop size ∷ handle_stops (reallocated (size_for size)) its machine
 role_stops NewPtr (size ∷ []) machine = number_stop size ∷ []
 role_stops DisposePtr (its ∷ []) machine = pointer_stop its ∷ dispose_stop (pointer_in its) machine ∷ []
@@ -112,7 +112,7 @@ role_machine Purge (its ∷ []) machine = changed_by (with_purge_bit true) (poin
 role_machine NoPurge (its ∷ []) machine = changed_by (with_purge_bit false) (pointer_in its) machine
 role_machine GetState (its ∷ []) machine = machine
 role_machine SetState (its ∷ byte ∷ []) machine = changed_by (with_state (state_in byte)) (pointer_in its) machine
-role_machine Empty (its ∷ []) machine = changed_by emptied_once (pointer_in its) machine
+role_machine Empty (its ∷ []) machine = changed_by emptied (pointer_in its) machine
 role_machine Realloc (its ∷ size ∷ []) machine = if_granted size (reshaped_by has_life (reallocated (size_for size)) (pointer_in its)) machine
 role_machine NewPtr (size ∷ []) machine = with_object_if (makes_object size machine) (size_for size) (asked machine)
 role_machine DisposePtr (its ∷ []) machine = disposed_object (pointer_in its) machine

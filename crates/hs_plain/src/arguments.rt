@@ -1,10 +1,11 @@
 //! The arguments of a plain routine, and why they are not used.
 
-ghost use Rattle.std.specs.Prelude.{◌≡◌, map, option_copied, slice_get};
+ghost use Rattle.std.specs.Prelude.{◌≡◌, [], ◌∷◌, map, option_copied, slice_get};
 ghost use Rattle.hs_heap.specs.Blocks.{size_of};
 ghost use Rattle.hs_heap.specs.Memory.{block_at};
 ghost use Rattle.hs_meaning.specs.Handles.{handle_stop_in};
 ghost use Rattle.hs_meaning.specs.Plain.{argument, argument_stops, byte_stop, gone_stop, pointer_used, pointers_used, used_stop};
+ghost use Rattle.hs_meaning.specs.Stops.{stops_if};
 ghost use Rattle.hs_state.specs.Machines.{machine_of};
 ghost use Rattle.hs_values.specs.Answers.{or_first, or_stop};
 
@@ -45,15 +46,25 @@ fn use_handle(machine: &Machine, block: u32) -> Result<(), Stop>
     }
 }
 
-/// Tests whether a pointer is used, whatever it reaches. What is filled is no handle.
+/// Tests a handle as an argument: its block first. What is filled is no handle.
+fn use_argument(machine: &Machine, is_filled: bool, block: u32) -> Result<(), Stop>
+    ensures { result ≡ or_first (handle_stop_in size_of (block_at machine.now.heap.blocks block) ∷ stops_if is_filled Stop.BadPointer ∷ []) tt }
+{
+    use_handle(machine, block)?;
+    if is_filled {
+        return Err(Stop::BadPointer);
+    }
+    Ok(())
+}
+
+/// Tests whether a pointer is used, whatever it reaches.
 fn use_pointer(machine: &Machine, is_filled: bool, its: Pointer) -> Result<(), Stop>
     ensures { result ≡ or_stop (used_stop is_filled its (machine_of machine.now)) tt }
 {
     match its {
         Pointer::Nil => Ok(()),
         Pointer::Fixed(object, _) => use_object(&machine.objects, object),
-        Pointer::Handle(_) if is_filled => Err(Stop::BadPointer),
-        Pointer::Handle(block) => use_handle(machine, block),
+        Pointer::Handle(block) => use_argument(machine, is_filled, block),
         Pointer::Spot(_) => machine.current(its),
     }
 }

@@ -1,4 +1,3 @@
 mod Copying
-mod Emptying
 mod Moving
 mod Placing

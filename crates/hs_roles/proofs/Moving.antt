@@ -1,5 +1,7 @@
 -- Cells of blocks that the heap moves.
 use Rattle.std.proofs.Common.{◌≡◌, ◌≤◌, ℕ, zero, suc, List, [], ◌∷◌, length, take, drop, Option, Some, None, Result, Ok, Err, refl, ap, sym, subst, ◌∙◌, slice_get, arith}
+use native.Mathlib.Numerals.{unary_clauses}
+use Rattle.hs_heap.specs.BlockLaws.{same_there}
 use Rattle.hs_heap.specs.Blocks.{Block, loaded, loaded_at, moved, place_for, stored_at, with_cells}
 use Rattle.hs_heap.specs.Memory.{Memory, ActsAs, IsMade, Moves, block_at, put_block}
 use Rattle.hs_heap.specs.declared.cell.Cell.{Cell}
@@ -10,13 +12,17 @@ use Rattle.hs_meaning.specs.Accesses.{block_stops, by_stop, cells_from, with_cel
 use Rattle.hs_meaning.specs.Machine.{Machine, Done, with_blocks}
 use Rattle.hs_meaning.specs.Stops.{first_stop, heap_stop, stop_of}
 use Rattle.hs_meaning.specs.declared.outcome.Stop.{Stop}
-use Rattle.hs_roles.proofs.Emptying.{same_block}
 use Rattle.hs_roles.proofs.Placing.{placed, same_items, taken}
 use Rattle.hs_roles.specs.Parts.{copies}
 use Rattle.hs_state.specs.Machines.{Does}
 use Rattle.hs_values.specs.Answers.{or_first}
 use Rattle.hs_values.specs.declared.halt.Halt.TheVariants.{Stopped}
 use Rattle.hs_values.specs.declared.halt.Halt.{Halt}
+
+-- a block of that number, put there again
+same_block : (blocks : List Block) (number : ℕ) (block : Block) → block_at blocks number ≡ Some block → put_block blocks number block ≡ blocks
+same_block blocks zero block there = absurd (cc)
+same_block blocks (suc place) block there = simp unary_clauses (same_there blocks place block there)
 
 -- with its result
 abbrev pub answered : Result Unit HeapStop → Result Unit Halt

@@ -12,13 +12,13 @@
 --     cells_read from count machine       the cells that a pointer reaches, or why it does not
 --     copies from to count machine        cells from where one pointer reaches to where another does; moves, the role that asks for that
 use Rattle.std.specs.Prelude.{ℤ, ℕ, ◌%◌, pos, negsuc, Bool, List, [], ◌∷◌, ◌++◌, Option, Some, None, Result, Ok, if◌then◌else◌}
-use Rattle.hs_heap.specs.Blocks.{Block, with_lock, with_purge_bit, with_state, disposed, resized, always, reallocated, has_life}
+use Rattle.hs_heap.specs.Blocks.{Block, with_lock, with_purge_bit, with_state, emptied, disposed, resized, always, reallocated, has_life}
 use Rattle.hs_heap.specs.declared.cell.Cell.{Cell}
 use Rattle.hs_heap.specs.declared.cell.Pointer.{Pointer}
 use Rattle.hs_heap.specs.declared.cell.Pointer.TheVariants.{Nil, Fixed, Handle, Spot}
 use Rattle.hs_heap.specs.declared.stop.HeapStop.{HeapStop}
 use Rattle.hs_meaning.specs.Accesses.{unless_stopped, use_stops, cells_at, with_cells_at}
-use Rattle.hs_meaning.specs.Handles.{changed_by, answer_by, emptied_once, is_granted, if_granted, reshaped_by, size_for, asked, makes_block, makes_object, handle_if, object_if, with_block, with_object_if, dispose_stop, disposed_object}
+use Rattle.hs_meaning.specs.Handles.{changed_by, answer_by, is_granted, if_granted, reshaped_by, size_for, asked, makes_block, makes_object, handle_if, object_if, with_block, with_object_if, dispose_stop, disposed_object}
 use Rattle.hs_meaning.specs.Machine.{Machine, Done}
 use Rattle.hs_meaning.specs.Roles.{role_stops, role_value, role_machine, handle_stops, state_stop, state_in, move_stops, put}
 use Rattle.hs_meaning.specs.Values.{Value, number, bits_in, pointer_in, number_stop, pointer_stop}
@@ -53,7 +53,7 @@ abbrev pub changed_as : Change → Block → Result Block HeapStop
 changed_as (change.Lock on) = with_lock on
 changed_as (change.Purge on) = with_purge_bit on
 changed_as (change.State byte) = with_state byte
-changed_as change.Empty = emptied_once
+changed_as change.Empty = emptied
 changed_as change.Dispose = disposed
 
 -- a role that takes no memory

@@ -1,7 +1,6 @@
 //! Roles that take memory. Each of them is an allocation, and the schedule refuses some by their numbers.
 
-ghost use Rattle.std.specs.Prelude.{◌≡◌, ◌==◌, IfOk, OnOk};
-ghost use Rattle.std.specs.List.{list_any};
+ghost use Rattle.std.specs.Prelude.{◌≡◌, IfOk, OnOk};
 ghost use Rattle.hs_meaning.specs.Handles.{asked};
 ghost use Rattle.hs_meaning.specs.Numbers.{signed};
 ghost use Rattle.hs_roles.specs.Parts.{granted, makes_handle, makes_pointer, reshapes, size_if};
@@ -22,13 +21,6 @@ pub(crate) fn size_in(bits: u32) -> Option<u32>
     (bits <= i32::MAX as u32).then_some(bits)
 }
 
-/// Tests whether that number is among those of the allocations that are refused.
-fn is_refused(refused: &[u32], number: u64) -> bool
-    ensures { result ≡ list_any (λ it. it == number) refused.now }
-{
-    refused.iter().any(|it| u64::from(*it) == number)
-}
-
 /// Counts one more allocation. Returns the size that the number is, or nothing if the allocation is refused or the number is not a size.
 ///
 /// # Errors
@@ -42,7 +34,7 @@ fn ask(machine: &mut Machine, bits: u32) -> Result<Option<u32>, NoMemory>
 {
     let number = machine.allocations.checked_add(1).ok_or(NoMemory)?;
     machine.allocations = number;
-    if is_refused(machine.refused, number) {
+    if machine.refused.has(number) {
         return Ok(None);
     }
     Ok(size_in(bits))

@@ -2,7 +2,6 @@
 
 ghost use Rattle.std.specs.Prelude.{◌≡◌, length};
 ghost use Rattle.hs_heap.specs.Memory.{Acts, IsMade};
-ghost use Rattle.hs_meaning.specs.Handles.{emptied_once};
 ghost use Rattle.hs_roles.specs.Parts.{changed_as};
 
 use hs_heap::{Heap, HeapStop};
@@ -22,19 +21,6 @@ pub(crate) enum Change {
     Dispose,
 }
 
-/// Empties the block, unless it is of the last life.
-fn empty(heap: &mut Heap, block: u32) -> Result<(), HeapStop>
-    requires made { IsMade heap.old block }
-    ensures acts { Acts emptied_once block heap.old heap.new result }
-    ensures as_many { length heap.new.blocks ≡ length heap.old.blocks }
-    ensures same_shifts { heap.new.shifts ≡ heap.old.shifts }
-{
-    match heap.master(block)? {
-        Some(its) if its.life == u32::MAX => Ok(()),
-        _ => heap.empty(block),
-    }
-}
-
 /// Changes the block of that number so.
 ///
 /// # Errors
@@ -51,7 +37,7 @@ pub(crate) fn apply(heap: &mut Heap, block: u32, change: Change) -> Result<(), H
         Change::Lock(false) => heap.unlock(block),
         Change::Purge(on) => heap.purge_bit(block, on),
         Change::State(byte) => heap.set_state(block, byte),
-        Change::Empty => empty(heap, block),
+        Change::Empty => heap.empty(block),
         Change::Dispose => heap.dispose(block),
     }
 }

@@ -13,7 +13,7 @@ use hs_heap::Heap;
 use hs_layers::Layers;
 use hs_meaning::Input;
 use hs_objects::Objects;
-use hs_state::{Machine, Setting};
+use hs_state::{Machine, Refusals, Setting};
 use std::alloc::Global;
 
 /// The number of the object of the first string literal: those of the variables come before it.
@@ -46,6 +46,7 @@ pub fn start<'a>(
     let mut objects = Objects::new(alloc);
     add_variables(alloc, &bases, &mut objects, setting.globals.items())?;
     add_literals(alloc, &mut objects, setting.literals.items())?;
+    let refused = Refusals::of(alloc, input.refused.items())?;
     Ok(Machine {
         alloc,
         heap: Heap::new(alloc),
@@ -56,7 +57,7 @@ pub fn start<'a>(
         frames: 0,
         bytes: input.bytes.items(),
         words: input.words.items(),
-        refused: input.refused.items(),
+        refused,
         allocations: 0,
         output: Vec::new(alloc),
     })

@@ -6,10 +6,12 @@ mod accesses;
 mod binding;
 mod machine;
 mod pointers;
+mod refusals;
 mod setting;
 mod variables;
 
 pub use accesses::stop_of;
 pub use binding::Binding;
 pub use machine::Machine;
+pub use refusals::Refusals;
 pub use setting::Setting;

@@ -2,7 +2,7 @@
 
 ghost use Rattle.std.specs.Prelude.{◌≡◌, length};
 
-use crate::Binding;
+use crate::{Binding, Refusals};
 use hs_heap::Heap;
 use hs_layers::Layers;
 use hs_objects::Objects;
@@ -29,8 +29,8 @@ pub struct Machine<'a> {
     pub bytes: &'a [u8],
     /// What plain routines have not answered yet.
     pub words: &'a [u32],
-    /// The numbers, from 1, of the allocations that are refused.
-    pub refused: &'a [u32],
+    /// The allocations that are refused.
+    pub refused: Refusals<'a>,
     /// How many allocations were asked for.
     pub allocations: u64,
     /// What the program has put out.

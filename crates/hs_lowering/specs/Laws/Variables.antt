@@ -6,7 +6,7 @@
 --     SameSlots before after               what is a slot stays one, and what is an object stays that object
 --     set_keeps_slots                      Set, of a slot
 use Rattle.std.proofs.Common.{◌≡◌, ℤ, ℕ, zero, suc, ◌==◌, Bool, true, false, ◌&&◌, List, [], ◌∷◌, ◌++◌, map, take, slice_get, slice_set, Option, Some, None, Result, Ok, Err, refl, ap, ◌∙◌, if◌then◌else◌}
-use Rattle.hs_heap.specs.Blocks.{Block, master_of, disposed, resized, with_lock, with_purge_bit, with_state, reallocated, has_life}
+use Rattle.hs_heap.specs.Blocks.{Block, master_of, emptied, disposed, resized, with_lock, with_purge_bit, with_state, reallocated, has_life}
 use Rattle.hs_heap.specs.Memory.{block_at, has_room}
 use Rattle.hs_heap.specs.declared.cell.Cell.{Cell}
 use Rattle.hs_heap.specs.declared.cell.Cell.TheVariants.{Byte}
@@ -15,7 +15,7 @@ use Rattle.hs_heap.specs.declared.cell.Pointer.TheVariants.{Nil, Fixed, Handle, 
 use Rattle.hs_heap.specs.declared.cell.Spot as spot
 use Rattle.hs_heap.specs.declared.stop.HeapStop.{HeapStop}
 use Rattle.hs_meaning.specs.Accesses.{by_stop, unless_stopped, use_stops, cells_at, put_in_object, put_in_block, with_cells_at, master_pointer, master_in, cells_loaded, loaded, stored}
-use Rattle.hs_meaning.specs.Handles.{with_result, changed_in, changed_by, is_granted, asked, has_room_after, reshaped_in, reshaped_by, if_granted, any_life, emptied_once, makes_block, makes_object, with_block, with_object_if, disposed_object, size_for}
+use Rattle.hs_meaning.specs.Handles.{with_result, changed_in, changed_by, is_granted, asked, has_room_after, reshaped_in, reshaped_by, if_granted, any_life, makes_block, makes_object, with_block, with_object_if, disposed_object, size_for}
 use Rattle.hs_meaning.specs.Machine.{Machine, Binding, slot, object_at, Done, done, stopped, binding_of, with_value, has_room_for}
 use Rattle.hs_meaning.specs.Operations.{Operation, set, load, store, routine, operation_stops, operation_value, operation_machine, as_kind, is_plain, called_by, called_as, called, operate}
 use Rattle.hs_meaning.specs.Plain.{argument_stops, line_of, answers, bytes_of_words, words_for, argument, pointed_size, fill_size, fill_stops, filled, next_word, one_word_less, made_size, made_block, made_object, points_to_pointer, new_value, pointer_result, result_by, result_of, then_unless, with_line, after_line, plain}
@@ -246,7 +246,7 @@ role_same Purge (its ∷ []) machine = changed_same (with_purge_bit true) (point
 role_same NoPurge (its ∷ []) machine = changed_same (with_purge_bit false) (pointer_in its) machine
 role_same GetState (its ∷ []) machine = same_variables machine
 role_same SetState (its ∷ byte ∷ []) machine = changed_same (with_state (state_in byte)) (pointer_in its) machine
-role_same Empty (its ∷ []) machine = changed_same emptied_once (pointer_in its) machine
+role_same Empty (its ∷ []) machine = changed_same emptied (pointer_in its) machine
 role_same Realloc (its ∷ size ∷ []) machine =
     granted_same size (reshaped_by has_life (reallocated (size_for size)) (pointer_in its)) machine
     (λ before. reshaped_same has_life (reallocated (size_for size)) (pointer_in its) before)

@@ -2,11 +2,10 @@
 --     IsFineRole role, KeepsUnmoved role        it stops for no misuse; what it leaves is unmoved
 --     disposed_fine, .., disposed_keeps, ..     each role
 use Rattle.std.proofs.Common.{ℕ, ◌+◌, ◌-◌, ◌%◌, ◌==◌, nat_le, Bool, true, false, [], ◌++◌, length, take, replicate, Result, Ok, Err, refl, if◌then◌else◌}
-use Rattle.hs_heap.specs.Blocks.{Block, new_block, standing, by_standing, changed, with_lock, with_purge_bit, with_bits, with_state, without_cells, emptied, ended, disposed, bit, size_of, state_of, resized, renewed, reallocated}
+use Rattle.hs_heap.specs.Blocks.{Block, last_life, new_block, standing, by_standing, changed, with_lock, with_purge_bit, with_bits, with_state, without_cells, emptied, ended, disposed, bit, size_of, state_of, resized, renewed, reallocated}
 use Rattle.hs_heap.specs.declared.cell.Cell.TheVariants.{Undefined, Byte}
 use Rattle.hs_heap.specs.declared.presence.Presence.TheVariants.{Emptied}
 use Rattle.hs_heap.specs.declared.stop.HeapStop.{HeapStop}
-use Rattle.hs_meaning.specs.Handles.{emptied_once}
 use Rattle.hs_meaning.specs.Laws.Unmoved.{IsUnmovedCell, IsUnmovedBlock}
 use Rattle.hs_meaning.specs.Laws.Unmoved.Accesses.{standing_fine}
 use Rattle.hs_meaning.specs.Laws.Unmoved.Fine.{IsFine}
@@ -105,15 +104,15 @@ without_cells_unmoved block is = by_lock block.locked
     by_lock false = emptied_block block is
 
 -- EmptyHandle
-pub emptied_once_fine : IsFineRole emptied_once
-emptied_once_fine block is =
-    fine_either (block.life == 4294967295) (changed (λ block. block) block) (emptied block) (changed_fine (λ block. block) block is)
+pub emptied_fine : IsFineRole emptied
+emptied_fine block is =
+    fine_either (block.life == last_life) (changed (λ block. block) block) (changed without_cells block) (changed_fine (λ block. block) block is)
     (changed_fine without_cells block is)
 
 -- and the block after it
-pub emptied_once_keeps : KeepsUnmoved emptied_once
-emptied_once_keeps block is =
-    kept_either (block.life == 4294967295) (changed (λ block. block) block) (emptied block) (changed_keeps (λ block. block) (λ block is. is) block is)
+pub emptied_keeps : KeepsUnmoved emptied
+emptied_keeps block is =
+    kept_either (block.life == last_life) (changed (λ block. block) block) (changed without_cells block) (changed_keeps (λ block. block) (λ block is. is) block is)
     (changed_keeps without_cells without_cells_unmoved block is)
 
 ended_unmoved : (block : Block) → IsUnmovedBlock block → IsUnmovedBlock (ended block)

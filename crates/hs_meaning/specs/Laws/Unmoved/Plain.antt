@@ -11,6 +11,7 @@ use Rattle.hs_meaning.specs.Accesses.{with_cells_at}
 use Rattle.hs_meaning.specs.Laws.Unmoved.{IsUnmovedPointer, IsUnmovedCell, IsUnmoved, IsStillMachine, IsStillDone}
 use Rattle.hs_meaning.specs.Laws.Unmoved.Accesses.{use_stops_fine, with_cells_at_still}
 use Rattle.hs_meaning.specs.Laws.Unmoved.Blocks.{size_of_fine, zero_block_unmoved}
+use Rattle.hs_meaning.specs.Handles.{handle_stop}
 use Rattle.hs_meaning.specs.Laws.Unmoved.Fine.{IsFine, AreFine, if_fine, first_fine, then_unless_still}
 use Rattle.hs_meaning.specs.Laws.Unmoved.Handles.{handle_fine, handle_if_unmoved, object_if_unmoved, more_blocks_still, new_object_still}
 use Rattle.hs_meaning.specs.Laws.Unmoved.Lists.{IfThere, all_append, all_replicate, all_map, there}
@@ -18,7 +19,7 @@ use Rattle.hs_meaning.specs.Laws.Unmoved.Pointers.{current_fine}
 use Rattle.hs_meaning.specs.Laws.Unmoved.Values.{pointer_in_unmoved, bytes_unmoved}
 use Rattle.hs_meaning.specs.Machine.{Machine, Object, Done, allocated, has_ended, has_room_for}
 use Rattle.hs_meaning.specs.Plain.{gone_stop, used_stop, pointer_used, pointers_used, byte_stop, argument_stops, line_of, answers, later_words, bytes_of_words, words_for, argument, pointed_size, fill_size, fill_stops, filled, next_word, one_word_less, made_size, made_block, made_object, points_to_pointer, new_value, pointer_result, result_by, result_of, then_unless, with_line, after_line, plain}
-use Rattle.hs_meaning.specs.Stops.{first_stop}
+use Rattle.hs_meaning.specs.Stops.{first_stop, stops_if}
 use Rattle.hs_meaning.specs.Values.{Value, number, pointer, state, structure, pointer_in}
 use Rattle.hs_meaning.specs.declared.outcome.Stop.TheVariants as stop
 use Rattle.hs_table.specs.declared.routine.Routine.{Routine}
@@ -38,8 +39,9 @@ used_fine : (is_filled : Bool) (its : Pointer) (machine : Machine) → IsUnmoved
     → IsFine (used_stop is_filled its machine)
 used_fine is_filled Nil machine is still = tt
 used_fine is_filled (Fixed object at) machine is still = gone_fine (slice_get machine.objects object)
-used_fine true (Handle block) machine is still = λ is. is
-used_fine false (Handle block) machine is still = handle_fine size_of (Handle block) machine size_of_fine still
+used_fine is_filled (Handle block) machine is still =
+    first_fine (handle_stop size_of (Handle block) machine ∷ stops_if is_filled stop.BadPointer ∷ [])
+    (handle_fine size_of (Handle block) machine size_of_fine still, (if_fine is_filled stop.BadPointer (λ is. is), tt))
 used_fine is_filled (Spot its) machine is still = current_fine (Spot its) machine is still
 
 pointer_used_fine : (is_filled : Bool) (value : Value) (machine : Machine) → IsUnmoved value → IsStillMachine machine

@@ -2,7 +2,7 @@
 --     current_fine                        a pointer that is compared or subtracted, or is an argument
 --     compare_fine, difference_fine       why two pointers are not compared, or have no difference
 --     moved_fine, moved_unmoved           why a pointer does not go on, and where it is then
-use Rattle.std.proofs.Common.{◌≡◌, ℤ, ◌+ℤ◌, ◌==◌, Bool, true, false, not, ◌&&◌, Option, Some, None, refl, true≢false}
+use Rattle.std.proofs.Common.{◌≡◌, ℤ, ◌+ℤ◌, ◌==◌, Bool, true, false, not, ◌&&◌, Option, Some, None, refl, true≢false, if◌then◌else◌}
 use Rattle.hs_heap.specs.Blocks.{Block, is_disposed}
 use Rattle.hs_heap.specs.Memory.{block_at}
 use Rattle.hs_heap.specs.declared.cell.Pointer.{Pointer}
@@ -10,29 +10,26 @@ use Rattle.hs_heap.specs.declared.cell.Pointer.TheVariants.{Nil, Fixed, Handle, 
 use Rattle.hs_heap.specs.declared.cell.Spot as spot
 use Rattle.hs_meaning.specs.Laws.Unmoved.{IsUnmovedPointer, IsUnmovedBlock, IsStillMachine}
 use Rattle.hs_meaning.specs.Laws.Unmoved.Accesses.{block_there, epochs_agree}
-use Rattle.hs_meaning.specs.Laws.Unmoved.Fine.{IsFine, AreFine, if_fine, first_fine}
+use Rattle.hs_meaning.specs.Laws.Unmoved.Fine.{IsFine, AreFine, if_fine}
 use Rattle.hs_meaning.specs.Laws.Unmoved.Lists.{IfThere}
 use Rattle.hs_meaning.specs.Machine.{Machine}
 use Rattle.hs_meaning.specs.Pointers.{current_in, current_stop, offsets_of, are_apart, orders, compare_stops, difference_stops, is_near, moved_stop, moved_by}
-use Rattle.hs_meaning.specs.Stops.{stops_if}
-use Rattle.hs_meaning.specs.declared.outcome.Stop.{Stop}
 use Rattle.hs_meaning.specs.declared.outcome.Stop.TheVariants as stop
 use Rattle.hs_tree.specs.declared.operators.Comparison.{Comparison}
 
--- the test that fails says nothing
-untested : (test : Bool) (why : Stop) → test ≡ false → IsFine (stops_if test why)
-untested true why is = absurd (true≢false is)
-untested false why is = tt
+-- of the tests of a pointer, the one of the epoch says nothing
+tests_fine : (disposed old stale : Bool) → stale ≡ false
+    → IsFine (if disposed then Some stop.Disposed else if old then Some stop.Old else if stale then Some stop.Stale else None)
+tests_fine true old stale current = λ is. is
+tests_fine false true stale current = λ is. is
+tests_fine false false true current = absurd (true≢false current)
+tests_fine false false false current = tt
 
-current_in_fine : (its : spot.Spot) (block : Option Block) → its.epoch ≡ 0 → IfThere IsUnmovedBlock block → AreFine (current_in its block)
-current_in_fine its None is unmoved = (λ is. is, tt)
-current_in_fine its (Some block) is unmoved = (
-  if_fine (is_disposed block.presence) stop.Disposed (λ is. is),
-  (
-    if_fine (not (its.life == block.life)) stop.Old (λ is. is),
-    (untested (not (its.epoch == block.epoch)) stop.Stale (epochs_agree its.epoch block.epoch is unmoved.epoch), tt),
-  ),
-)
+current_in_fine : (its : spot.Spot) (block : Option Block) → its.epoch ≡ 0 → IfThere IsUnmovedBlock block → IsFine (current_in its block)
+current_in_fine its None is unmoved = λ is. is
+current_in_fine its (Some block) is unmoved =
+    tests_fine (is_disposed block.presence) (not (its.life == block.life)) (not (its.epoch == block.epoch))
+    (epochs_agree its.epoch block.epoch is unmoved.epoch)
 
 -- why a pointer is no more one
 pub current_fine : (its : Pointer) (machine : Machine) → IsUnmovedPointer its → IsStillMachine machine → IsFine (current_stop its machine)
@@ -40,8 +37,7 @@ current_fine Nil machine is still = tt
 current_fine (Fixed object at) machine is still = tt
 current_fine (Handle block) machine is still = tt
 current_fine (Spot its) machine is still =
-    first_fine (current_in its (block_at machine.blocks its.block))
-    (current_in_fine its (block_at machine.blocks its.block) is (block_there machine.blocks its.block still.blocks))
+    current_in_fine its (block_at machine.blocks its.block) is (block_there machine.blocks its.block still.blocks)
 
 -- why two pointers are not compared
 pub compare_fine : (operator : Comparison) (a b : Pointer) (machine : Machine) → IsUnmovedPointer a → IsUnmovedPointer b → IsStillMachine machine

@@ -2,11 +2,11 @@
 --     role_fine, role_value_unmoved, role_still      why one stops, what it gives, and the machine after it
 use Rattle.std.proofs.Common.{ℕ, ◌%◌, true, false, not, List, [], ◌∷◌, Result}
 use Rattle.std.specs.List.{AllByRecursion}
-use Rattle.hs_heap.specs.Blocks.{Block, disposed, size_of, resized, with_lock, with_purge_bit, state_of, with_state, reallocated, has_life}
+use Rattle.hs_heap.specs.Blocks.{Block, emptied, disposed, size_of, resized, with_lock, with_purge_bit, state_of, with_state, reallocated, has_life}
 use Rattle.hs_heap.specs.declared.cell.Pointer.{Pointer}
 use Rattle.hs_heap.specs.declared.stop.HeapStop.{HeapStop}
 use Rattle.hs_meaning.specs.Accesses.{use_stops, cells_at}
-use Rattle.hs_meaning.specs.Handles.{reshaped_by, any_life, asked, emptied_once, makes_block, makes_object, is_size, size_for}
+use Rattle.hs_meaning.specs.Handles.{reshaped_by, any_life, asked, makes_block, makes_object, is_size, size_for}
 use Rattle.hs_meaning.specs.Laws.Unmoved.{IsUnmovedPointer, IsUnmoved, IsStillMachine}
 use Rattle.hs_meaning.specs.Laws.Unmoved.Accesses.{use_stops_fine, cells_at_unmoved, with_cells_at_still}
 use Rattle.hs_meaning.specs.Laws.Unmoved.Blocks as blocks
@@ -67,7 +67,7 @@ role_fine NoPurge (its ∷ []) machine are still = handles_fine (with_purge_bit 
 role_fine GetState (its ∷ []) machine are still = handles_fine state_of its machine blocks.state_of_fine still
 role_fine SetState (its ∷ byte ∷ []) machine are still =
     (state_fine byte, handles_fine (with_state (state_in byte)) its machine (blocks.with_state_fine (state_in byte)) still)
-role_fine Empty (its ∷ []) machine are still = handles_fine emptied_once its machine blocks.emptied_once_fine still
+role_fine Empty (its ∷ []) machine are still = handles_fine emptied its machine blocks.emptied_fine still
 role_fine Realloc (its ∷ size ∷ []) machine are still =
     (number_fine size, handles_fine (reallocated (size_for size)) its machine (blocks.reallocated_fine (size_for size)) still)
 role_fine NewPtr (size ∷ []) machine are still = (number_fine size, tt)
@@ -112,7 +112,7 @@ role_still NoPurge (its ∷ []) machine still = changed_still (with_purge_bit fa
 role_still GetState (its ∷ []) machine still = still
 role_still SetState (its ∷ byte ∷ []) machine still =
     changed_still (with_state (state_in byte)) (pointer_in its) machine (blocks.with_state_keeps (state_in byte)) still
-role_still Empty (its ∷ []) machine still = changed_still emptied_once (pointer_in its) machine blocks.emptied_once_keeps still
+role_still Empty (its ∷ []) machine still = changed_still emptied (pointer_in its) machine blocks.emptied_keeps still
 role_still Realloc (its ∷ size ∷ []) machine still =
     granted_still size (reshaped_by has_life (reallocated (size_for size)) (pointer_in its)) machine
     (λ before is. reshaped_still has_life (reallocated (size_for size)) (pointer_in its) before (blocks.reallocated_keeps (size_for size)) is) still
