@@ -12,8 +12,8 @@ use Rattle.hs_code.specs.declared.function_code.Placed.{Placed}
 use Rattle.hs_code.specs.declared.op.Op.TheVariants as op
 use Rattle.hs_lower_expressions.specs.Emits.{most_ops}
 use Rattle.hs_lower_expressions.specs.EmittingLaws.{after_ops}
-use Rattle.hs_lower_expressions.specs.declared.lower_end.LowerEnd.{LowerEnd}
-use Rattle.hs_lower_expressions.specs.declared.lower_end.LowerEnd.TheVariants.{Limit, NoMemory}
+use Rattle.hs_lower_expressions.specs.declared.emit_end.EmitEnd.{EmitEnd}
+use Rattle.hs_lower_expressions.specs.declared.emit_end.EmitEnd.TheVariants.{Limit, NoMemory}
 use Rattle.hs_lowering.specs.Laws.Lengths.{same_block}
 use Rattle.hs_lowering.specs.Laws.Targets.{missing_within}
 use Rattle.hs_lowering.specs.Lowering.{Lowered, after}
@@ -125,7 +125,7 @@ module _ (setting : Setting) (function : TypedFunction) where
       by (inr past) = past.1
 
 -- and why
-pub ended : {A : Type 0} → (setting : Setting) (function : TypedFunction) (fact : A → Type 0) (why : LowerEnd)
+pub ended : {A : Type 0} → (setting : Setting) (function : TypedFunction) (fact : A → Type 0) (why : EmitEnd)
     → Written (function_steps setting function) (Err why) → Ends (Err why) fact (most_ops < length (function_code setting function).ops)
 ended setting function fact Limit is = written_past setting function is
 ended setting function fact NoMemory is = tt

@@ -1,3 +1,4 @@
 pub mod Aiming
+pub mod Lowered
 pub mod Places
 pub mod Writing

@@ -14,8 +14,8 @@ use Rattle.hs_code.specs.declared.op.Op.TheVariants as op
 use Rattle.hs_lower_expressions.specs.Aims as aims
 use Rattle.hs_lower_expressions.specs.Aims.{to_break, to_continue, targets_of, aimed_from}
 use Rattle.hs_lower_expressions.specs.Emits.{most_ops}
-use Rattle.hs_lower_expressions.specs.declared.lower_end.LowerEnd.{LowerEnd}
-use Rattle.hs_lower_expressions.specs.declared.lower_end.LowerEnd.TheVariants.{Limit, NoMemory}
+use Rattle.hs_lower_expressions.specs.declared.emit_end.EmitEnd.{EmitEnd}
+use Rattle.hs_lower_expressions.specs.declared.emit_end.EmitEnd.TheVariants.{Limit, NoMemory}
 use Rattle.hs_lower_starts.specs.FirstValues.{item_code}
 use Rattle.hs_lowering.specs.Lowering.{operand}
 use Rattle.hs_lowering.specs.Statements.{Part, Counts, Targets, one_piece, piece_for, pieces_for, placed_at, only_at, value_code, after_statement, after_block, after_list, cases_in, default_in, items_code, declarations_code, return_code, labels_code, statement_code, block_code, list_code}
@@ -39,7 +39,7 @@ None >>= next = None
 Some text >>= next = next text
 
 -- the answer is that of the step, unless memory ran out
-abbrev pub Done : {A : Type 0} → Option Text → Text → Result A LowerEnd → Type 0
+abbrev pub Done : {A : Type 0} → Option Text → Text → Result A EmitEnd → Type 0
 Done whole text (Ok it) = whole ≡ Some text
 Done whole text (Err Limit) = whole ≡ None
 Done whole text (Err NoMemory) = Unit {0}
@@ -253,7 +253,7 @@ switch_ended at piece choice start labels text =
 -- ---- functions
 
 -- what an answer with a text says of such a step
-abbrev pub Written : Option Text → Result Text LowerEnd → Type 0
+abbrev pub Written : Option Text → Result Text EmitEnd → Type 0
 Written whole (Ok text) = whole ≡ Some text
 Written whole (Err Limit) = whole ≡ None
 Written whole (Err NoMemory) = Unit {0}
@@ -270,7 +270,7 @@ function_steps setting function =
     >>= (λ last. Some (aimed_text (length body.ops) (length body.ops) 0 last)))
 
 -- An answer meets the fact. It is refused with `Limit` only where there are too many operations, or with `NoMemory`.
-abbrev pub Ends : {A : Type 0} → Result A LowerEnd → (A → Type 0) → Type 0 → Type 0
+abbrev pub Ends : {A : Type 0} → Result A EmitEnd → (A → Type 0) → Type 0 → Type 0
 Ends (Ok it) fact past = fact it
 Ends (Err Limit) fact past = past
 Ends (Err NoMemory) fact past = Unit {0}

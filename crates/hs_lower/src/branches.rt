@@ -12,7 +12,7 @@ use crate::parts::{given, put};
 use crate::text::{CaseList, Text};
 use hs_base::{NoMemory, Pos};
 use hs_code::{Case, Goal, Op, Placed};
-use hs_lower_expressions::{Exits, LowerEnd};
+use hs_lower_expressions::{EmitEnd, Exits};
 use hs_tree::{Label, Rvalue};
 
 /// A test that is written, or a choice: its piece, and the number of the operation whose target is not known yet.
@@ -29,7 +29,7 @@ pub(crate) fn begin_if(
     text: &mut Text,
     at: Pos,
     test: &Rvalue,
-) -> Result<Test, LowerEnd>
+) -> Result<Test, EmitEnd>
     ensures done { Done (if_begun (setting_here lowering.now) (function_here lowering.now) at (view_right test.now) text.old) text.new result }
     ensures piece { IfOk result (λ test. test.piece ≡ text.old.pieces) }
     ensures number { IfOk result (λ test. test.number ≡ length text.new.ops - 1) }
@@ -60,7 +60,7 @@ fn aim(text: &mut Text, at: Pos, test: Test, target: u32)
 
 /// Ends an `if` without `else`.
 #[tactic(auto, unfolding(crate::specs::Writing::if_ended))]
-pub(crate) fn end_if(text: &mut Text, at: Pos, test: Test) -> Result<(), LowerEnd>
+pub(crate) fn end_if(text: &mut Text, at: Pos, test: Test) -> Result<(), EmitEnd>
     requires there { test.number < length text.old.ops }
     ensures done { Done (if_ended at test.piece test.number text.old) text.new result }
     ensures keeps { OnOk result (length text.old.ops ≤ length text.new.ops) }
@@ -74,7 +74,7 @@ pub(crate) fn end_if(text: &mut Text, at: Pos, test: Test) -> Result<(), LowerEn
 
 /// Ends an `if` with `else`. `jump` is the number of the jump between its statements.
 #[tactic(auto, unfolding(crate::specs::Writing::if_else_ended))]
-pub(crate) fn end_if_else(text: &mut Text, at: Pos, test: Test, jump: u32) -> Result<(), LowerEnd>
+pub(crate) fn end_if_else(text: &mut Text, at: Pos, test: Test, jump: u32) -> Result<(), EmitEnd>
     requires there { test.number < length text.old.ops }
     requires jumps { jump < length text.old.ops }
     ensures done { Done (if_else_ended at test.piece test.number jump text.old) text.new result }
@@ -103,7 +103,7 @@ pub(crate) fn begin_switch(
     text: &mut Text,
     at: Pos,
     value: &Rvalue,
-) -> Result<Test, LowerEnd>
+) -> Result<Test, EmitEnd>
     ensures done { Done (switch_begun (setting_here lowering.now) (function_here lowering.now) at (view_right value.now) text.old) text.new result }
     ensures piece { IfOk result (λ choice. choice.piece ≡ text.old.pieces) }
     ensures number { IfOk result (λ choice. choice.number ≡ length text.new.ops - 1) }
@@ -155,7 +155,7 @@ pub(crate) fn end_switch(
     choice: Test,
     start: u32,
     labels: &[(Label, u32)],
-) -> Result<(), LowerEnd>
+) -> Result<(), EmitEnd>
     requires there { choice.number < length text.old.ops }
     requires begins { start ≤ length text.old.ops }
     ensures done { Done (switch_ended at choice.piece choice.number start labels.now text.old) text.new result }

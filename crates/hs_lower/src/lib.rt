@@ -3,10 +3,12 @@
 
 mod branches;
 mod loops;
+mod lower_end;
 mod lowering;
 mod parts;
 mod program;
 mod statements;
 mod text;
 
+pub use lower_end::LowerEnd;
 pub use program::lower;

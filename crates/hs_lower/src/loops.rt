@@ -11,7 +11,7 @@ use crate::parts::{given, put};
 use crate::text::Text;
 use hs_base::Pos;
 use hs_code::Op;
-use hs_lower_expressions::{Exits, LowerEnd};
+use hs_lower_expressions::{EmitEnd, Exits};
 use hs_tree::Rvalue;
 
 /// A loop that is being written: the piece of the join in front of it, its first operation, and the piece of its step, if it has one.
@@ -29,7 +29,7 @@ pub(crate) fn begin_while(
     text: &mut Text,
     at: Pos,
     test: &Rvalue,
-) -> Result<Loop, LowerEnd>
+) -> Result<Loop, EmitEnd>
     ensures done { Done (while_begun (setting_here lowering.now) (function_here lowering.now) at (view_right test.now) text.old) text.new result }
     ensures join { IfOk result (λ its. its.join ≡ text.old.pieces) }
     ensures start { IfOk result (λ its. its.start ≡ length text.old.ops) }
@@ -57,7 +57,7 @@ pub(crate) fn begin_while(
 
 /// Ends a `while`, after its body.
 #[tactic(auto, unfolding(crate::specs::Writing::while_ended))]
-pub(crate) fn end_while(text: &mut Text, at: Pos, its: Loop) -> Result<(), LowerEnd>
+pub(crate) fn end_while(text: &mut Text, at: Pos, its: Loop) -> Result<(), EmitEnd>
     requires begins { its.start ≤ length text.old.ops }
     ensures done { Done (while_ended at its.join its.start text.old) text.new result }
     ensures keeps { OnOk result (length text.old.ops ≤ length text.new.ops) }
@@ -73,7 +73,7 @@ pub(crate) fn end_while(text: &mut Text, at: Pos, its: Loop) -> Result<(), Lower
 
 /// Begins a `do`, up to its body.
 #[tactic(auto, unfolding(crate::specs::Writing::do_begun))]
-pub(crate) fn begin_do(text: &mut Text, at: Pos) -> Result<Loop, LowerEnd>
+pub(crate) fn begin_do(text: &mut Text, at: Pos) -> Result<Loop, EmitEnd>
     ensures done { Done (do_begun at text.old) text.new result }
     ensures join { IfOk result (λ its. its.join ≡ text.old.pieces) }
     ensures start { IfOk result (λ its. its.start ≡ length text.old.ops) }
@@ -98,7 +98,7 @@ pub(crate) fn end_do(
     at: Pos,
     test: &Rvalue,
     its: Loop,
-) -> Result<(), LowerEnd>
+) -> Result<(), EmitEnd>
     requires begins { its.start ≤ length text.old.ops }
     ensures done { Done (do_ended (setting_here lowering.now) (function_here lowering.now) at (view_right test.now) its.join its.start text.old) text.new result }
     ensures keeps { OnOk result (length text.old.ops ≤ length text.new.ops) }
@@ -132,7 +132,7 @@ fn evaluate(
     piece: u32,
     at: Pos,
     e: &Option<Box<Rvalue>>,
-) -> Result<(), LowerEnd>
+) -> Result<(), EmitEnd>
     ensures done { Done (dropped_steps (setting_here lowering.now) (function_here lowering.now) piece at (option_map (λ it. view_right it.value) e.now) text.old) text.new result }
     ensures keeps { OnOk result (length text.old.ops ≤ length text.new.ops) }
 {
@@ -149,7 +149,7 @@ fn guard(
     piece: u32,
     at: Pos,
     test: &Option<Box<Rvalue>>,
-) -> Result<(), LowerEnd>
+) -> Result<(), EmitEnd>
     ensures done { Done (guarded_steps (setting_here lowering.now) (function_here lowering.now) piece at (option_map (λ it. view_right it.value) test.now) text.old) text.new result }
     ensures keeps { OnOk result (length text.old.ops ≤ length text.new.ops) }
 {
@@ -167,7 +167,7 @@ fn guard(
 }
 
 /// The next piece, if there is something that takes one, and else that number.
-fn piece_for(text: &mut Text, e: &Option<Box<Rvalue>>, otherwise: u32) -> Result<u32, LowerEnd>
+fn piece_for(text: &mut Text, e: &Option<Box<Rvalue>>, otherwise: u32) -> Result<u32, EmitEnd>
     ensures done { Done (Some (with_pieces (piece_for (option_map (λ it. view_right it.value) e.now) (counts_of text.old)).pieces text.old)) text.new result }
     ensures number { IfOk result (λ piece. piece ≡ piece_or (option_map (λ it. view_right it.value) e.now) text.old.pieces otherwise) }
 {
@@ -184,7 +184,7 @@ pub(crate) fn begin_first(
     text: &mut Text,
     at: Pos,
     first: &Option<Box<Rvalue>>,
-) -> Result<(), LowerEnd>
+) -> Result<(), EmitEnd>
     ensures done { Done (first_part (setting_here lowering.now) (function_here lowering.now) at (option_map (λ it. view_right it.value) first.now) text.old) text.new result }
     ensures keeps { OnOk result (length text.old.ops ≤ length text.new.ops) }
 {
@@ -201,7 +201,7 @@ pub(crate) fn begin_for(
     at: Pos,
     test: &Option<Box<Rvalue>>,
     step: &Option<Box<Rvalue>>,
-) -> Result<Loop, LowerEnd>
+) -> Result<Loop, EmitEnd>
     ensures done { Done (for_begun (setting_here lowering.now) (function_here lowering.now) at (option_map (λ it. view_right it.value) test.now)
         (option_map (λ it. view_right it.value) step.now) text.old) text.new result }
     ensures join { IfOk result (λ its. its.join ≡ text.old.pieces) }
@@ -233,7 +233,7 @@ pub(crate) fn end_for(
     at: Pos,
     step: &Option<Box<Rvalue>>,
     its: Loop,
-) -> Result<(), LowerEnd>
+) -> Result<(), EmitEnd>
     requires begins { its.start ≤ length text.old.ops }
     ensures done { Done (for_ended (setting_here lowering.now) (function_here lowering.now) at (option_map (λ it. view_right it.value) step.now)
         its.step its.join its.start text.old) text.new result }

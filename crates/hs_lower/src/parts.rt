@@ -12,12 +12,12 @@ use crate::lowering::Lowering;
 use crate::text::Text;
 use hs_base::Pos;
 use hs_code::{Access, Op, Placed};
-use hs_lower_expressions::{LowerEnd, expression};
+use hs_lower_expressions::{EmitEnd, expression};
 use hs_tree::Rvalue;
 use hs_types::{Row, TypeId, Types};
 
 /// Puts an operation, with so many values on the stack before it.
-fn put_at(text: &mut Text, piece: u32, at: Pos, op: Op, places: u32) -> Result<(), LowerEnd>
+fn put_at(text: &mut Text, piece: u32, at: Pos, op: Op, places: u32) -> Result<(), EmitEnd>
     ensures done { Done (fitting (with_ops (λ start. placed_at piece at op places ∷ []) text.old)) text.new result }
     ensures cases { text.new.cases ≡ text.old.cases }
     ensures one { OnOk result (length text.new.ops ≡ suc (length text.old.ops)) }
@@ -32,7 +32,7 @@ fn put_at(text: &mut Text, piece: u32, at: Pos, op: Op, places: u32) -> Result<(
 
 /// Puts an operation with nothing on the stack.
 #[tactic(auto, unfolding(crate::specs::Writing::put_steps))]
-pub(crate) fn put(text: &mut Text, piece: u32, at: Pos, op: Op) -> Result<(), LowerEnd>
+pub(crate) fn put(text: &mut Text, piece: u32, at: Pos, op: Op) -> Result<(), EmitEnd>
     ensures done { Done (put_steps piece at op text.old) text.new result }
     ensures cases { text.new.cases ≡ text.old.cases }
     ensures one { OnOk result (length text.new.ops ≡ suc (length text.old.ops)) }
@@ -49,7 +49,7 @@ pub(crate) fn given(
     at: Pos,
     e: &Rvalue,
     op: Op,
-) -> Result<(), LowerEnd>
+) -> Result<(), EmitEnd>
     ensures done { Done (given_steps (setting_here lowering.now) (function_here lowering.now) piece at (view_right e.now) op text.old) text.new result }
     ensures grows { OnOk result (length text.old.ops < length text.new.ops) }
 {
@@ -75,7 +75,7 @@ pub(crate) fn put_return(
     text: &mut Text,
     piece: u32,
     at: Pos,
-) -> Result<(), LowerEnd>
+) -> Result<(), EmitEnd>
     ensures done { Done (return_steps (setting_here lowering.now) (function_here lowering.now) piece at text.old) text.new result }
     ensures grows { OnOk result (length text.old.ops < length text.new.ops) }
 {

@@ -15,7 +15,7 @@ use crate::parts::{given, put, put_return};
 use crate::text::Text;
 use hs_base::Pos;
 use hs_code::Op;
-use hs_lower_expressions::{Exits, LowerEnd};
+use hs_lower_expressions::{EmitEnd, Exits};
 use hs_lower_starts::first_value;
 use hs_tree::{Block, Declaration, Initialised, Label, Labelled, Statement};
 use std::alloc::Global;
@@ -28,7 +28,7 @@ fn start(
     text: &mut Text,
     piece: u32,
     item: &Initialised,
-) -> Result<(), LowerEnd>
+) -> Result<(), EmitEnd>
     ensures done { Done (first_steps (setting_here lowering.now) (function_here lowering.now) piece (view_item item.now) text.old) text.new result }
     ensures keeps { OnOk result (length text.old.ops ≤ length text.new.ops) }
 {
@@ -43,7 +43,7 @@ fn items(
     text: &mut Text,
     piece: u32,
     its: &[Initialised],
-) -> Result<(), LowerEnd>
+) -> Result<(), EmitEnd>
     ensures done { Done (items_steps (setting_here lowering.now) (function_here lowering.now) piece (map view_item its.now) text.old) text.new result }
     ensures keeps { OnOk result (length text.old.ops ≤ length text.new.ops) }
 {
@@ -60,7 +60,7 @@ fn declarations(
     lowering: &Lowering,
     text: &mut Text,
     its: &[Declaration],
-) -> Result<(), LowerEnd>
+) -> Result<(), EmitEnd>
     ensures done { Done (declarations_steps (setting_here lowering.now) (function_here lowering.now) (map view_declaration its.now) text.old) text.new result }
     ensures keeps { OnOk result (length text.old.ops ≤ length text.new.ops) }
 {
@@ -82,7 +82,7 @@ fn label_pos(label: &Label) -> Pos
 }
 
 /// Puts a place for each label, and notes its number.
-fn mark(text: &mut Text, labels: &mut Vec<(Label, u32)>, its: &[Label]) -> Result<(), LowerEnd>
+fn mark(text: &mut Text, labels: &mut Vec<(Label, u32)>, its: &[Label]) -> Result<(), EmitEnd>
     ensures done { Done (labels_steps its.now text.old) text.new result }
     ensures labels { OnOk result (labels.new.items ≡ labels.old.items ++ labels_at its.now (length text.old.ops)) }
     ensures keeps { OnOk result (length text.old.ops ≤ length text.new.ops) }
@@ -105,7 +105,7 @@ fn statement(
     lowering: &Lowering,
     text: &mut Text,
     it: &Statement,
-) -> Result<(), LowerEnd>
+) -> Result<(), EmitEnd>
     ensures done { Done (statement_steps (setting_here lowering.now) (function_here lowering.now) (view_statement it.now) text.old) text.new result }
     ensures keeps { OnOk result (length text.old.ops ≤ length text.new.ops) }
 {
@@ -193,7 +193,7 @@ pub(crate) fn block(
     lowering: &Lowering,
     text: &mut Text,
     it: &Block,
-) -> Result<Vec<(Label, u32)>, LowerEnd>
+) -> Result<Vec<(Label, u32)>, EmitEnd>
     ensures done { Done (block_steps (setting_here lowering.now) (function_here lowering.now) (view_block it.now) text.old) text.new result }
     ensures labels { IfOk result (λ labels. labels.items
         ≡ (block_code (setting_here lowering.now) (function_here lowering.now) (view_block it.now) (counts_of text.old) unknown (length text.old.ops)).labels) }
@@ -215,7 +215,7 @@ fn list(
     lowering: &Lowering,
     text: &mut Text,
     its: &[Labelled],
-) -> Result<Vec<(Label, u32)>, LowerEnd>
+) -> Result<Vec<(Label, u32)>, EmitEnd>
     ensures done { Done (list_steps (setting_here lowering.now) (function_here lowering.now) (statements_from (map view_labelled its.now)) text.old) text.new result }
     ensures labels { IfOk result (λ labels. labels.items
         ≡ (list_code (setting_here lowering.now) (function_here lowering.now) (statements_from (map view_labelled its.now)) (counts_of text.old) unknown

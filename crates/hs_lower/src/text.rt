@@ -5,7 +5,7 @@ ghost use Rattle.hs_lower.specs.Writing.{Done, with_pieces};
 
 use hs_base::{NoMemory, Pos};
 use hs_code::{Case, Op, Placed};
-use hs_lower_expressions::{LowerEnd, Ops};
+use hs_lower_expressions::{EmitEnd, Ops};
 use std::alloc::Global;
 use std::marker::Model;
 
@@ -76,13 +76,13 @@ pub(crate) struct Text {
 
 impl Text {
     /// The number of the next piece of text. Fails with `NoMemory` if there are more than 4294967295: so many do not fit in it.
-    pub(crate) fn piece(&mut self) -> Result<u32, LowerEnd>
+    pub(crate) fn piece(&mut self) -> Result<u32, EmitEnd>
         ensures done { Done (Some (with_pieces (suc self.old.pieces) self.old)) self.new result }
         ensures number { IfOk result (λ piece. piece ≡ self.old.pieces) }
     {
         let piece = self.pieces;
         let Some(next) = piece.checked_add(1) else {
-            return Err(LowerEnd::NoMemory);
+            return Err(EmitEnd::NoMemory);
         };
         self.pieces = next;
         Ok(piece)

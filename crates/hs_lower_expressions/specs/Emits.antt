@@ -6,15 +6,15 @@ use Rattle.std.specs.Prelude.{◌≡◌, ◌<◌, ◌≤◌, ◌+◌, ◌++◌, 
 use Rattle.hs_base.specs.Limit.{number_of}
 use Rattle.hs_base.specs.declared.limit.LimitKind.TheVariants as limit
 use Rattle.hs_code.specs.declared.function_code.Placed.{Placed}
-use Rattle.hs_lower_expressions.specs.declared.lower_end.LowerEnd.{LowerEnd}
-use Rattle.hs_lower_expressions.specs.declared.lower_end.LowerEnd.TheVariants.{Limit, NoMemory}
+use Rattle.hs_lower_expressions.specs.declared.emit_end.EmitEnd.{EmitEnd}
+use Rattle.hs_lower_expressions.specs.declared.emit_end.EmitEnd.TheVariants.{Limit, NoMemory}
 
 -- 1000000
 abbrev pub most_ops : ℕ
 most_ops = number_of limit.Ops
 
 -- The code follows the old operations. It is refused if there were too many with it, or if memory ran out.
-abbrev pub Emits : {A : Type 0} → Result A LowerEnd → List Placed → List Placed → List Placed → Type 0
+abbrev pub Emits : {A : Type 0} → Result A EmitEnd → List Placed → List Placed → List Placed → Type 0
 Emits (Ok it) old new code = new ≡ old ++ code
 Emits (Err Limit) old new code = most_ops < length old + length code
 Emits (Err NoMemory) old new code = Unit {0}

@@ -26,8 +26,8 @@ use Rattle.hs_tree.specs.declared.operators.Arithmetic.{Arithmetic}
 use Rattle.hs_tree.specs.declared.operators.Stride.{Stride}
 use Rattle.hs_types.specs.declared.integer.Integer.{Integer}
 use Rattle.hs_lower_expressions.specs.Emits.{most_ops}
-use Rattle.hs_lower_expressions.specs.declared.lower_end.LowerEnd.{LowerEnd}
-use Rattle.hs_lower_expressions.specs.declared.lower_end.LowerEnd.TheVariants.{Limit, NoMemory}
+use Rattle.hs_lower_expressions.specs.declared.emit_end.EmitEnd.{EmitEnd}
+use Rattle.hs_lower_expressions.specs.declared.emit_end.EmitEnd.TheVariants.{Limit, NoMemory}
 use Rattle.hs_lower_expressions.specs.declared.parts.Change.{Change}
 
 -- ---- steps
@@ -47,7 +47,7 @@ abbrev pub emitted : Lowered → ℕ → List Placed → Option (List Placed)
 emitted its depth ops = limited (ops ++ its (length ops) depth)
 
 -- the answer is that of the step, unless memory ran out
-abbrev pub Emitted : {A : Type 0} → Option (List Placed) → List Placed → Result A LowerEnd → Type 0
+abbrev pub Emitted : {A : Type 0} → Option (List Placed) → List Placed → Result A EmitEnd → Type 0
 Emitted whole new (Ok it) = whole ≡ Some new
 Emitted whole new (Err Limit) = whole ≡ None
 Emitted whole new (Err NoMemory) = Unit {0}

@@ -17,8 +17,8 @@ use Rattle.hs_code.specs.declared.op.Op.TheVariants as op
 use Rattle.hs_lowering.specs.Lowering.{Lowered, after, operand, sequence, only, placed, branches, chosen, both_hold, conjoined, answered}
 use Rattle.hs_lowering.specs.Performing.{after_length}
 use Rattle.hs_tree.specs.declared.head.Head.{Head}
-use Rattle.hs_lower_expressions.specs.declared.lower_end.LowerEnd.{LowerEnd}
-use Rattle.hs_lower_expressions.specs.declared.lower_end.LowerEnd.TheVariants.{Limit, NoMemory}
+use Rattle.hs_lower_expressions.specs.declared.emit_end.EmitEnd.{EmitEnd}
+use Rattle.hs_lower_expressions.specs.declared.emit_end.EmitEnd.TheVariants.{Limit, NoMemory}
 use Rattle.hs_lower_expressions.specs.Emits.{Emits, most_ops}
 use Rattle.hs_lower_expressions.specs.Emitting.{limited, ◌>>=◌, emitted, Emitted, pushed, patched, turned, answered_there, both_ended, either_begun, either_ended}
 
@@ -84,7 +84,7 @@ fits_limited its within = by (leb_tells (length its) most_ops)
 -- ---- answers
 
 -- What an answer says of a step with some code, it says of the code.
-pub emits_of : {A : Type 0} (old new code : List Placed) (result : Result A LowerEnd) → Emitted (limited (old ++ code)) new result → Emits result old new code
+pub emits_of : {A : Type 0} (old new code : List Placed) (result : Result A EmitEnd) → Emitted (limited (old ++ code)) new result → Emits result old new code
 emits_of old new code (Err NoMemory) is = tt
 emits_of old new code (Ok it) is = by (leb_tells (length (old ++ code)) most_ops)
   where

@@ -11,7 +11,7 @@ use crate::parts::{
     begin_either, branch, call, call_routine, change_memory, change_slot, end_both, end_either,
     fetch, meet, number_change, pointer_change, put, step_memory, step_slot, test_nil, turn,
 };
-use crate::{Context, LowerEnd, Ops};
+use crate::{Context, EmitEnd, Ops};
 use hs_code::{Binary, Object, Op, Unary};
 use hs_tree::{Head, Lvalue, Rvalue, Stride};
 
@@ -25,7 +25,7 @@ use hs_tree::{Head, Lvalue, Rvalue, Stride};
 /// `code` and `steps` say the same: `steps` is for a caller that writes more than one expression.
 ///
 /// Example: for `i + 1`, where `i` is a slot: `Get(i)`, `Num(1)` and `Binary(Arithmetic(Add), Int)`.
-pub fn expression(context: &Context, ops: &mut Ops, e: &Rvalue, depth: u32) -> Result<(), LowerEnd>
+pub fn expression(context: &Context, ops: &mut Ops, e: &Rvalue, depth: u32) -> Result<(), EmitEnd>
     requires fits { depth ≤ length ops.old }
     ensures code { Emits result ops.old ops.new (value_code context.now e.now (length ops.old) depth) }
     ensures steps { Emitted (value_steps context.now e.now depth ops.old) ops.new result }
@@ -39,12 +39,7 @@ pub fn expression(context: &Context, ops: &mut Ops, e: &Rvalue, depth: u32) -> R
 /// `expression`.
 ///
 /// Example: for `p->next`, where `p` is a slot and `next` lies at byte 4: `Get(p)` and `Offset(4)`.
-pub fn address(
-    context: &Context,
-    ops: &mut Ops,
-    object: &Lvalue,
-    depth: u32,
-) -> Result<(), LowerEnd>
+pub fn address(context: &Context, ops: &mut Ops, object: &Lvalue, depth: u32) -> Result<(), EmitEnd>
     requires fits { depth ≤ length ops.old }
     ensures code { Emits result ops.old ops.new (place_code context.now object.now (length ops.old) depth) }
     ensures steps { Emitted (place_steps context.now object.now depth ops.old) ops.new result }
@@ -57,7 +52,7 @@ pub fn address(
 /// Puts the code of a value.
 #[cycle(lowered)]
 #[tactic(auto, using(crate::proofs::Equations::value_equations))]
-fn value(context: &Context, ops: &mut Ops, e: &Rvalue, depth: u32) -> Result<(), LowerEnd>
+fn value(context: &Context, ops: &mut Ops, e: &Rvalue, depth: u32) -> Result<(), EmitEnd>
     requires fits { depth ≤ length ops.old }
     requires few { length ops.old ≤ most_ops }
     ensures emitted { Emitted (value_steps context.now e.now depth ops.old) ops.new result }
@@ -319,7 +314,7 @@ fn value(context: &Context, ops: &mut Ops, e: &Rvalue, depth: u32) -> Result<(),
 /// Puts the code of the address of an lvalue.
 #[cycle(lowered)]
 #[tactic(auto, using(crate::proofs::Equations::place_equations))]
-fn place(context: &Context, ops: &mut Ops, object: &Lvalue, depth: u32) -> Result<(), LowerEnd>
+fn place(context: &Context, ops: &mut Ops, object: &Lvalue, depth: u32) -> Result<(), EmitEnd>
     requires fits { depth ≤ length ops.old }
     requires few { length ops.old ≤ most_ops }
     ensures emitted { Emitted (place_steps context.now object.now depth ops.old) ops.new result }
@@ -381,7 +376,7 @@ fn place(context: &Context, ops: &mut Ops, object: &Lvalue, depth: u32) -> Resul
 
 /// Puts the code of arguments, in their order. Returns how many values are then on the stack.
 #[cycle(lowered)]
-fn arguments(context: &Context, ops: &mut Ops, its: &[Rvalue], depth: u32) -> Result<u32, LowerEnd>
+fn arguments(context: &Context, ops: &mut Ops, its: &[Rvalue], depth: u32) -> Result<u32, EmitEnd>
     requires fits { depth ≤ length ops.old }
     requires few { length ops.old ≤ most_ops }
     ensures emitted { Emitted (values_steps context.now its.now depth ops.old) ops.new result }
@@ -406,7 +401,7 @@ fn dropped(
     head: Head,
     its: &[Rvalue],
     depth: u32,
-) -> Result<(), LowerEnd>
+) -> Result<(), EmitEnd>
     requires fits { depth ≤ length ops.old }
     requires few { length ops.old ≤ most_ops }
     ensures emitted { Emitted (drops_steps context.now head its.now depth ops.old) ops.new result }

@@ -4,13 +4,13 @@
 
 mod classes;
 mod context;
+mod emit_end;
 mod expressions;
-mod lower_end;
 mod ops;
 mod parts;
 
 pub use classes::Classes;
 pub use context::Context;
+pub use emit_end::EmitEnd;
 pub use expressions::{address, expression};
-pub use lower_end::LowerEnd;
 pub use ops::{Exits, Ops};

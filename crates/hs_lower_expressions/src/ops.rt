@@ -3,9 +3,9 @@
 ghost use Rattle.std.specs.Prelude.{◌≡◌, ◌≤◌, ◌<◌, [], ◌∷◌, length, map, slice_set, Err, OnOk, OnErr};
 ghost use Rattle.hs_lower_expressions.specs.Aims.{unknown, targets_of, target_of, aimed, aimed_from};
 ghost use Rattle.hs_lower_expressions.specs.Emits.{Emits, Grows, most_ops};
-ghost use Rattle.hs_lower_expressions.specs.declared.lower_end.LowerEnd.TheVariants.{Limit as limit};
+ghost use Rattle.hs_lower_expressions.specs.declared.emit_end.EmitEnd.TheVariants.{Limit as limit};
 
-use crate::LowerEnd;
+use crate::EmitEnd;
 use hs_base::LimitKind;
 use hs_code::{Op, Placed};
 use std::alloc::Global;
@@ -93,14 +93,14 @@ impl Ops {
     }
 
     /// Puts an operation at the end. Fails if there are 1000000 operations already, or if memory runs out.
-    pub fn push(&mut self, its: Placed) -> Result<(), LowerEnd>
+    pub fn push(&mut self, its: Placed) -> Result<(), EmitEnd>
         ensures pushed { Emits result self.old self.new (its ∷ []) }
         ensures grows { OnOk result (Grows self.old self.new) }
         ensures full { most_ops ≤ length self.old → result ≡ Err limit }
         ensures unchanged { OnErr result (self.new ≡ self.old) }
     {
         if self.vec.len() as u64 >= LimitKind::Ops.number() {
-            return Err(LowerEnd::Limit);
+            return Err(EmitEnd::Limit);
         }
         self.vec.push(its)?;
         Ok(())

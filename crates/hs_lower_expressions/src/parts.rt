@@ -8,7 +8,7 @@ ghost use Rattle.hs_lower_expressions.specs.Contexts.{setting_in};
 ghost use Rattle.hs_lower_expressions.specs.Emits.{Grows, most_ops};
 ghost use Rattle.hs_lower_expressions.specs.Emitting.{Emitted, pushed, patched, turned, answered_there, both_ended, either_begun, either_ended, nil_tested, fetched_there, changed, slot_changed, memory_changed, slot_stepped, memory_stepped, decided, called, routine_called, number_change, pointer_change};
 
-use crate::{Context, LowerEnd, Ops};
+use crate::{Context, EmitEnd, Ops};
 use hs_code::{Access, Binary, Op, Placed, Unary};
 use hs_tree::{Arithmetic, Head, Stride, Variable};
 use hs_types::Integer;
@@ -64,7 +64,7 @@ pub(crate) fn put(
     head: Head,
     op: Op,
     depth: u32,
-) -> Result<(), LowerEnd>
+) -> Result<(), EmitEnd>
     ensures emitted { Emitted (pushed context.now.piece head op depth ops.old) ops.new result }
     ensures grows { OnOk result (Grows ops.old ops.new) }
 {
@@ -77,7 +77,7 @@ pub(crate) fn branch(
     ops: &mut Ops,
     head: Head,
     depth: u32,
-) -> Result<u32, LowerEnd>
+) -> Result<u32, EmitEnd>
     requires fits { depth ≤ most_ops }
     ensures emitted { Emitted (pushed context.now.piece head (Zero 0) (depth + 1) ops.old) ops.new result }
     ensures test { IfOk result (λ test. test ≡ length ops.old) }
@@ -96,7 +96,7 @@ pub(crate) fn turn(
     head: Head,
     test: u32,
     depth: u32,
-) -> Result<u32, LowerEnd>
+) -> Result<u32, EmitEnd>
     requires fits { depth ≤ most_ops }
     requires there { test < length ops.old }
     ensures emitted { Emitted (turned context.now.piece head test depth ops.old) ops.new result }
@@ -123,7 +123,7 @@ pub(crate) fn meet(context: &Context, ops: &mut Ops, head: Head, jump: u32, dept
 
 /// Makes 1 or 0 of a number: 0 if it is 0.
 #[tactic(auto, unfolding(crate::specs::Emitting::answered_there))]
-fn answer(context: &Context, ops: &mut Ops, head: Head, depth: u32) -> Result<(), LowerEnd>
+fn answer(context: &Context, ops: &mut Ops, head: Head, depth: u32) -> Result<(), EmitEnd>
     requires fits { depth ≤ most_ops }
     ensures emitted { Emitted (answered_there context.now.piece head depth ops.old) ops.new result }
     ensures grows { OnOk result (Grows ops.old ops.new) }
@@ -143,7 +143,7 @@ pub(crate) fn end_both(
     head: Head,
     test: u32,
     depth: u32,
-) -> Result<(), LowerEnd>
+) -> Result<(), EmitEnd>
     requires fits { depth ≤ most_ops }
     requires there { test < length ops.old }
     ensures emitted { Emitted (both_ended context.now.piece head test depth ops.old) ops.new result }
@@ -162,7 +162,7 @@ pub(crate) fn begin_either(
     ops: &mut Ops,
     head: Head,
     depth: u32,
-) -> Result<u32, LowerEnd>
+) -> Result<u32, EmitEnd>
     requires fits { depth ≤ most_ops }
     ensures emitted { Emitted (either_begun context.now.piece head depth ops.old) ops.new result }
     ensures jump { IfOk result (λ jump. jump ≡ length ops.old + 2) }
@@ -184,7 +184,7 @@ pub(crate) fn end_either(
     head: Head,
     jump: u32,
     depth: u32,
-) -> Result<(), LowerEnd>
+) -> Result<(), EmitEnd>
     requires fits { depth ≤ most_ops }
     requires there { jump < length ops.old }
     ensures emitted { Emitted (either_ended context.now.piece head jump depth ops.old) ops.new result }
@@ -202,7 +202,7 @@ pub(crate) fn test_nil(
     head: Head,
     equal: bool,
     depth: u32,
-) -> Result<(), LowerEnd>
+) -> Result<(), EmitEnd>
     requires fits { depth ≤ most_ops }
     ensures emitted { Emitted (nil_tested context.now.piece head equal depth ops.old) ops.new result }
     ensures grows { OnOk result (Grows ops.old ops.new) }
@@ -222,7 +222,7 @@ pub(crate) fn fetch(
     head: Head,
     access: Access,
     depth: u32,
-) -> Result<(), LowerEnd>
+) -> Result<(), EmitEnd>
     requires fits { depth ≤ most_ops }
     ensures emitted { Emitted (fetched_there context.now.piece head access depth ops.old) ops.new result }
     ensures grows { OnOk result (length ops.old + 2 ≤ length ops.new) }
@@ -240,7 +240,7 @@ fn make_new(
     head: Head,
     made: Change,
     depth: u32,
-) -> Result<(), LowerEnd>
+) -> Result<(), EmitEnd>
     requires fits { depth ≤ most_ops + 2 }
     ensures emitted { Emitted (changed context.now.piece head made depth ops.old) ops.new result }
     ensures grows { OnOk result (Grows ops.old ops.new) }
@@ -261,7 +261,7 @@ pub(crate) fn change_slot(
     made: Change,
     its: Variable,
     depth: u32,
-) -> Result<(), LowerEnd>
+) -> Result<(), EmitEnd>
     requires fits { depth ≤ most_ops + 1 }
     ensures emitted { Emitted (slot_changed context.now.piece head made its depth ops.old) ops.new result }
     ensures grows { OnOk result (Grows ops.old ops.new) }
@@ -279,7 +279,7 @@ pub(crate) fn change_memory(
     made: Change,
     access: Access,
     depth: u32,
-) -> Result<(), LowerEnd>
+) -> Result<(), EmitEnd>
     requires fits { depth ≤ most_ops + 1 }
     ensures emitted { Emitted (memory_changed context.now.piece head made access depth ops.old) ops.new result }
     ensures grows { OnOk result (Grows ops.old ops.new) }
@@ -297,7 +297,7 @@ pub(crate) fn step_slot(
     made: Change,
     its: Variable,
     depth: u32,
-) -> Result<(), LowerEnd>
+) -> Result<(), EmitEnd>
     requires fits { depth ≤ most_ops }
     ensures emitted { Emitted (slot_stepped context.now.piece head made its depth ops.old) ops.new result }
     ensures grows { OnOk result (Grows ops.old ops.new) }
@@ -318,7 +318,7 @@ pub(crate) fn step_memory(
     made: Change,
     access: Access,
     depth: u32,
-) -> Result<(), LowerEnd>
+) -> Result<(), EmitEnd>
     requires fits { depth < most_ops }
     ensures emitted { Emitted (memory_stepped context.now.piece head made access depth ops.old) ops.new result }
     ensures grows { OnOk result (Grows ops.old ops.new) }
@@ -339,7 +339,7 @@ fn decide(
     routine: u32,
     op: Op,
     depth: u32,
-) -> Result<(), LowerEnd>
+) -> Result<(), EmitEnd>
     ensures emitted { Emitted (decided context.now.piece (takes_decision (slice_get context.now.routines.now routine)) head routine op depth ops.old) ops.new result }
     ensures grows { OnOk result (Grows ops.old ops.new) }
 {
@@ -358,7 +358,7 @@ pub(crate) fn call(
     function: u32,
     routine: Option<u32>,
     depth: u32,
-) -> Result<(), LowerEnd>
+) -> Result<(), EmitEnd>
     ensures emitted { Emitted (called (setting_in context.now) context.now.variables.now context.now.piece head function routine depth ops.old) ops.new result }
     ensures grows { OnOk result (Grows ops.old ops.new) }
 {
@@ -376,7 +376,7 @@ pub(crate) fn call_routine(
     head: Head,
     routine: u32,
     depth: u32,
-) -> Result<(), LowerEnd>
+) -> Result<(), EmitEnd>
     ensures emitted { Emitted (routine_called (setting_in context.now) context.now.variables.now context.now.piece head routine depth ops.old) ops.new result }
     ensures grows { OnOk result (Grows ops.old ops.new) }
 {

@@ -30,7 +30,7 @@ use Rattle.hs_tree.specs.declared.constant.Constant.TheVariants as constant
 use Rattle.hs_tree.specs.declared.constant.Part.{Part}
 use Rattle.hs_types.specs.TypeTables.{row_of}
 use Rattle.hs_types.specs.declared.row.TypeId.{TypeId}
-use Rattle.hs_lower_expressions.specs.declared.lower_end.LowerEnd.{LowerEnd}
+use Rattle.hs_lower_expressions.specs.declared.emit_end.EmitEnd.{EmitEnd}
 use Rattle.hs_tree.specs.declared.head.VariableDecl.{VariableDecl}
 use Rattle.hs_lower_starts.specs.FirstValues.{item_steps}
 use Rattle.hs_lower_starts.specs.Steps.{target_of, base_object, zero_op, pushed, addressed, ended, address_made, constant_made, made, slot_steps, object_steps, scalar_steps, scalar_by, scalars_by, scalars_steps, front_by, front_steps, value_by, value_steps, initial_steps}
@@ -170,7 +170,7 @@ module _ (setting : Setting) (function : TypedFunction) (piece : ℕ) (variable 
       scalars_is setting function to its (scalars_of setting.types to.type_id) ops
 
   -- the code does, for a context that has the variables of the function
-  pub item_emitted : {A : Type 0} (result : Result A LowerEnd) (its : tree.Starting) (ops new : List Placed) (variables : List VariableDecl) (to : Target)
+  pub item_emitted : {A : Type 0} (result : Result A EmitEnd) (its : tree.Starting) (ops new : List Placed) (variables : List VariableDecl) (to : Target)
       → variables ≡ function.variables → to ≡ target_of setting.types variables piece variable at.pos
       → Emitted (initial_steps setting variables piece to its ops) new result
       → Emitted (item_steps setting function piece (record { variable = variable; at = at; start = its }) ops) new result

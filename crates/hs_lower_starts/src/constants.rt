@@ -8,7 +8,7 @@ ghost use Rattle.hs_lower_starts.specs.Steps.{base_object, address_made, constan
 
 use crate::puts::{Target, put};
 use hs_code::{Object, Op};
-use hs_lower_expressions::{LowerEnd, Ops};
+use hs_lower_expressions::{EmitEnd, Ops};
 use hs_tree::{Base, Constant, Part, Stride, Variable};
 use hs_types::{Row, TypeId, Types};
 
@@ -30,7 +30,7 @@ fn put_address_constant(
     base: Base,
     offset: i32,
     depth: u32,
-) -> Result<(), LowerEnd>
+) -> Result<(), EmitEnd>
     requires fits { depth ≤ 1 }
     ensures emitted { Emitted (address_made to base offset depth ops.old) ops.new result }
     ensures grows { OnOk result (Grows ops.old ops.new) }
@@ -49,7 +49,7 @@ fn put_address_constant(
 }
 
 /// Puts the value of a constant.
-fn put_constant(ops: &mut Ops, to: Target, its: Constant, depth: u32) -> Result<(), LowerEnd>
+fn put_constant(ops: &mut Ops, to: Target, its: Constant, depth: u32) -> Result<(), EmitEnd>
     requires fits { depth ≤ 1 }
     ensures emitted { Emitted (constant_made to its depth ops.old) ops.new result }
     ensures grows { OnOk result (Grows ops.old ops.new) }
@@ -89,7 +89,7 @@ pub(crate) fn put_scalar(
     type_id: TypeId,
     part: Option<Part>,
     depth: u32,
-) -> Result<(), LowerEnd>
+) -> Result<(), EmitEnd>
     requires fits { depth ≤ 1 }
     ensures emitted { Emitted (made types.now to type_id part depth ops.old) ops.new result }
     ensures grows { OnOk result (Grows ops.old ops.new) }

@@ -13,7 +13,7 @@ use crate::parts::start_scalars;
 use crate::puts::{Target, put, put_address, put_end};
 use hs_base::Pos;
 use hs_code::{Object, Op};
-use hs_lower_expressions::{Context, LowerEnd, Ops, expression};
+use hs_lower_expressions::{Context, EmitEnd, Ops, expression};
 use hs_tree::{Function, Initial, Initialised, Rvalue, Variable};
 use hs_types::{Row, TypeId};
 use std::alloc::Global;
@@ -43,7 +43,7 @@ fn target(context: &Context, variable: u32, at: Pos) -> Target
 
 /// Puts the address of the object that gets a value. A struct is named by its own address.
 #[tactic(auto, unfolding(crate::specs::Steps::front_steps))]
-fn put_front(context: &Context, ops: &mut Ops, to: Target) -> Result<(), LowerEnd>
+fn put_front(context: &Context, ops: &mut Ops, to: Target) -> Result<(), EmitEnd>
     ensures emitted { Emitted (front_steps context.now.types.now to ops.old) ops.new result }
     ensures grows { OnOk result (Grows ops.old ops.new) }
 {
@@ -64,7 +64,7 @@ fn put_front(context: &Context, ops: &mut Ops, to: Target) -> Result<(), LowerEn
 
 /// Gives the variable the value of an expression.
 #[tactic(auto, unfolding(crate::specs::Steps::value_steps, hs_lower_expressions::specs::Contexts::setting_in))]
-fn start_value(context: &Context, ops: &mut Ops, to: Target, e: &Rvalue) -> Result<(), LowerEnd>
+fn start_value(context: &Context, ops: &mut Ops, to: Target, e: &Rvalue) -> Result<(), EmitEnd>
     ensures emitted { Emitted (value_steps (setting_in context.now) context.now.variables.now
         context.now.piece to (view_right e.now) ops.old) ops.new result }
     ensures grows { OnOk result (Grows ops.old ops.new) }
@@ -88,7 +88,7 @@ fn start(
     ops: &mut Ops,
     to: Target,
     its: &Initial,
-) -> Result<(), LowerEnd>
+) -> Result<(), EmitEnd>
     requires few { length ops.old ≤ most_ops }
     ensures emitted { Emitted (initial_steps (setting_in context.now) context.now.variables.now
         context.now.piece to (view_initial its.now) ops.old) ops.new result }
@@ -117,7 +117,7 @@ pub fn first_value(
     function: &Function,
     ops: &mut Ops,
     item: &Initialised,
-) -> Result<(), LowerEnd>
+) -> Result<(), EmitEnd>
     requires variables { context.now.variables.now ≡ function.now.variables }
     ensures code { Emits result ops.old ops.new (item_code (setting_in context.now)
         (view_function function.now) context.now.piece (view_item item.now) (length ops.old)) }

@@ -13,7 +13,7 @@ use crate::constants::put_scalar;
 use crate::part_index::PartIndex;
 use crate::puts::{Target, put_address, put_end};
 use hs_code::Op;
-use hs_lower_expressions::{Context, LowerEnd, Ops};
+use hs_lower_expressions::{Context, EmitEnd, Ops};
 use hs_scalars::{Scalar, Scalars};
 use hs_tree::Part;
 use std::alloc::Global;
@@ -26,7 +26,7 @@ fn start_slot(
     to: Target,
     its: Scalar,
     part: Option<Part>,
-) -> Result<(), LowerEnd>
+) -> Result<(), EmitEnd>
     ensures emitted { Emitted
         (slot_steps context.now.types.now to (of_scalar its) part ops.old) ops.new result }
     ensures grows { OnOk result (Grows ops.old ops.new) }
@@ -43,7 +43,7 @@ fn start_inside(
     to: Target,
     its: Scalar,
     part: Option<Part>,
-) -> Result<(), LowerEnd>
+) -> Result<(), EmitEnd>
     ensures emitted { Emitted
         (object_steps (setting_in context.now) to (of_scalar its) part ops.old) ops.new result }
     ensures grows { OnOk result (Grows ops.old ops.new) }
@@ -62,7 +62,7 @@ fn start_scalar(
     to: Target,
     its: Scalar,
     part: Option<Part>,
-) -> Result<(), LowerEnd>
+) -> Result<(), EmitEnd>
     ensures emitted { Emitted
         (scalar_steps (setting_in context.now) to (of_scalar its) part ops.old) ops.new result }
     ensures grows { OnOk result (Grows ops.old ops.new) }
@@ -81,7 +81,7 @@ pub(crate) fn start_scalars(
     ops: &mut Ops,
     to: Target,
     parts: &[Part],
-) -> Result<(), LowerEnd>
+) -> Result<(), EmitEnd>
     requires few { length ops.old ≤ most_ops }
     ensures emitted { Emitted (scalars_steps (setting_in context.now) to parts.now
         (scalars_of context.now.types.now to.type_id) ops.old) ops.new result }

@@ -7,7 +7,7 @@ ghost use Rattle.hs_lower_starts.specs.Steps.{pushed, addressed, ended};
 
 use hs_base::Pos;
 use hs_code::{Object, Op, Placed};
-use hs_lower_expressions::{LowerEnd, Ops};
+use hs_lower_expressions::{EmitEnd, Ops};
 use hs_tree::Variable;
 use hs_types::TypeId;
 
@@ -27,7 +27,7 @@ pub(crate) struct Target {
 
 /// Puts an operation, with so many values on the stack before it.
 #[tactic(auto, unfolding(crate::specs::Steps::pushed))]
-pub(crate) fn put(ops: &mut Ops, to: Target, op: Op, places: u32) -> Result<(), LowerEnd>
+pub(crate) fn put(ops: &mut Ops, to: Target, op: Op, places: u32) -> Result<(), EmitEnd>
     ensures emitted { Emitted (pushed to op places ops.old) ops.new result }
     ensures grows { OnOk result (Grows ops.old ops.new) }
 {
@@ -41,7 +41,7 @@ pub(crate) fn put(ops: &mut Ops, to: Target, op: Op, places: u32) -> Result<(), 
 
 /// Puts the address of so many bytes on in the variable.
 #[tactic(auto, unfolding(crate::specs::Steps::addressed))]
-pub(crate) fn put_address(ops: &mut Ops, to: Target, offset: u32) -> Result<(), LowerEnd>
+pub(crate) fn put_address(ops: &mut Ops, to: Target, offset: u32) -> Result<(), EmitEnd>
     ensures emitted { Emitted (addressed to offset ops.old) ops.new result }
     ensures grows { OnOk result (Grows ops.old ops.new) }
 {
@@ -51,7 +51,7 @@ pub(crate) fn put_address(ops: &mut Ops, to: Target, offset: u32) -> Result<(), 
 
 /// Puts what takes a value, and drops what that leaves.
 #[tactic(auto, unfolding(crate::specs::Steps::ended))]
-pub(crate) fn put_end(ops: &mut Ops, to: Target, op: Op, places: u32) -> Result<(), LowerEnd>
+pub(crate) fn put_end(ops: &mut Ops, to: Target, op: Op, places: u32) -> Result<(), EmitEnd>
     ensures emitted { Emitted (ended to op places ops.old) ops.new result }
     ensures grows { OnOk result (Grows ops.old ops.new) }
 {

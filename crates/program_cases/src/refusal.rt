@@ -2,7 +2,7 @@
 
 use hs_base::NoMemory;
 use hs_expr_parser::ParseEnd;
-use hs_lower_expressions::LowerEnd;
+use hs_lower::LowerEnd;
 use hs_tokens::Place;
 use hs_typer::TypeError;
 use hs_typing::ProgramError;
@@ -82,7 +82,7 @@ impl From<ProgramError> for Refusal {
 impl From<LowerEnd> for Refusal {
     fn from(why: LowerEnd) -> Refusal {
         match why {
-            LowerEnd::Limit => Why::Limit.into(),
+            LowerEnd::Limit(_) => Why::Limit.into(),
             LowerEnd::NoMemory => Why::NoMemory.into(),
         }
     }

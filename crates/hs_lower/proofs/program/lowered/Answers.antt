@@ -7,7 +7,7 @@ use Rattle.hs_meaning.specs.Classes.{classes_of}
 use Rattle.hs_tree.specs.Views.{view_function}
 use Rattle.hs_lower.specs.Places.{setting_with}
 use Rattle.hs_lower.proofs.Wholes.{codes_are}
-use Rattle.hs_lower.proofs.program.lower.Goals as goal
+use Rattle.hs_lower.proofs.program.lowered.Goals as goal
 
 -- the functions have too many operations
 pub returns-in_err-functions-clause-code : goal.returns-in_err-functions-clause-code
