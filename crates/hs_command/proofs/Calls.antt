@@ -21,15 +21,16 @@ use Rattle.hs_words.specs.Words.{Asked, IsCheck, IsRun, first_word}
 use Rattle.hs_typing.specs.declared.program.ProgramError.TheVariants as program
 use Rattle.hs_source.specs.Source.{IsLimitOf}
 use Rattle.hs_command.specs.Causes.{AreSafe, Checks, Headline, HasCauses, HasCheckCauses}
-use Rattle.hs_report.specs.Texts.{status_of, run_status, run_text, status_of_outcome, status_of_stop}
+use Rattle.hs_report.specs.Texts.{text_of, status_of, run_status, run_text, status_of_outcome, status_of_stop}
 use Rattle.hs_command.specs.Report.{IsBut, AreAsked, IsReport, Written, IsPutAs, Call, IsCheckAnswer, status_after}
 use Rattle.hs_command.specs.Movers.{Telling, first_of, told_with}
 use Rattle.hs_command.specs.Runs.{HaveNoProgram, HaveRun, IsAnswered, IsRunAnswer, IsRunVerdict, report_of}
-use Rattle.hs_command.specs.RunCauses.{AsksRunOf, HasRunCauses, IsAnsweredSo, IsEnd, IsRanSo}
+use Rattle.hs_command.specs.RunCauses.{AsksRunOf, HasRunCauses, IsAnsweredSo, IsEnd, IsFaulted, IsMissed, IsRanSo}
 use Rattle.hs_command.specs.Words.{HasNoRun, IsNoCommand}
 use Rattle.hs_settings.specs.declared.settings.Settings.{Settings}
 use Rattle.hs_command.proofs.RunCauses as runs
-use Rattle.hs_command.proofs.RunCounts.{unread_rose}
+use Rattle.hs_command.proofs.RunCounts.{Rose, unread_rose}
+use Rattle.hs_command.proofs.RunLimits.{ends_by, gives_up_by, ops_by}
 use Rattle.hs_command.proofs.RunOutcomes as none
 use Rattle.hs_report.specs.declared.report.Report.{Report}
 use Rattle.hs_report.specs.declared.report.Report.TheVariants.{Accepted, Hazards, Refused, NoMain, Unbuilt, Usage, Missing, Unread, Limited, NoMemory}
@@ -254,8 +255,9 @@ ran_so call it mover (Shown ran) chosen (inl (error, is, inl same)) ends = absur
   none given.NoMemory same = absurd cc
 
 -- where the write failed or memory ran out, nothing else is owed
-free_causes : (call : Call) (answer : Status) (it : Asked) → (answer ≡ status.Unwritten) ⊎ (answer ≡ status.NoMemory) → HasRunCauses call it answer
-free_causes call answer it free = record {
+free_causes : (call : Call) (answer : Status) (it : Asked) → (answer ≡ status.Unwritten) ⊎ (answer ≡ status.NoMemory)
+    → IsPutAs (text_of NoMemory) status.NoMemory call.old call.new answer → HasRunCauses call it answer
+free_causes call answer it free none = record {
   ended_only = λ ends. absurd (no_end free ends);
   only = λ apart some. absurd (neither free apart some);
   unread_only = λ came. absurd (no_unread free came);
@@ -268,6 +270,9 @@ free_causes call answer it free = record {
   limited = λ settings limit of. any free status.Limited;
   past = λ settings source limit of is. any free status.Limited;
   completes = λ settings source typed of are. inr (any free status.Limited);
+  ops = λ settings source typed limit of are passes. inr none;
+  gives_up = λ settings typed told limit of gives. inr none;
+  ends = λ settings typed told of within. inr free;
 } where
   any : (answer ≡ status.Unwritten) ⊎ (answer ≡ status.NoMemory) → (wanted : Status) → IsBut wanted answer
   any (inl unwritten) wanted = inr (inl unwritten)
@@ -303,13 +308,22 @@ only_memory call it mover is_run chosen (Missing name) is = absurd (no_both_comm
 only_memory call it mover is_run chosen (Unread name) is = absurd (no_both_commands call.words is.0 it is.1 is_run)
 only_memory call it mover is_run chosen (Limited limit) is = absurd (no_both_commands call.words is.0 it is.1 is_run)
 
+-- so the line that memory ran out was put
+memory_put : (call : Call) (answer : Status) (answered : IsCheckAnswer call answer) → answered.report ≡ NoMemory
+    → IsPutAs (text_of NoMemory) status.NoMemory call.old call.new answer
+memory_put call answer answered same =
+    subst (λ (report : Report). IsPutAs (text_of report) (status_of report) call.old call.new answer) same answered.is_put
+
 plain_run_causes : (call : Call) (answer : Status) (it : Asked) (mover : Telling) → IsRun call.words it
     → first_of it.mover call.movers ≡ Some mover → (answered : IsCheckAnswer call answer) → IsCause answered.report answer call.old call.new
     → HasRunCauses call it answer
-plain_run_causes call answer it mover is_run chosen answered (cut unwritten fault) = free_causes call answer it (inl unwritten)
+plain_run_causes call answer it mover is_run chosen answered (cut unwritten fault) =
+    free_causes call answer it (inl unwritten)
+    (memory_put call answer answered (only_memory call it mover is_run chosen answered.report answered.is_report))
 plain_run_causes call answer it mover is_run chosen answered (whole is_status) =
     free_causes call answer it
     (inr (is_status ∙ ap status_of (only_memory call it mover is_run chosen answered.report answered.is_report)))
+    (memory_put call answer answered (only_memory call it mover is_run chosen answered.report answered.is_report))
 
 -- the words ask for one run
 same_asked : (one other : Asked) {words : List (List ℕ)} → IsRun words one → IsRun words other → other ≡ one
@@ -342,6 +356,10 @@ run_causes_of call answer unique ran caused = record {
   past = λ settings source limit of is. past settings source limit of is;
   completes = λ settings source typed of are.
       runs.completes_by call answer ran.it ran ran.is_run either unique settings (Ok source) of source typed refl are;
+  ops = λ settings source typed limit of are passes.
+      ops_by call answer ran.it ran ran.is_run either unique settings source typed limit of are passes;
+  gives_up = λ settings typed told limit of gives. gives_up_by call answer ran.it ran ran.is_run either unique settings typed told of limit gives;
+  ends = λ settings typed told of within. ends_by call answer ran.it ran ran.is_run either unique settings typed told of within;
 } where
   either : (answer ≡ status.Unwritten) ⊎ (answer ≡ run_status ran.report)
   either = go caused where
@@ -349,18 +367,25 @@ run_causes_of call answer unique ran caused = record {
     go (run_cut unwritten fault) = inl unwritten
     go (run_whole is_status) = inr is_status
 
+  put_as : (report : RunReport) → ran.report ≡ report → IsPutAs (run_text report) (run_status report) call.old call.new answer
+  put_as report same = subst (λ (r : RunReport). IsPutAs (run_text r) (run_status r) call.old call.new answer) same ran.is_put
+
   ended : IsRunCause ran.report answer call.old call.new → IsEnd answer → IsRanSo call ran.it answer
   ended (run_cut unwritten fault) ends = absurd (subst IsEnd unwritten ends)
   ended (run_whole is_status) ends =
       subst (IsRanSo call ran.it) (sym is_status) (ran_so call ran.it ran.mover ran.report ran.chosen ran.is_report (subst IsEnd is_status ends))
 
-  rose : IsRunCause ran.report answer call.old call.new → answer ≡ status.Unread
-      → HasRisen call.before.misses call.now.misses ⊎ HasRisen call.before.faults call.now.faults
+  -- the line of the report that names the file was put
+  named : Rose call.before call.now ran.report → IsMissed call answer ⊎ IsFaulted call answer
+  named (inl (name, same, rises)) = inl (name, put_as (Plain (Missing name)) same, rises)
+  named (inr (name, same, rises)) = inr (name, put_as (Plain (Unread name)) same, rises)
+
+  rose : IsRunCause ran.report answer call.old call.new → answer ≡ status.Unread → IsMissed call answer ⊎ IsFaulted call answer
   rose (run_cut unwritten fault) came = absurd (apart (sym came ∙ unwritten)) where
     apart : ◌≡◌ {A = Status} status.Unread status.Unwritten → ⊥
     apart same = absurd cc
   rose (run_whole is_status) came =
-      unread_rose call.told call.before call.now call.reads ran.right ran.mover ran.it ran.report ran.is_report (sym is_status ∙ came)
+      named (unread_rose call.told call.before call.now call.reads ran.right ran.mover ran.it ran.report ran.is_report (sym is_status ∙ came))
 
   told : IsRunCause ran.report answer call.old call.new → (answer ≡ status.Unwritten → ⊥) → IsAnsweredSo call ran.it answer
   told (run_cut unwritten fault) apart = absurd (apart unwritten)

@@ -5,6 +5,7 @@ pub mod Outcomes
 pub mod RightReads
 pub mod RunCauses
 pub mod RunCounts
+pub mod RunLimits
 pub mod RunOutcomes
 pub mod Runs
 pub mod Through

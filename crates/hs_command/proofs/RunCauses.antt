@@ -20,20 +20,20 @@ use Rattle.hs_settings.specs.declared.settings.Settings.{Settings}
 use Rattle.hs_settings.specs.declared.settings.SettingsError.{SettingsError}
 use Rattle.hs_settings.specs.declared.settings.SettingsError.TheVariants as given
 use Rattle.hs_source.specs.Source.{AreTyped}
-use Rattle.hs_table.specs.declared.routine.Routine.{Routine}
 use Rattle.hs_tree.specs.Trees.{TypedProgram}
+use Rattle.hs_typing.specs.declared.program.ProgramError.{ProgramError}
 use Rattle.hs_words.specs.Words.{Asked, IsRun}
 use Rattle.hs_command.specs.Movers.{told_with}
 use Rattle.hs_command.specs.Report.{Call, IsBut, names_of}
 use Rattle.hs_command.specs.RunCauses.{AsksRun, AsksRunOf, IsEnd}
 use Rattle.hs_report.specs.Texts.{run_status, status_of_outcome, status_of_stop}
 use Rattle.hs_command.specs.Runs.{HasNoSettings, HasSettings, HaveNoProgram, HaveRun, IsRunAnswer, IsRunOfProgram, report_of}
-use Rattle.hs_report.specs.declared.report.Report.{Report}
 use Rattle.hs_report.specs.declared.report.Report.TheVariants.{Accepted, Hazards, Refused, NoMain, Unbuilt, Usage, Missing, Unread, Limited, NoMemory}
 use Rattle.hs_report.specs.declared.run_report.RunReport.{RunReport}
 use Rattle.hs_report.specs.declared.run_report.RunReport.TheVariants.{NotToml, BadVersion, BadEntry, BadScript, BadInput, Plain, Shown}
 use Rattle.hs_report.specs.declared.status.Status.{Status}
 use Rattle.hs_report.specs.declared.status.Status.TheVariants as status
+use Rattle.hs_command.proofs.Outcomes.{one_outcome}
 use Rattle.hs_command.proofs.RightReads.{fault_rose, steady_first, steady_later, told_fits, up}
 use Rattle.hs_command.proofs.RunOutcomes.{Agrees, IsNone, agrees, none_or_typed, one_status, read_as, right_behind, status_for, told_answered}
 use Rattle.hs_command.proofs.Units.{AreUnique}
@@ -101,7 +101,7 @@ stop_ends stop.Divide = tt
 stop_ends stop.Frames = tt
 
 -- so does each outcome
-outcome_ends : (outcome : Outcome) → IsEnd (status_of_outcome outcome)
+pub outcome_ends : (outcome : Outcome) → IsEnd (status_of_outcome outcome)
 outcome_ends (Finished number) = tt
 outcome_ends (Stopped why at) = stop_ends why
 outcome_ends TurnsSpent = tt
@@ -128,41 +128,39 @@ ran_status program input turns told names (BadScript number) is = absurd is
 ran_status program input turns told names (BadInput number) is = absurd is
 
 -- What the report finds of sources that are known: memory ran out, or they are no program, or a typed program that was run.
-data Finds (table : List Routine) (outcome : Result Source ReadError) (report : RunReport) : Type 0 where
-  memory : run_status report ≡ status.NoMemory → Finds table outcome report
-  none : (it : IsNone table outcome) → run_status report ≡ status_for it → Finds table outcome report
-  ran : (source : Source) (typed : TypedProgram) → outcome ≡ Ok source → AreTyped table source.units (Ok typed)
-      → IsEnd (run_status report) ⊎ (run_status report ≡ status.Limited) ⊎ (run_status report ≡ status.NoMemory) → Finds table outcome report
+pub data Finds (settings : Settings) (turns : ℕ) (told : Option (List Decision)) (outcome : Result Source ReadError) (report : RunReport) : Type 0 where
+  memory : report ≡ Plain NoMemory → Finds settings turns told outcome report
+  none : (it : IsNone settings.table outcome) → run_status report ≡ status_for it → Finds settings turns told outcome report
+  ran : (source : Source) (typed : TypedProgram) (names : List (List ℕ)) → outcome ≡ Ok source → AreTyped settings.table source.units (Ok typed)
+      → IsRunOfProgram typed settings.input turns told names report → Finds settings turns told outcome report
 
-module _ (table : List Routine) (files : Listing) (names : List (List ℕ)) (reads : List Read) (outcome : Result Source ReadError)
+module _ (settings : Settings) (turns : ℕ) (told : Option (List Decision)) (files : Listing) (names : List (List ℕ)) (reads : List Read) (outcome : Result Source ReadError)
     (fits : Fits files reads) (is_read : preprocessed files names ≡ outcome)
     (no_fault : (name : List ℕ) → EndsAs reads (reading.ReadFault name) → ⊥) where
   -- they are no program
-  finds_none : (report : RunReport) → HaveNoProgram table names reads report → Finds table outcome report
+  finds_none : (report : RunReport) → HaveNoProgram settings.table names reads report → Finds settings turns told outcome report
   finds_none NotToml is = absurd is
   finds_none BadVersion is = absurd is
   finds_none (BadEntry name) is = absurd is
   finds_none (BadScript number) is = absurd is
   finds_none (BadInput number) is = absurd is
   finds_none (Shown shown) is = absurd is
-  finds_none (Plain report) is = go (agrees table files names reads outcome fits is_read report no_fault is) where
-    go : Agrees table report outcome → Finds table outcome (Plain report)
-    go (inl same) = memory (ap (λ (it : Report). run_status (Plain it)) same)
+  finds_none (Plain report) is = go (agrees settings.table files names reads outcome fits is_read report no_fault is) where
+    go : Agrees settings.table report outcome → Finds settings turns told outcome (Plain report)
+    go (inl same) = memory (ap Plain same)
     go (inr agreed) = none agreed.0 agreed.1
 
   -- they are one
-  finds_run : (input : Input) (turns : ℕ) (told : Option (List Decision)) (report : RunReport)
-      → HaveRun table input turns told names reads report → Finds table outcome report
-  finds_run input turns told report (source, read, (typed, are, is)) =
-      ran source typed (read_as table files names reads outcome fits is_read source read) are
-      (ran_status typed input turns told (names_of reads) report is)
+  finds_run : (report : RunReport) → HaveRun settings.table settings.input turns told names reads report → Finds settings turns told outcome report
+  finds_run report (source, read, (typed, are, is)) =
+      ran source typed (names_of reads) (read_as settings.table files names reads outcome fits is_read source read) are is
 
 -- ---- the answer
 
 -- an answer is Unwritten, or it is the status of the report
 module _ (call : Call) (answer : Status) (it : Asked) (answered : IsRunAnswer call answer) (is_run : IsRun call.words it)
     (cut_or_whole : (answer ≡ status.Unwritten) ⊎ (answer ≡ run_status answered.report)) where
-  same_asked : (other : Asked) → IsRun call.words other → other ≡ answered.it
+  pub same_asked : (other : Asked) → IsRun call.words other → other ≡ answered.it
   same_asked other is = same other answered.it (sym is.read ∙ answered.is_run.read) where
     same : (one other : Asked) → ◌≡◌ {A = Option Asked} (Some one) (Some other) → one ≡ other
     same one other it = cc
@@ -225,8 +223,8 @@ module _ (call : Call) (answer : Status) (it : Asked) (answered : IsRunAnswer ca
         (sym (given_told (Err error) asks) ∙ settings_are asks.files answered.it has.front (Ok has.settings) front_known has.is_given))
 
   -- what the report finds of the sources
-  finds : (settings : Settings) (outcome : Result Source ReadError) → AsksRunOf call settings outcome
-      → Finds settings.table outcome answered.report
+  pub finds : (settings : Settings) (outcome : Result Source ReadError) → AsksRunOf call settings outcome
+      → Finds settings answered.it.turns (told_with settings.script answered.mover) outcome answered.report
   finds settings outcome of = go answered.is_report where
     asks : AsksRun call (Ok settings)
     asks = of.asks
@@ -235,15 +233,15 @@ module _ (call : Call) (answer : Status) (it : Asked) (answered : IsRunAnswer ca
     known = told_answered asks.files call.before call.now call.reads (right_told (Ok settings) asks) asks.is_steady
 
     of_error : (other : SettingsError) → (answered.report ≡ report_of other) ⊎ (answered.report ≡ Plain NoMemory)
-        → other ≡ given.NoMemory → Finds settings.table outcome answered.report
-    of_error other (inr out) is = memory (ap run_status out)
-    of_error other (inl says) is = memory (ap run_status says ∙ ap (λ (it : SettingsError). run_status (report_of it)) is)
+        → other ≡ given.NoMemory → Finds settings answered.it.turns (told_with settings.script answered.mover) outcome answered.report
+    of_error other (inr out) is = memory out
+    of_error other (inl says) is = memory (says ∙ ap report_of is)
 
     is_read : preprocessed asks.files answered.it.names ≡ outcome
     is_read = subst (λ (it : Asked). preprocessed asks.files it.names ≡ outcome) (same_asked asks.it asks.is_run) of.is_read
 
     go : HasNoSettings answered.it call.reads answered.report ⊎ HasSettings answered.mover answered.it call.reads answered.report
-        → Finds settings.table outcome answered.report
+        → Finds settings answered.it.turns (told_with settings.script answered.mover) outcome answered.report
     go (inl (other, is, says)) =
         of_error other says
         (no_error settings other
@@ -260,7 +258,7 @@ module _ (call : Call) (answer : Status) (it : Asked) (answered : IsRunAnswer ca
         let same = one_settings has.settings settings
         (sym (settings_are asks.files answered.it has.front (Ok has.settings) front_known has.is_given) ∙ given_told (Ok settings) asks) in
         let fits = told_fits asks.files parts.0 call.now has.rest parts.2 behind in
-        subst (λ (it : Settings). Finds it.table outcome answered.report) same
+        subst (λ (its : Settings). Finds its answered.it.turns (told_with its.script answered.mover) outcome answered.report) same
         (found has.settings has.rest fits (λ name last. no_fault asks.files parts.0 call.now has.rest name parts.2 behind last) has.follows.1)
       where
         no_fault : (files : Listing) (before now : Counts) (reads : List Read) (name : List ℕ) → AreRight (Some files) before now reads
@@ -272,21 +270,22 @@ module _ (call : Call) (answer : Status) (it : Asked) (answered : IsRunAnswer ca
         found : (its : Settings) (rest : List Read) → Fits asks.files rest → ((name : List ℕ) → EndsAs rest (reading.ReadFault name) → ⊥)
             → HaveNoProgram its.table answered.it.names rest answered.report
             ⊎ HaveRun its.table its.input answered.it.turns (told_with its.script answered.mover) answered.it.names rest answered.report
-            → Finds its.table outcome answered.report
+            → Finds its answered.it.turns (told_with its.script answered.mover) outcome answered.report
         found its rest fits none_failed (inl none') =
-            finds_none its.table asks.files answered.it.names rest outcome fits is_read none_failed answered.report none'
+            finds_none its answered.it.turns (told_with its.script answered.mover) asks.files answered.it.names rest outcome fits is_read none_failed
+            answered.report none'
         found its rest fits none_failed (inr run') =
-            finds_run its.table asks.files answered.it.names rest outcome fits is_read none_failed its.input answered.it.turns
-            (told_with its.script answered.mover) answered.report run'
+            finds_run its answered.it.turns (told_with its.script answered.mover) asks.files answered.it.names rest outcome fits is_read none_failed
+            answered.report run'
 
   module _ (unique : AreUnique) (settings : Settings) (outcome : Result Source ReadError) (of : AsksRunOf call settings outcome) where
     -- sources that come to no program
     pub none_by : (it : IsNone settings.table outcome) → IsBut (status_for it) answer
     none_by it = go (finds settings outcome of) where
-      go : Finds settings.table outcome answered.report → IsBut (status_for it) answer
-      go (memory same) = but_memory (status_for it) same
+      go : Finds settings answered.it.turns (told_with settings.script answered.mover) outcome answered.report → IsBut (status_for it) answer
+      go (memory same) = but_memory (status_for it) (ap run_status same)
       go (none other same) = but (status_for it) (same ∙ one_status unique settings.table outcome other it)
-      go (ran source typed same are ends) = absurd (none_or_typed unique settings.table outcome it source typed same are)
+      go (ran source typed names same are is) = absurd (none_or_typed unique settings.table outcome it source typed same are)
 
     -- sources that are a typed program
     pub completes_by : (source : Source) (typed : TypedProgram) → outcome ≡ Ok source → AreTyped settings.table source.units (Ok typed)
@@ -303,7 +302,33 @@ module _ (call : Call) (answer : Status) (it : Asked) (answered : IsRunAnswer ca
       ended (inr (inl limited)) = inr (but status.Limited limited)
       ended (inr (inr memory')) = inr (but_memory status.Limited memory')
 
-      go : Finds settings.table outcome answered.report → IsEnd answer ⊎ IsBut status.Limited answer
-      go (memory same') = inr (but_memory status.Limited same')
+      go : Finds settings answered.it.turns (told_with settings.script answered.mover) outcome answered.report
+          → IsEnd answer ⊎ IsBut status.Limited answer
+      go (memory same') = inr (but_memory status.Limited (ap run_status same'))
       go (none other same') = absurd (none_or_typed unique settings.table outcome other source typed same are)
-      go (ran source' typed' same' are' ends) = ended ends
+      go (ran source' typed' names same' are' is) =
+          ended (ran_status typed' settings.input answered.it.turns (told_with settings.script answered.mover) names answered.report is)
+
+    -- and what the report says of the run of that program, unless memory ran out
+    pub run_found : (source : Source) (typed : TypedProgram) → outcome ≡ Ok source → AreTyped settings.table source.units (Ok typed)
+        → (answered.report ≡ Plain NoMemory)
+        ⊎ ((names : List (List ℕ))
+        × IsRunOfProgram typed settings.input answered.it.turns (told_with settings.script answered.mover) names answered.report)
+    run_found source typed same are = go (finds settings outcome of) where
+      one_typed : (one other : TypedProgram) → ◌≡◌ {A = Result TypedProgram ProgramError} (Ok one) (Ok other) → one ≡ other
+      one_typed one other it = cc
+
+      go : Finds settings answered.it.turns (told_with settings.script answered.mover) outcome answered.report
+          → (answered.report ≡ Plain NoMemory)
+          ⊎ ((names : List (List ℕ))
+          × IsRunOfProgram typed settings.input answered.it.turns (told_with settings.script answered.mover) names answered.report)
+      go (memory out) = inl out
+      go (none other same') = absurd (none_or_typed unique settings.table outcome other source typed same are)
+      go (ran source' typed' names same' are' is) =
+          inr (
+            names,
+            subst
+                (λ (it : TypedProgram).
+                IsRunOfProgram it settings.input answered.it.turns (told_with settings.script answered.mover) names answered.report)
+                (one_typed typed' typed (one_outcome unique settings.table outcome source' source (Ok typed') (Ok typed) same' same are' are)) is,
+          )

@@ -1,5 +1,5 @@
 -- Where a run names a file that is missing or was not read, a miss or a fault was counted.
-use Rattle.std.proofs.Common.{◌≡◌, ◌⊎◌, ℕ, List, Option, Some, None, Result, Ok, Err, sym, subst, ap, ◌∙◌, inl, inr, arith}
+use Rattle.std.proofs.Common.{◌≡◌, ◌⊎◌, ℕ, List, Option, Some, None, Result, Ok, Err, refl, sym, subst, ap, ◌∙◌, inl, inr, arith}
 use Rattle.hs_base.specs.Count.{HasRisen}
 use Rattle.hs_base.specs.Files.{Counts, IsAnswer, Listing, NeverFall, Read}
 use Rattle.hs_base.specs.Reads.{AreRight}
@@ -157,48 +157,59 @@ settings_counted it =
     (λ script. then_counted (IsNamed no_input input_in it.input) (IsWhole table script)
     (named_counted input_in input_is_no_file no_input it.input) (λ input. whole_counted table script input)))
 
--- a miss or a fault was counted
-abbrev Rose : Counts → Counts → Type 0
-Rose before now = HasRisen before.misses now.misses ⊎ HasRisen before.faults now.faults
+-- the report names a file that is missing, and a miss was counted; or one that was not read, and a fault was counted
+abbrev pub Rose : Counts → Counts → RunReport → Type 0
+Rose before now report =
+    ((name : List ℕ) × (report ≡ Plain (Missing name)) × HasRisen before.misses now.misses)
+    ⊎ ((name : List ℕ) × (report ≡ Plain (Unread name)) × HasRisen before.faults now.faults)
 
 -- the status says that a file is missing or was not read
 module _ (told : Option Listing) (before now : Counts) (reads : List Read) (right : AreRight told before now reads) (mover : Telling) (it : Asked) where
   -- other statuses
-  differ : (one : Status) → one ≡ status.Unread → (one ≡ status.Unread → ⊥) → Rose before now
-  differ one same apart = absurd (apart same)
+  differ : (report : RunReport) (one : Status) → one ≡ status.Unread → (one ≡ status.Unread → ⊥) → Rose before now report
+  differ report one same apart = absurd (apart same)
 
   -- by the error of what is given
-  rose_by : (error : SettingsError) → IsSettings it reads (Err error) → run_status (report_of error) ≡ status.Unread → Rose before now
-  rose_by (given.Missing name) is unread = inl (settings_counted it told before now reads (given.Missing name) right is)
-  rose_by (given.Unread name) is unread = inr (settings_counted it told before now reads (given.Unread name) right is)
-  rose_by (given.Limit limit) is unread = differ status.Limited unread (λ same. absurd cc)
-  rose_by given.NotToml is unread = differ status.Refused unread (λ same. absurd cc)
-  rose_by given.BadVersion is unread = differ status.Refused unread (λ same. absurd cc)
-  rose_by (given.BadEntry name) is unread = differ status.Refused unread (λ same. absurd cc)
-  rose_by (given.BadScript line) is unread = differ status.Refused unread (λ same. absurd cc)
-  rose_by (given.BadInput line) is unread = differ status.Refused unread (λ same. absurd cc)
-  rose_by given.NoMemory is unread = differ status.NoMemory unread (λ same. absurd cc)
+  rose_by : (error : SettingsError) → IsSettings it reads (Err error) → run_status (report_of error) ≡ status.Unread
+      → Rose before now (report_of error)
+  rose_by (given.Missing name) is unread = inl (name, refl, settings_counted it told before now reads (given.Missing name) right is)
+  rose_by (given.Unread name) is unread = inr (name, refl, settings_counted it told before now reads (given.Unread name) right is)
+  rose_by (given.Limit limit) is unread = differ (report_of (given.Limit limit)) status.Limited unread (λ same. absurd cc)
+  rose_by given.NotToml is unread = differ (report_of given.NotToml) status.Refused unread (λ same. absurd cc)
+  rose_by given.BadVersion is unread = differ (report_of given.BadVersion) status.Refused unread (λ same. absurd cc)
+  rose_by (given.BadEntry name) is unread = differ (report_of (given.BadEntry name)) status.Refused unread (λ same. absurd cc)
+  rose_by (given.BadScript line) is unread = differ (report_of (given.BadScript line)) status.Refused unread (λ same. absurd cc)
+  rose_by (given.BadInput line) is unread = differ (report_of (given.BadInput line)) status.Refused unread (λ same. absurd cc)
+  rose_by given.NoMemory is unread = differ (report_of given.NoMemory) status.NoMemory unread (λ same. absurd cc)
 
   -- by the reads of the sources
   module _ (mid : Counts) (rest : List Read) (low : NeverFall before mid) (behind : AreRight told mid now rest) (table : List Routine)
       (names : List (List ℕ)) where
-    rose_in : (report : Report) → IsNoProgram table rest names report → status_of report ≡ status.Unread → Rose before now
+    rose_in : (report : Report) → IsNoProgram table rest names report → status_of report ≡ status.Unread → Rose before now (Plain report)
     rose_in (Missing name) is unread =
-        inl (rose_on before.misses mid.misses now.misses now.misses low.misses (up told mid now rest behind).misses (omega arith)
-        (miss_rose told mid now rest name behind is.ends))
+        inl (
+          name,
+          refl,
+          rose_on before.misses mid.misses now.misses now.misses low.misses (up told mid now rest behind).misses (omega arith)
+              (miss_rose told mid now rest name behind is.ends),
+        )
     rose_in (Unread name) is unread =
-        inr (rose_on before.faults mid.faults now.faults now.faults low.faults (up told mid now rest behind).faults (omega arith)
-        (fault_rose told mid now rest name behind is.ends))
+        inr (
+          name,
+          refl,
+          rose_on before.faults mid.faults now.faults now.faults low.faults (up told mid now rest behind).faults (omega arith)
+              (fault_rose told mid now rest name behind is.ends),
+        )
     rose_in Accepted is unread = absurd is
     rose_in (Hazards count) is unread = absurd is
-    rose_in (Refused refusal) is unread = differ status.Refused unread (λ same. absurd cc)
-    rose_in NoMain is unread = differ status.Refused unread (λ same. absurd cc)
+    rose_in (Refused refusal) is unread = differ (Plain (Refused refusal)) status.Refused unread (λ same. absurd cc)
+    rose_in NoMain is unread = differ (Plain NoMain) status.Refused unread (λ same. absurd cc)
     rose_in Unbuilt is unread = absurd is
     rose_in Usage is unread = absurd is
-    rose_in (Limited limit) is unread = differ status.Limited unread (λ same. absurd cc)
-    rose_in NoMemory is unread = differ status.NoMemory unread (λ same. absurd cc)
+    rose_in (Limited limit) is unread = differ (Plain (Limited limit)) status.Limited unread (λ same. absurd cc)
+    rose_in NoMemory is unread = differ (Plain NoMemory) status.NoMemory unread (λ same. absurd cc)
 
-    rose_none : (report : RunReport) → HaveNoProgram table names rest report → run_status report ≡ status.Unread → Rose before now
+    rose_none : (report : RunReport) → HaveNoProgram table names rest report → run_status report ≡ status.Unread → Rose before now report
     rose_none (Plain report) is unread = rose_in report is unread
     rose_none NotToml is unread = absurd is
     rose_none BadVersion is unread = absurd is
@@ -209,22 +220,23 @@ module _ (told : Option Listing) (before now : Counts) (reads : List Read) (righ
 
   -- the run of a program
   ran_none : (program : TypedProgram) (input : Input) (turns : ℕ) (tells : Option (List Decision)) (names : List (List ℕ)) (report : RunReport)
-      → IsRunOfProgram program input turns tells names report → run_status report ≡ status.Unread → Rose before now
+      → IsRunOfProgram program input turns tells names report → run_status report ≡ status.Unread → Rose before now report
   ran_none program input turns tells names report is unread = go (ran_status program input turns tells names report is) where
-    go : IsEnd (run_status report) ⊎ (run_status report ≡ status.Limited) ⊎ (run_status report ≡ status.NoMemory) → Rose before now
+    go : IsEnd (run_status report) ⊎ (run_status report ≡ status.Limited) ⊎ (run_status report ≡ status.NoMemory) → Rose before now report
     go (inl ends) = absurd (subst IsEnd unread ends)
-    go (inr (inl limited)) = differ status.Limited (sym limited ∙ unread) (λ same. absurd cc)
-    go (inr (inr memory)) = differ status.NoMemory (sym memory ∙ unread) (λ same. absurd cc)
+    go (inr (inl limited)) = differ report status.Limited (sym limited ∙ unread) (λ same. absurd cc)
+    go (inr (inr memory)) = differ report status.NoMemory (sym memory ∙ unread) (λ same. absurd cc)
 
-  pub unread_rose : (report : RunReport) → IsRunVerdict mover it reads report → run_status report ≡ status.Unread → Rose before now
-  unread_rose report (inl (error, is, inl same)) unread = rose_by error is (sym (ap run_status same) ∙ unread)
-  unread_rose report (inl (error, is, inr same)) unread = differ status.NoMemory (sym (ap run_status same) ∙ unread) (λ same'. absurd cc)
+  pub unread_rose : (report : RunReport) → IsRunVerdict mover it reads report → run_status report ≡ status.Unread → Rose before now report
+  unread_rose report (inl (error, is, inl same)) unread =
+      subst (λ (it : RunReport). Rose before now it) (sym same) (rose_by error is (sym (ap run_status same) ∙ unread))
+  unread_rose report (inl (error, is, inr same)) unread = differ report status.NoMemory (sym (ap run_status same) ∙ unread) (λ same'. absurd cc)
   unread_rose report (inr has) unread = go has.follows.1 where
     parts : (mid : Counts) × AreRight told before mid has.front × AreRight told mid now has.rest
     parts = right_behind told before now has.front has.rest (subst (AreRight told before now) has.all right)
 
     go : HaveNoProgram has.settings.table it.names has.rest report
-        ⊎ HaveRun has.settings.table has.settings.input it.turns (told_with has.settings.script mover) it.names has.rest report → Rose before now
+        ⊎ HaveRun has.settings.table has.settings.input it.turns (told_with has.settings.script mover) it.names has.rest report → Rose before now report
     go (inl none) =
         rose_none parts.0 has.rest (up told before parts.0 has.front parts.1) parts.2 has.settings.table it.names report none unread
     go (inr (source, read, (typed, are, is))) =

@@ -1,6 +1,6 @@
 -- What the report of a run says, step by step.
-use Rattle.std.proofs.Common.{◌≡◌, ℕ, List, ◌++◌, Option, Some, None, Ok, Err, refl, sym, subst, ap, ◌∙◌, inl, inr}
-use Rattle.std.specs.Prelude.{Box, IfSome, slice_get}
+use Rattle.std.proofs.Common.{◌≡◌, ℕ, List, ◌++◌, Option, Some, None, Ok, Err, refl, sym, subst, inl, inr}
+use Rattle.std.specs.Prelude.{Box, ◌≤◌, IfSome, length, slice_get}
 use Rattle.std.specs.Box.{box_value}
 use Rattle.std.specs.Global.{Global}
 use Rattle.hs_base.specs.Files.{Read}
@@ -9,14 +9,13 @@ use Rattle.hs_code.specs.Codes.{view_program}
 use Rattle.hs_directives.specs.Reads.{AreFirstReads}
 use Rattle.hs_directives.specs.declared.source.Source.{Source}
 use Rattle.hs_heap.specs.declared.decision.Decision.{Decision}
-use Rattle.hs_machine.specs.Recording.{IsTold}
+use Rattle.hs_machine.specs.Recording.{IsTold, size_of}
 use Rattle.hs_machine.specs.declared.transcript.Transcript.{Transcript}
-use Rattle.hs_meaning.specs.Runs.{Ending}
 use Rattle.hs_meaning.specs.declared.input.Input.{Input}
 use Rattle.hs_meaning.specs.declared.outcome.Outcome.{Outcome}
 use Rattle.hs_meaning.specs.declared.outcome.Outcome.TheVariants.{Finished, Stopped, TurnsSpent}
-use Rattle.hs_run_text.specs.RunTexts as runs
-use Rattle.hs_runner.specs.Runs.{IsRunOf}
+use Rattle.hs_movers.specs.ScriptTexts.{IsPrintable}
+use Rattle.hs_runner.specs.Runs.{HasFewOps, IsRunOf, RunsExactly}
 use Rattle.hs_settings.specs.Settings.{IsSettings}
 use Rattle.hs_settings.specs.declared.settings.Settings.{Settings}
 use Rattle.hs_settings.specs.declared.settings.SettingsError.{SettingsError}
@@ -44,37 +43,52 @@ file_of None names (Stopped why at) file same is = absurd is
 file_of (Some noted) names (Stopped why at) file same is = subst (λ (its : List (List ℕ)). slice_get its at.file ≡ Some file) same is
 
 module _ (program : TypedProgram) (input : Input) (turns : ℕ) (told : Option (List Decision)) where
+  -- what is known of a transcript
+  pub record IsKnown (its : Transcript) : Type 0 where
+    pub is_run : IsRunOf program input turns its
+    pub exactly : RunsExactly program input turns its
+    pub is_told : IsTold told its.script.decisions
+    pub no_seed : its.script.seed ≡ 0
+    pub few_ops : HasFewOps program
+    pub few_bytes : length its.output ≤ 16777216
+    pub few_decisions : size_of its.script.decisions ≤ 4000000
+    pub printable : IsPrintable its.script
+
   -- a transcript that is shown is that of the run
-  pub shown_run : (noted : Names) (its : Transcript) (report : RunReport) → IsRunOf program input turns its → IsTold told its.script.decisions
-      → its.script.seed ≡ 0 → IsShownAs noted its report → IsReportOfRun program input turns told noted report
-  shown_run noted its (Shown ran) is is_told no_seed (outcome, (file, is_file, text)) names same = record {
-    output = its.output;
+  pub shown_run : (noted : Names) (its : Transcript) (report : RunReport) → IsKnown its → IsShownAs noted its report
+      → IsReportOfRun program input turns told noted report
+  shown_run noted its (Shown ran) known (outcome, back, (file, is_file, text)) names same = record {
+    its = its;
     file = file;
-    script = its.script;
-    is_run = is ∙ ap (λ (it : Outcome). ending its.output it) (sym outcome);
-    is_told = is_told;
-    no_seed = no_seed;
-    is_file = subst (λ (it : Outcome). IsFileOf names it file) (sym outcome) (file_of noted names its.outcome file same is_file);
-    is_text = text ∙ ap (λ (it : Outcome). runs.text_of its.output file it its.script) (sym outcome);
-  } where
-    ending : List ℕ → Outcome → Ending
-    ending output outcome = record { output = output; outcome = outcome }
-  shown_run noted its NotToml is is_told no_seed shown names same = absurd (differ shown) where
+    is_run = known.is_run;
+    exactly = known.exactly;
+    is_told = known.is_told;
+    no_seed = known.no_seed;
+    few_ops = known.few_ops;
+    few_bytes = known.few_bytes;
+    few_decisions = known.few_decisions;
+    printable = known.printable;
+    reads_back = back;
+    is_outcome = outcome;
+    is_file = file_of noted names its.outcome file same is_file;
+    is_text = text;
+  }
+  shown_run noted its NotToml known shown names same = absurd (differ shown) where
     differ : NotToml ≡ Plain NoMemory → ⊥
     differ same = absurd cc
-  shown_run noted its BadVersion is is_told no_seed shown names same = absurd (differ shown) where
+  shown_run noted its BadVersion known shown names same = absurd (differ shown) where
     differ : BadVersion ≡ Plain NoMemory → ⊥
     differ same = absurd cc
-  shown_run noted its (BadEntry name) is is_told no_seed shown names same = absurd (differ name shown) where
+  shown_run noted its (BadEntry name) known shown names same = absurd (differ name shown) where
     differ : (name : List ℕ) → BadEntry name ≡ Plain NoMemory → ⊥
     differ name same = absurd cc
-  shown_run noted its (BadScript number) is is_told no_seed shown names same = absurd (differ number shown) where
+  shown_run noted its (BadScript number) known shown names same = absurd (differ number shown) where
     differ : (number : ℕ) → BadScript number ≡ Plain NoMemory → ⊥
     differ number same = absurd cc
-  shown_run noted its (BadInput number) is is_told no_seed shown names same = absurd (differ number shown) where
+  shown_run noted its (BadInput number) known shown names same = absurd (differ number shown) where
     differ : (number : ℕ) → BadInput number ≡ Plain NoMemory → ⊥
     differ number same = absurd cc
-  shown_run noted its (Plain report) is is_told no_seed shown names same =
+  shown_run noted its (Plain report) known shown names same =
       subst (λ (it : RunReport). IsRunOfProgram program input turns told names it) (sym shown) tt
 
 module _ (table : List Routine) (input : Input) (turns : ℕ) (told : Option (List Decision)) (names : List (List ℕ)) where

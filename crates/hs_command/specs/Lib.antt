@@ -1,4 +1,5 @@
 pub mod Causes
+pub mod Laws
 pub mod Movers
 pub mod Names
 pub mod Report

@@ -6,22 +6,22 @@
 --     IsRunVerdict ..         what it says of all that was read
 --     IsRunAnswer             what a call did that runs a program
 --     IsAnswered              what a call did
-use Rattle.std.specs.Prelude.{◌≡◌, ◌⊎◌, ℕ, List, [], ◌++◌, Option, Some, IfSome, IsSomeAnd, Ok, Err, slice_get}
+use Rattle.std.specs.Prelude.{◌≡◌, ◌≤◌, ◌⊎◌, ℕ, List, [], ◌++◌, length, Option, Some, IfSome, IsSomeAnd, Ok, Err, slice_get}
 use Rattle.hs_base.specs.Files.{Read}
 use Rattle.hs_base.specs.Reads.{AreRight}
 use Rattle.hs_directives.specs.Reads.{AreFirstReads, IsReadAs}
 use Rattle.hs_directives.specs.declared.source.Source.{Source}
 use Rattle.hs_heap.specs.declared.decision.Decision.{Decision}
-use Rattle.hs_machine.specs.Recording.{IsTold}
+use Rattle.hs_machine.specs.Recording.{IsTold, size_of}
 use Rattle.hs_machine.specs.declared.transcript.MachineEnd.TheVariants as machine
 use Rattle.hs_machine.specs.declared.transcript.Transcript.{Transcript}
-use Rattle.hs_meaning.specs.Runs.{run}
 use Rattle.hs_meaning.specs.declared.input.Input.{Input}
 use Rattle.hs_meaning.specs.declared.outcome.Outcome.{Outcome}
 use Rattle.hs_meaning.specs.declared.outcome.Outcome.TheVariants.{Finished, Stopped, TurnsSpent}
-use Rattle.hs_movers.specs.declared.script.Script.{Script}
+use Rattle.hs_movers.specs.ScriptTexts as scripts
+use Rattle.hs_movers.specs.ScriptTexts.{IsPrintable}
 use Rattle.hs_run_text.specs.RunTexts as runs
-use Rattle.hs_runner.specs.Runs.{IsGivenUp, PassesOps}
+use Rattle.hs_runner.specs.Runs.{HasFewOps, IsGivenUp, IsRunOf, PassesOps, RunsExactly}
 use Rattle.hs_settings.specs.Settings.{IsSettings}
 use Rattle.hs_settings.specs.declared.settings.Settings.{Settings}
 use Rattle.hs_settings.specs.declared.settings.SettingsError.{SettingsError}
@@ -49,24 +49,31 @@ IsFileOf names (Finished number) file = file ≡ []
 IsFileOf names (Stopped why at) file = slice_get names at.file ≡ Some file
 IsFileOf names TurnsSpent file = file ≡ []
 
--- What was shown is the text of the run of that program with that input and so many turns, under the script that it shows. If the mover tells its
--- decisions, the script is those.
+-- What was shown is the text of the run of that program with that input and so many turns, under the script that it shows. The run took exactly the
+-- decisions of that script: one for each call of a routine that moves or purges, no more and no fewer. If the mover tells its decisions, the script
+-- is those. The run passes no limit, and its script can be read back.
 pub record ShowsRun (program : TypedProgram) (input : Input) (turns : ℕ) (told : Option (List Decision)) (names : List (List ℕ)) (ran : Ran) : Type 0 where
-  pub output : List ℕ
+  pub its : Transcript
   pub file : List ℕ
-  pub script : Script
-  pub is_run : run program input script.decisions turns ≡ record { output = output; outcome = ran.outcome }
-  pub is_told : IsTold told script.decisions
-  pub no_seed : script.seed ≡ 0
-  pub is_file : IsFileOf names ran.outcome file
-  pub is_text : ran.text ≡ runs.text_of output file ran.outcome script
+  pub is_run : IsRunOf program input turns its
+  pub exactly : RunsExactly program input turns its
+  pub is_told : IsTold told its.script.decisions
+  pub no_seed : its.script.seed ≡ 0
+  pub few_ops : HasFewOps program
+  pub few_bytes : length its.output ≤ 16777216
+  pub few_decisions : size_of its.script.decisions ≤ 4000000
+  pub printable : IsPrintable its.script
+  pub reads_back : scripts.reading (scripts.text_of its.script) ≡ Ok its.script
+  pub is_outcome : ran.outcome ≡ its.outcome
+  pub is_file : IsFileOf names its.outcome file
+  pub is_text : ran.text ≡ runs.text_of its.output file its.outcome its.script
 
 -- what a report says of the run of a program
 abbrev pub IsRunOfProgram : TypedProgram → Input → ℕ → Option (List Decision) → List (List ℕ) → RunReport → Type 0
 IsRunOfProgram program input turns told names (Shown ran) = ShowsRun program input turns told names ran
--- the code, the output or the script passed its limit
+-- the code passes its limit; or it does not, and the run passes that of its output or that of its script, whichever it passes first
 IsRunOfProgram program input turns told names (Plain (Limited limit)) =
-    PassesOps program limit ⊎ IsGivenUp program input turns told (machine.Limit limit)
+    PassesOps program limit ⊎ (HasFewOps program × IsGivenUp program input turns told (machine.Limit limit))
 IsRunOfProgram program input turns told names (Plain NoMemory) = Unit {0}
 IsRunOfProgram program input turns told names _ = ⊥
 
@@ -80,6 +87,7 @@ IsFileIn noted TurnsSpent file = file ≡ []
 abbrev pub IsShownAs : Names → Transcript → RunReport → Type 0
 IsShownAs noted its (Shown ran) =
     (ran.outcome ≡ its.outcome)
+    × (scripts.reading (scripts.text_of its.script) ≡ Ok its.script)
     × ((file : List ℕ) × IsFileIn noted its.outcome file × (ran.text ≡ runs.text_of its.output file its.outcome its.script))
 IsShownAs noted its report = report ≡ Plain NoMemory
 

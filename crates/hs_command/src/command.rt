@@ -204,7 +204,7 @@ fn answer<F: Files, O: Sink>(
 /// `specs/Runs.antt` have the meaning of each, and `specs/Causes.antt` when it comes. The clauses speak of the bytes that the reads of this call
 /// gave; if the files tell their listing, these are the listing's. Any status may give way to a lack of memory or to a failed write.
 ///
-/// Example: in the folder `examples`, the words `check` and `locked.c` write `accepted` and return `Status::Done`.
+/// Example: in the folder `examples/straight`, the words `check` and `locked.c` write `accepted` and return `Status::Done`.
 pub fn run<F: Files, O: Sink>(
     alloc: Global,
     words: &[String],

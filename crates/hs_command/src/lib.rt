@@ -5,8 +5,10 @@
 mod command;
 mod file_names;
 mod judge;
+mod laws;
 mod named_files;
 mod reading;
 mod running;
 
 pub use command::{refuse_memory, run};
+pub use laws::told_runs_print_the_same;

@@ -8,16 +8,16 @@ ghost use Rattle.hs_code.specs.Codes.{view_program};
 ghost use Rattle.hs_lowering.specs.Statements.{codes_of};
 ghost use Rattle.hs_meaning.specs.Classes.{classes_of};
 ghost use Rattle.hs_movers.specs.ScriptTexts.{IsPrintable};
+ghost use Rattle.hs_runner.specs.Runs.{HasFewOps};
 ghost use Rattle.hs_words.specs.Words.{asked_of};
 ghost use Rattle.hs_command.specs.Movers.{told_with};
 ghost use Rattle.hs_command.specs.Runs.{IsFileIn, IsReportOfRun, IsRunOfSources, IsShownAs, IsRunVerdict, report_of};
 
 use crate::file_names::FileNames;
 use crate::reading::{read_noting, refused};
-use hs_base::{Bytes, Files, LimitKind, NoMemory};
+use hs_base::{Bytes, Files, NoMemory};
 use hs_code::Code;
-use hs_lower::lower;
-use hs_lower_expressions::LowerEnd;
+use hs_lower::{LowerEnd, lower};
 use hs_machine::{MachineEnd, Transcript};
 use hs_meaning::{Input, Outcome};
 use hs_movers::{Mover, Script};
@@ -72,6 +72,7 @@ fn run_of_code(
 ) -> RunReport
     requires classes { code.now.classes.items ≡ classes_of (view_program code.now.program.now) }
     requires code { code.now.functions.items ≡ codes_of (view_program code.now.program.now) }
+    requires few { HasFewOps (view_program code.now.program.now) }
     ensures { IsReportOfRun (view_program code.now.program.now) input.now turns (told mover.old) names.now result }
 {
     match run_code(alloc, code, input, mover, turns) {
@@ -94,7 +95,7 @@ fn run_of_program(
 {
     match lower(alloc, program) {
         Ok(code) => run_of_code(alloc, names, &code, input, mover, turns),
-        Err(LowerEnd::Limit) => RunReport::Plain(Report::Limited(LimitKind::Ops.passed())),
+        Err(LowerEnd::Limit(limit)) => RunReport::Plain(Report::Limited(limit)),
         Err(LowerEnd::NoMemory) => RunReport::Plain(Report::NoMemory),
     }
 }

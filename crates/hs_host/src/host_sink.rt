@@ -1,7 +1,7 @@
 //! A writer of the system, as `Sink`.
 
 ghost use Rattle.std.specs.Prelude.{◌≡◌, None, OnOk, OnErr};
-ghost use Rattle.std.specs.Io.KnownBytes.{Appends};
+ghost use Rattle.std.specs.Io.KnownBytes.{Appends, Keeps};
 ghost use Rattle.hs_base.specs.Count.{raised};
 ghost use Rattle.hs_base.specs.Sink.{IsPut};
 ghost use Rattle.hs_host.specs.Host.{AppendsFront};
@@ -18,6 +18,8 @@ use std::io::{ErrorKind, Write};
 pub struct HostSink<W: Write + Drop> {
     writer: W,
     faults: u64,
+    /// How often a flush of the writer succeeded.
+    flushes: u64,
 }
 
 impl<W: Write + Drop> HostSink<W> {
@@ -25,8 +27,40 @@ impl<W: Write + Drop> HostSink<W> {
     pub fn new(writer: W) -> HostSink<W>
         ensures writer { result.writer ≡ writer }
         ensures faults { result.faults ≡ 0 }
+        ensures flushes { result.flushes ≡ 0 }
     {
-        HostSink { writer, faults: 0 }
+        HostSink {
+            writer,
+            faults: 0,
+            flushes: 0,
+        }
+    }
+
+    /// Flushes the writer. Only this function counts flushes, each one that succeeds.
+    fn flush(&mut self) -> Result<(), Failed>
+        ensures counted { OnOk result (self.new.flushes ≡ raised self.old.flushes) }
+        ensures failed { OnErr result (self.new.flushes ≡ self.old.flushes) }
+        ensures same_faults { self.new.faults ≡ self.old.faults }
+        ensures same_bytes { Keeps (W.contents self.old.writer) (W.contents self.new.writer) }
+    {
+        match self.writer.flush() {
+            Ok(()) => {
+                self.flushes = self.flushes.saturating_add(1);
+                Ok(())
+            }
+            Err(_) => Err(Failed),
+        }
+    }
+
+    /// Writes the piece and flushes the writer. It succeeds only if both do.
+    fn send(&mut self, piece: &[u8]) -> Result<(), Failed>
+        ensures whole { OnOk result (Appends (W.contents self.old.writer) (W.contents self.new.writer) piece.now) }
+        ensures flushed { OnOk result (self.new.flushes ≡ raised self.old.flushes) }
+        ensures front { OnErr result (AppendsFront (W.contents self.old.writer) (W.contents self.new.writer) piece.now) }
+        ensures same_faults { self.new.faults ≡ self.old.faults }
+    {
+        write_whole(&mut self.writer, piece)?;
+        self.flush()
     }
 }
 
@@ -51,18 +85,6 @@ fn write_whole<W: Write>(writer: &mut W, piece: &[u8]) -> Result<(), Failed>
     Err(Failed)
 }
 
-/// Writes the piece and flushes the writer.
-fn send<W: Write>(writer: &mut W, piece: &[u8]) -> Result<(), Failed>
-    ensures whole { OnOk result (Appends (W.contents writer.old) (W.contents writer.new) piece.now) }
-    ensures front { OnErr result (AppendsFront (W.contents writer.old) (W.contents writer.new) piece.now) }
-{
-    write_whole(writer, piece)?;
-    match writer.flush() {
-        Ok(()) => Ok(()),
-        Err(_) => Err(Failed),
-    }
-}
-
 impl<W: Write + Drop> Sink for HostSink<W> {
     ghost written = { λ _. None };
 
@@ -74,10 +96,12 @@ impl<W: Write + Drop> Sink for HostSink<W> {
         ensures quiet { OnOk result (self.new.faults ≡ self.old.faults) }
         // If the writer exposes what it holds, the piece was appended.
         ensures written { OnOk result (Appends (W.contents self.old.writer) (W.contents self.new.writer) piece.now) }
+        // And the writer was flushed.
+        ensures flushed { OnOk result (self.new.flushes ≡ raised self.old.flushes) }
         // After a failure, a front of it was: the whole piece if only the flush failed.
         ensures front { OnErr result (AppendsFront (W.contents self.old.writer) (W.contents self.new.writer) piece.now) }
     {
-        let sent = send(&mut self.writer, piece);
+        let sent = self.send(piece);
         if sent.is_err() {
             self.faults = self.faults.saturating_add(1);
         }

@@ -1,5 +1,6 @@
 pub mod Advancing
 pub mod Hurrying
+pub mod Laws
 pub mod Programs
 pub mod Reaching
 pub mod Recording

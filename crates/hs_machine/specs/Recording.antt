@@ -2,6 +2,7 @@
 --     recorded decision                  as a mover gave it: the number 0 names no block
 --     told_front count told              the first decisions of those told, as they are recorded; past the end they name no block
 --     IsTold told script                 the script is what the mover told
+--     IsCallOf script made routine call      what a mover is told of the call after those of the script
 --     size_of script                     what the limit of scripts counts: the decisions, and the block numbers in them
 --     SizedWith script decision result   one decision more was counted
 --     NamesBlocks script                 no list of it has the number 0
@@ -9,6 +10,7 @@ use Rattle.std.specs.Prelude.{◌≡◌, ◌<◌, ◌≤◌, ℕ, zero, suc, ◌
 use Rattle.std.proofs.Common.{arith}
 use Rattle.std.specs.List.{All as Each}
 use Rattle.hs_base.specs.declared.limit.LimitKind.TheVariants as kind
+use Rattle.hs_heap.specs.Blocks.{Block}
 use Rattle.hs_heap.specs.declared.decision.Decision.{Decision}
 use Rattle.hs_heap.specs.declared.decision.Which.{Which}
 use Rattle.hs_heap.specs.declared.decision.Which.TheVariants.{All, These}
@@ -16,6 +18,8 @@ use Rattle.hs_machine.specs.declared.transcript.MachineEnd.{MachineEnd}
 use Rattle.hs_machine.specs.declared.transcript.MachineEnd.TheVariants.{Limit, NoMemory}
 use Rattle.hs_movers.specs.Movers.{no_block}
 use Rattle.hs_movers.specs.ScriptTexts.{HasNoZero}
+use Rattle.hs_movers.specs.declared.mover.MoverCall.{MoverCall}
+use Rattle.hs_table.specs.declared.routine.Routine.{Routine}
 
 -- 0 is the number of no block
 abbrev pub named : Which → Which
@@ -36,6 +40,13 @@ told_front (suc more) (decision ∷ rest) = recorded decision ∷ told_front mor
 abbrev pub IsTold : Option (List Decision) → List Decision → Type 0
 IsTold None script = Unit {0}
 IsTold (Some told) script = script ≡ told_front (length script) told
+
+-- What a mover is told of a call: its number, from 1; what the table lets the routine do; and how many blocks were made.
+pub record IsCallOf (script : List Decision) (made : List Block) (routine : Routine) (call : MoverCall) : Type 0 where
+  pub number : call.number ≡ length script + 1
+  pub moves : call.moves ≡ routine.moves
+  pub purges : call.purges ≡ routine.purges
+  pub blocks : call.blocks ≡ length made
 
 -- the block numbers that are named one by one
 abbrev pub numbers_in : Which → ℕ

@@ -4,9 +4,10 @@
 --     IsReached script point machine left
 --                                        under the script, the run is at that point after some operations
 --     HasRun program input turns its     a transcript is that of such a run
---     PassesOutput, PassesScript         why a run is given up
+--     PassesOutput, PassesScript         why a run is given up: the limit that it passes first
+--     EndsWithin told                    it is not: it ends within both limits
 --     IsCause why                        by the limit
-use Rattle.std.specs.Prelude.{◌≡◌, ◌<◌, ℕ, Bool, true, false, ◌||◌, List, [], ◌∷◌, ◌++◌, length, slice_get, Option, Some, None}
+use Rattle.std.specs.Prelude.{◌≡◌, ◌<◌, ◌≤◌, ℕ, Bool, true, false, ◌||◌, List, [], ◌∷◌, ◌++◌, length, slice_get, Option, Some, None}
 use Rattle.hs_base.specs.Limit.{number_of}
 use Rattle.hs_base.specs.declared.limit.LimitKind.{LimitKind}
 use Rattle.hs_base.specs.declared.limit.LimitKind.TheVariants as kind
@@ -67,13 +68,14 @@ module _ (program : CodeProgram) (reaches : List Decision → Point → State �
     at_the_end : (outcome : Outcome) (after : Machine) (left : ℕ) → RunsTo script outcome after left → most_output < length after.output
         → HasMuchOutput script
 
-  -- under decisions that the mover told
+  -- under decisions that the mover told, which are no more than a script may have
   pub record PassesOutput (told : Option (List Decision)) : Type 0 where
     pub script : List Decision
     pub is_told : IsTold told script
+    pub few : size_of script ≤ most_script
     pub much : HasMuchOutput script
 
-  -- The run asks for one decision more than its script may have, or for one with too many block numbers.
+  -- The run asks for one decision more than its script may have, or for one with too many block numbers. It has not more output than it may have there.
   pub record PassesScript (told : Option (List Decision)) : Type 0 where
     pub script : List Decision
     pub next : Decision
@@ -82,8 +84,20 @@ module _ (program : CodeProgram) (reaches : List Decision → Point → State �
     pub machine : Machine
     pub left : ℕ
     pub reached : IsReached script point machine left
+    pub few : length machine.output ≤ most_output
     pub asks : AsksDecision program point
     pub much : most_script < size_of (script ++ next ∷ [])
+
+  -- The run ends under decisions that the mover told, within both limits.
+  pub record EndsWithin (told : Option (List Decision)) : Type 0 where
+    pub script : List Decision
+    pub is_told : IsTold told script
+    pub outcome : Outcome
+    pub after : Machine
+    pub left : ℕ
+    pub run : RunsTo script outcome after left
+    pub few_bytes : length after.output ≤ most_output
+    pub few_decisions : size_of script ≤ most_script
 
   -- by the kind of the limit
   abbrev pub Passes : LimitKind → Option (List Decision) → Type 0
@@ -129,3 +143,7 @@ module _ (program : CodeProgram) (input : Input) (turns : ℕ) where
   -- Why a run is given up.
   abbrev pub GivesUp : Option (List Decision) → MachineEnd → Type 0
   GivesUp told why = IsCause program reaches_under comes_under told why
+
+  -- Or it is not.
+  abbrev pub IsWithin : Option (List Decision) → Type 0
+  IsWithin told = EndsWithin program reaches_under comes_under told

@@ -6,6 +6,7 @@ mod calls;
 mod control;
 mod execution;
 mod hurry;
+mod laws;
 mod loaded;
 mod recorder;
 mod runner;
@@ -17,4 +18,5 @@ mod transcript;
 mod turns;
 
 pub use execution::execute;
+pub use laws::{limits_exclude_each_other, told_runs_are_one};
 pub use transcript::{MachineEnd, Transcript};

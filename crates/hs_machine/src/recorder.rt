@@ -2,13 +2,15 @@
 
 ghost use Rattle.std.specs.Prelude.{◌≡◌, ◌≤◌, ◌==◌, not, min, [], ◌∷◌, ◌++◌, filter, IfOk, OnOk};
 ghost use Rattle.hs_machine.specs.Advancing.{Gives};
-ghost use Rattle.hs_machine.specs.Recording.{SizedWith, named, numbers_in, size_of, size_of_one};
+ghost use Rattle.hs_machine.specs.Recording.{IsCallOf, SizedWith, named, numbers_in, size_of, size_of_one};
 ghost use Rattle.hs_movers.specs.Movers.{no_block};
 
 use crate::transcript::MachineEnd;
 use hs_base::{LimitKind, NoMemory, Numbers};
 use hs_heap::{Decision, Which};
 use hs_movers::{Mover, MoverCall};
+use hs_state::Machine;
+use hs_table::Routine;
 use std::alloc::Global;
 
 /// The decisions of a run so far. They and the block numbers in them are at most 4000000.
@@ -54,12 +56,17 @@ fn no_block(alloc: Global) -> Decision
     }
 }
 
-/// The decision of a mover for a call, as it is recorded.
+/// The decision of a mover for the next call of a routine that moves or purges, as it is recorded. The mover is told the number of the call, what
+/// the table lets the routine do, and how many blocks were made.
 pub(crate) fn decided(
     alloc: Global,
     mover: &mut Box<dyn Mover>,
+    recorder: &Recorder,
+    machine: &Machine,
+    routine: &Routine,
     call: &MoverCall,
 ) -> Result<Decision, NoMemory>
+    requires told { IsCallOf recorder.now.decisions.items machine.now.heap.blocks routine.now call.now }
     ensures same_number { number mover.new ≡ number mover.old }
     ensures gives { IfOk result (λ taken. Gives (told mover.old) taken (told mover.new)) }
 {

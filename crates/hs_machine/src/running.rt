@@ -1,6 +1,6 @@
 //! A run, operation by operation.
 
-ghost use Rattle.std.specs.Prelude.{◌≡◌, ◌<◌, ◌≤◌, [], length, slice_get, option_copied, IsSome, OnOk};
+ghost use Rattle.std.specs.Prelude.{◌≡◌, ◌<◌, ◌≤◌, nat_lt, [], length, slice_get, option_copied, IfOk, IsSome, OnOk};
 ghost use Rattle.hs_machine.specs.Advancing.{Advances, Operates};
 ghost use Rattle.hs_machine.specs.Programs.{program_here};
 ghost use Rattle.hs_machine.specs.Recording.{IsTold, NamesBlocks};
@@ -60,7 +60,15 @@ fn operate<'c>(
     }
 }
 
-/// Does one operation, and tests the limit of output.
+/// Tests whether there is more output than a run may have.
+#[inline(always)]
+fn is_flooded(output: &[u8]) -> bool
+    ensures { result ≡ nat_lt 16777216 (length output.now) }
+{
+    output.len() as u64 > LimitKind::Output.number()
+}
+
+/// Does one operation. Before it, and if it ends the run, the limit of output is tested.
 fn advance<'c>(
     loaded: &Loaded<'c>,
     runner: &mut Runner<'c, '_>,
@@ -70,11 +78,17 @@ fn advance<'c>(
     requires counted { runner.old.machine.heap.shifts ≡ length recorder.old.decisions.items }
     ensures same_number { number mover.new ≡ number mover.old }
     ensures counted { OnOk result (runner.new.machine.heap.shifts ≡ length recorder.new.decisions.items) }
-    ensures few_bytes { OnOk result (length runner.new.machine.output.items ≤ 16777216) }
+    ensures few_bytes { IfOk result (λ came. IsSome came → length runner.new.machine.output.items ≤ 16777216) }
     ensures advances { Advances (program_here loaded.now) runner.old runner.new recorder.old.decisions.items recorder.new.decisions.items (told mover.old) (told mover.new) result }
 {
-    let came = operate(loaded, runner, recorder, mover)?;
-    if runner.machine.output.len() as u64 > LimitKind::Output.number() {
+    if is_flooded(runner.machine.output.as_slice()) {
+        return Err(MachineEnd::Limit(LimitKind::Output.passed()));
+    }
+    let came = match operate(loaded, runner, recorder, mover) {
+        Ok(came) => came,
+        Err(why) => return Err(why),
+    };
+    if came.is_some() && is_flooded(runner.machine.output.as_slice()) {
         return Err(MachineEnd::Limit(LimitKind::Output.passed()));
     }
     Ok(came)

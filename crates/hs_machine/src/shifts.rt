@@ -1,6 +1,6 @@
 //! The operation that takes a decision.
 
-ghost use Rattle.std.specs.Prelude.{◌≡◌, ◌<◌, length, slice_get, option_copied, OnOk};
+ghost use Rattle.std.specs.Prelude.{◌≡◌, ◌<◌, ◌||◌, true, IfSome, length, slice_get, option_copied, OnOk};
 ghost use Rattle.hs_base.specs.declared.pos.Pos.{Pos as Meant};
 ghost use Rattle.hs_machine.specs.Advancing.{IsDeciding, Shifts, Takes};
 ghost use Rattle.hs_machine.specs.Programs.{program_here};
@@ -21,6 +21,7 @@ fn take(
     routine: &Routine,
 ) -> Result<(), MachineEnd>
     requires counted { runner.old.machine.heap.shifts ≡ length recorder.old.decisions.items }
+    requires permitted { (routine.now.moves || routine.now.purges) ≡ true }
     ensures same_number { number mover.new ≡ number mover.old }
     ensures takes { Takes (record { moves = routine.now.moves; purges = routine.now.purges }) runner.old runner.new recorder.old.decisions.items recorder.new.decisions.items (told mover.old) (told mover.new) result }
 {
@@ -31,7 +32,7 @@ fn take(
         purges: routine.purges,
         blocks: runner.machine.blocks,
     };
-    let decision = decided(alloc, mover, &call)?;
+    let decision = decided(alloc, mover, recorder, &runner.machine, routine, &call)?;
     let size = recorder.size_with(&decision)?;
     let machine = &mut runner.machine;
     machine.heap.shift(routine.moves, routine.purges, &decision);
@@ -41,7 +42,8 @@ fn take(
 
 /// The routine of that number, if it moves or purges.
 fn deciding<'c>(loaded: &Loaded<'c>, place: u32) -> Option<&'c Routine>
-    ensures { IsDeciding (slice_get (program_here loaded.now).setting.routines place) (option_copied result) }
+    ensures deciding { IsDeciding (slice_get (program_here loaded.now).setting.routines place) (option_copied result) }
+    ensures permitted { IfSome result (λ its. (its.now.moves || its.now.purges) ≡ true) }
 {
     let Some(it) = loaded.setting.routines.items().get(place as usize) else {
         return None;

@@ -1,6 +1,6 @@
 //! The trait of movers.
 
-ghost use Rattle.std.specs.Prelude.{◌≡◌, ℕ, List, Option, OnOk};
+ghost use Rattle.std.specs.Prelude.{◌≡◌, ◌≤◌, ◌||◌, ℕ, true, List, Option, OnOk};
 ghost use Rattle.hs_heap.specs.declared.decision.Decision.{Decision};
 ghost use Rattle.hs_movers.specs.Movers.{Decides};
 ghost use Rattle.hs_movers.specs.declared.script.Script.{Script};
@@ -16,7 +16,7 @@ pub(crate) const MOST_DECISIONS: u32 = 4_000_001;
 /// A call of a routine that moves or purges, as a mover sees it.
 #[derive(Clone, Copy)]
 pub struct MoverCall {
-    /// The number of the decision, from 1.
+    /// The number of the call: a run counts its calls of such routines from 1.
     pub number: u64,
     /// Whether the table lets the routine move blocks.
     pub moves: bool,
@@ -24,6 +24,8 @@ pub struct MoverCall {
     pub purges: bool,
     /// How many blocks were made so far. Their numbers go from 1 to this one.
     pub blocks: u32,
+    pub ghost counted: { 1 ≤ number },
+    pub ghost permitted: { (moves || purges) ≡ true },
 }
 
 /// Decides which blocks are moved and purged, each time a routine is called that may do so. What a block does not permit counts for nothing,
@@ -55,7 +57,7 @@ pub trait Mover: Drop {
     ///
     /// # Errors
     ///
-    /// `NoMemory` if memory runs out. What the mover tells then is not known.
+    /// `NoMemory` if memory runs out. What the mover tells then is not known. The four movers of this crate take no memory.
     fn decide(
         &mut self,
         alloc: Global,

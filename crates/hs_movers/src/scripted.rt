@@ -1,6 +1,7 @@
 //! The mover that follows a script.
 
-ghost use Rattle.std.specs.Prelude.{◌≡◌, Some, [], IfOk};
+ghost use Rattle.std.specs.Prelude.{◌≡◌, IsOk, OnOk, Some, [], IfOk};
+ghost use Rattle.hs_movers.specs.Movers.{Decides};
 
 use crate::still::no_block;
 use crate::{Mover, MoverCall, Script};
@@ -82,7 +83,11 @@ impl Mover for Scripted {
         alloc: Global,
         _call: &MoverCall,
         into: &mut Decision,
-    ) -> Result<(), NoMemory> {
+    ) -> Result<(), NoMemory>
+        ensures same_number { ⟦<Scripted as Mover>⟧.number self.new ≡ ⟦<Scripted as Mover>⟧.number self.old }
+        ensures decides { OnOk result (Decides (⟦<Scripted as Mover>⟧.told self.old) into.new (⟦<Scripted as Mover>⟧.told self.new)) }
+        ensures succeeds { IsOk result }
+    {
         *into = match self.decisions.pop_front() {
             Some(decision) => decision,
             None => no_block(alloc),

@@ -1,7 +1,7 @@
 //! The mover that draws its decisions from a seed.
 
-ghost use Rattle.std.specs.Prelude.{◌≡◌, Some};
-ghost use Rattle.hs_movers.specs.Movers.{most_decisions};
+ghost use Rattle.std.specs.Prelude.{◌≡◌, IsOk, OnOk, Some};
+ghost use Rattle.hs_movers.specs.Movers.{Decides, most_decisions};
 ghost use Rattle.hs_movers.specs.Seeds.{all_if, decision_for, next_state, seeded};
 
 use crate::mover::MOST_DECISIONS;
@@ -89,7 +89,11 @@ impl Mover for Seeded {
         alloc: Global,
         _call: &MoverCall,
         into: &mut Decision,
-    ) -> Result<(), NoMemory> {
+    ) -> Result<(), NoMemory>
+        ensures same_number { ⟦<Seeded as Mover>⟧.number self.new ≡ ⟦<Seeded as Mover>⟧.number self.old }
+        ensures decides { OnOk result (Decides (⟦<Seeded as Mover>⟧.told self.old) into.new (⟦<Seeded as Mover>⟧.told self.new)) }
+        ensures succeeds { IsOk result }
+    {
         if self.left == 0 {
             *into = no_block(alloc);
         } else {

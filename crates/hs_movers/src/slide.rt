@@ -1,7 +1,7 @@
 //! The mover that moves everything.
 
-ghost use Rattle.std.specs.Prelude.{◌≡◌, Some};
-ghost use Rattle.hs_movers.specs.Movers.{all_blocks, most_decisions, repeated};
+ghost use Rattle.std.specs.Prelude.{◌≡◌, IsOk, OnOk, Some};
+ghost use Rattle.hs_movers.specs.Movers.{Decides, all_blocks, most_decisions, repeated};
 
 use crate::mover::MOST_DECISIONS;
 use crate::still::no_block;
@@ -63,7 +63,11 @@ impl Mover for Slide {
         alloc: Global,
         _call: &MoverCall,
         into: &mut Decision,
-    ) -> Result<(), NoMemory> {
+    ) -> Result<(), NoMemory>
+        ensures same_number { ⟦<Slide as Mover>⟧.number self.new ≡ ⟦<Slide as Mover>⟧.number self.old }
+        ensures decides { OnOk result (Decides (⟦<Slide as Mover>⟧.told self.old) into.new (⟦<Slide as Mover>⟧.told self.new)) }
+        ensures succeeds { IsOk result }
+    {
         if self.left == 0 {
             *into = no_block(alloc);
         } else {

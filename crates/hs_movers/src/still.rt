@@ -1,7 +1,7 @@
 //! The mover that moves nothing.
 
-ghost use Rattle.std.specs.Prelude.{◌≡◌, Some, []};
-ghost use Rattle.hs_movers.specs.Movers.{no_block};
+ghost use Rattle.std.specs.Prelude.{◌≡◌, IsOk, OnOk, Some, []};
+ghost use Rattle.hs_movers.specs.Movers.{Decides, no_block};
 
 use crate::{Mover, MoverCall, Script};
 use hs_base::{NoMemory, Numbers};
@@ -52,7 +52,11 @@ impl Mover for Still {
         alloc: Global,
         _call: &MoverCall,
         into: &mut Decision,
-    ) -> Result<(), NoMemory> {
+    ) -> Result<(), NoMemory>
+        ensures same_number { ⟦<Still as Mover>⟧.number self.new ≡ ⟦<Still as Mover>⟧.number self.old }
+        ensures decides { OnOk result (Decides (⟦<Still as Mover>⟧.told self.old) into.new (⟦<Still as Mover>⟧.told self.new)) }
+        ensures succeeds { IsOk result }
+    {
         *into = no_block(alloc);
         Ok(())
     }

@@ -1,8 +1,8 @@
 //! Prints a run.
 
-ghost use Rattle.std.specs.Prelude.{◌≡◌, ◌++◌, codes, IfOk, OnOk};
+ghost use Rattle.std.specs.Prelude.{◌≡◌, ◌++◌, codes, IfOk, Ok, OnOk};
 ghost use Rattle.std.specs.Fmt.{decimal};
-ghost use Rattle.hs_movers.specs.ScriptTexts.{IsPrintable};
+ghost use Rattle.hs_movers.specs.ScriptTexts.{IsPrintable, reading, text_of as script_text};
 ghost use Rattle.hs_run_text.specs.RunTexts.{ending_of, line, place_of, text_of, word_of};
 
 use hs_base::{NoMemory, Pos};
@@ -102,7 +102,7 @@ fn outcome_line(alloc: Global, file: &[u8], outcome: Outcome) -> Result<Vec<u8>,
     Ok(text)
 }
 
-/// Prints a run: how many bytes it put out and the bytes, how it ended, and its script. `file` is the name of the file in which it was stopped;
+/// Prints a run: how many bytes it put out and the bytes, how it ended, and its script, which can be read back. `file` is the name of the file in which it was stopped;
 /// where it was not stopped, any name will do.
 ///
 /// # Errors
@@ -117,6 +117,7 @@ pub fn print_run(
 ) -> Result<Vec<u8>, NoMemory>
     requires printable { IsPrintable script.now }
     ensures text { IfOk result (λ text. text.items ≡ text_of output.now file.now outcome script.now) }
+    ensures reads_back { OnOk result (reading (script_text script.now) ≡ Ok script.now) }
 {
     let outcome = outcome_line(alloc, file, outcome)?;
     let script = print_script(alloc, script)?;

@@ -15,7 +15,7 @@ use Rattle.hs_machine.specs.declared.transcript.Transcript.{Transcript}
 use Rattle.hs_meaning.specs.Runs.{Ending, run}
 use Rattle.hs_meaning.specs.declared.input.Input.{Input}
 use Rattle.hs_tree.specs.Trees.{TypedProgram}
-use Rattle.hs_runner.specs.Runs.{IsGivenUp, IsRunOf}
+use Rattle.hs_runner.specs.Runs.{IsGivenUp, IsRunOf, RunsExactly}
 
 -- what the code put out, and how it ended
 code_ran : (program : CodeProgram) (input : Input) (turns : ℕ) (its : Transcript) → HasRun program input turns its
@@ -38,6 +38,12 @@ program_ran program code input turns its exact same has =
     ∥∥₁_elim exact (endings_are_a_set (run program input its.script.decisions turns) (record { output = its.output; outcome = its.outcome }))
     (λ exactly. sym (exactly.only input its.script.decisions turns (record { output = its.output; outcome = its.outcome })
     (code_ran (program_code program) input turns its (subst (λ (its' : List FunctionCode). HasRun (code_program program its') input turns its) same has))))
+
+-- and it takes exactly these decisions
+pub program_exactly : (program : TypedProgram) (code : List FunctionCode) (input : Input) (turns : ℕ) (its : Transcript)
+    → code ≡ codes_of program → HasRun (code_program program code) input turns its → RunsExactly program input turns its
+program_exactly program code input turns its same has =
+    subst (λ (its' : List FunctionCode). HasRun (code_program program its') input turns its) same has
 
 -- and so it is given up
 pub program_given_up : (program : TypedProgram) (code : List FunctionCode) (input : Input) (turns : ℕ) (told : Option (List Decision)) (why : MachineEnd)

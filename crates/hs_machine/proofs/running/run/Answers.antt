@@ -1,5 +1,5 @@
 -- The run goes on, or ends, from where the runner is.
-use Rattle.std.proofs.Common.{rules, length, List, Option, Ok, sym, ap, ◌∙◌, subst}
+use Rattle.std.proofs.Common.{rules, ◌≤◌, arith, length, List, Option, Ok, sym, ap, ◌∙◌, subst}
 use Rattle.hs_heap.specs.declared.decision.Decision.{Decision}
 use Rattle.hs_machine.proofs.Going.{gives_up, runs_over, there_first, there_next, there_on}
 use Rattle.hs_machine.proofs.Naming.{names_more, names_none}
@@ -7,7 +7,7 @@ use Rattle.hs_machine.proofs.Telling.{TellsSo, tells_all, tells_more, tells_scri
 use Rattle.hs_machine.proofs.running.run.Goals as goal
 use Rattle.hs_machine.specs.Advancing.{AdvancesTo}
 use Rattle.hs_machine.specs.Programs.{program_here}
-use Rattle.hs_machine.specs.Recording.{IsTold, NamesBlocks}
+use Rattle.hs_machine.specs.Recording.{IsTold, NamesBlocks, size_of}
 use Rattle.hs_machine.specs.Running.{IsThere, comes_from, reaches_from}
 use Rattle.hs_machine.specs.Transcripts.{RunsTo}
 use Rattle.hs_meaning.specs.declared.outcome.Outcome.{Outcome}
@@ -39,7 +39,8 @@ returns-in-Err-advance-clause-runs g c =
     let new = c.advance.new.runner in
     let there = there_on program c.args.runner.now script c.operations.runner c.hurry.new.runner c.operations.invariant.there
     (c.in-Ok.ensures.runs_on program) in
-    gives_up program first told now later script after old new there c.operations.invariant.tells c.in-Err-advance.why
+    let few : size_of script ≤ 4000000 = omega (arith, c.operations.recorder.counted, c.operations.recorder.few) in
+    gives_up program first told now later script after old new there few c.operations.invariant.tells c.in-Err-advance.why
     (c.in-Err-advance.ensures.advances there.later there.waits)
 
 pub returns-in-Some-clause-told : goal.returns-in-Some-clause-told

@@ -10,5 +10,5 @@ returns-in_default-clause-shifts g c =
     λ at waiting waits.
     let old = c.args.runner.now in
     let new : Runner = record old { next = record old.next { at = old.next.at + 1 } } in
-    quietly (program_here c.args.loaded.now) at c.args.place old new waiting waits c.args.recorder.now.decisions.items _ c.in_default.ensures refl refl refl
+    quietly (program_here c.args.loaded.now) at c.args.place old new waiting waits c.args.recorder.now.decisions.items _ c.in_default.ensures.deciding refl refl refl
     (omega arith) refl refl
