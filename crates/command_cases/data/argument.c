@@ -1,0 +1,10 @@
+/* The routine gives back its argument. */
+#include "edit.h"
+
+int main(void)
+{
+    char letter;
+
+    letter = 'x';
+    return *PlainAddress(&letter);
+}
