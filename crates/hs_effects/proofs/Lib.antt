@@ -1,0 +1,14 @@
+mod Absent
+mod Bools
+mod CallersPut
+mod Exactly
+mod Flagged
+mod Flags
+mod Forms
+mod Growing
+mod HandingOn
+mod InRange
+mod Leading
+mod Members
+mod OwnsPut
+mod SixEffects

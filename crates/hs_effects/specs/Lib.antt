@@ -1,0 +1,5 @@
+pub mod Answers
+pub mod Calling
+pub mod Effecting
+pub mod Owning
+pub mod Working

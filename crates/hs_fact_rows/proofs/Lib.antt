@@ -1,0 +1,4 @@
+mod Cutting
+mod Making
+mod Turning
+mod Writing
