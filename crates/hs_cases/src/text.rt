@@ -1,10 +1,18 @@
 //! The texts of cases: their options, the bytes that they write by number or repeat, and bytes as words.
 
+ghost use Rattle.std.specs.Prelude.{◌≡◌, ◌==◌, [], length, if◌then◌else◌};
+ghost use Rattle.hs_cases.specs.Texts.{Divides};
+
 use std::alloc::{AllocError, Global};
 
 /// Where a text divides at a mark; if the mark is not there, the second part is empty.
-pub fn parted<'a>(text: &'a str, mark: &str) -> (&'a str, &'a str) {
-    text.split_once(mark).unwrap_or((text, ""))
+pub fn parted<'a>(text: &'a str, mark: &str) -> (&'a str, &'a str)
+    ensures { Divides text.now mark.now result.0.now result.1.now }
+{
+    match text.split_once(mark) {
+        Some(parts) => parts,
+        None => (text, ""),
+    }
 }
 
 /// What is after the mark on the first line that begins with it.
@@ -94,6 +102,8 @@ pub fn push_bytes(words: &mut String, bytes: &[u8]) -> Result<(), AllocError> {
 }
 
 /// The separator between the words that there are and the next one.
-pub fn between(words: &str, separator: &'static str) -> &'static str {
+pub fn between(words: &str, separator: &'static str) -> &'static str
+    ensures { result.now ≡ (if length words.now == 0 then [] else separator.now) }
+{
     if words.is_empty() { "" } else { separator }
 }
