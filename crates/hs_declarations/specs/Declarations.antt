@@ -3,6 +3,7 @@
 --     block_declared it          a declaration of a block: the variables that it gives a value
 use Rattle.std.specs.Prelude.{ℕ, Bool, true, false, not, ◌&&◌, ◌||◌, List, [], ◌∷◌, ◌++◌, length, slice_get, Option, Some, None, is_none, Ok, if◌then◌else◌}
 use Rattle.hs_declarations.specs.Fronts.{front, item_type, tag_alone, lone_tag, declares_any, storage_place, place_of_start}
+use Rattle.hs_linkage.specs.declared.translator.Linked.{Linked}
 use Rattle.hs_linkage.specs.Linkage.{is_function, clash_of, linked, completed_link, define_object, new_object, renamed}
 use Rattle.hs_linkage.specs.Objects.{is_defined, local_as}
 use Rattle.hs_linkage.specs.Works.{Work, ◌>>=◌, ◌>>◌, pass, stop, typing, unless}
@@ -10,6 +11,7 @@ use Rattle.hs_declarations.specs.declared.fronts.Front.{Front}
 use Rattle.hs_expressions.specs.Expressions.{first_place}
 use Rattle.hs_initialisers.specs.InlineWords.{inline_words}
 use Rattle.hs_initialisers.specs.Initialisers.{initialised, starting}
+use Rattle.hs_names.specs.Scopes.{find}
 use Rattle.hs_operand_types.specs.Types.{designates, is_open}
 use Rattle.hs_syntax.specs.Trees.{Declaring, Declaration, Initialising, Specification}
 use Rattle.hs_syntax.specs.declared.operators.Storage.{Storage}
@@ -45,37 +47,61 @@ object_place (entity.Variable (variable.Local place) id) = None
 object_place (entity.Function id its) = None
 object_place (entity.Typedef id) = None
 
+-- `static` is the storage word
+abbrev pub is_static : Option Storage → Bool
+is_static None = false
+is_static (Some storage.Typedef) = false
+is_static (Some storage.Extern) = false
+is_static (Some storage.Static) = true
+
 -- it has no initialiser yet (own: a second one is a Clash)
 abbrev pub is_first : Word → ℕ → Work (Unit {0})
 is_first word place = unless (clash_of word) (λ m. is_defined (slice_get m.objects place))
 
--- 3.7.2: the definition of an object with linkage
-abbrev pub object_started : Bool → Word → TypeId → Initialising → Option ℕ → Work (Unit {0})
-object_started static word id it None = pass tt
-object_started static word id it (Some place) = do
+-- 3.7.2: the definition of an object with linkage, of that type
+abbrev pub object_started : Bool → Word → Initialising → ℕ → TypeId → Work (Unit {0})
+object_started static word it place id = do
   can_start word id
   is_first word place
   its ← typing (initialised word.place id it)
   again ← completed_link static word its.0
   define_object place its.0 its.1
 
+-- of the composite type of the declarations that are visible here (3.1.2.6)
+abbrev pub started_as : Bool → Word → Initialising → Entity → Work (Unit {0})
+started_as static word it (entity.Constant bits) = pass tt
+started_as static word it (entity.Variable (variable.Global place) id) = object_started static word it place id
+started_as static word it (entity.Variable (variable.Local place) id) = pass tt
+started_as static word it (entity.Function id its) = pass tt
+started_as static word it (entity.Typedef id) = pass tt
+
 -- with its initialiser, if there is one
-abbrev pub object_with_start : Bool → Word → TypeId → Option Initialising → Entity → Work (Unit {0})
-object_with_start static word id None its = pass tt
-object_with_start static word id (Some it) its = object_started static word id it (object_place its)
+abbrev pub object_with_start : Bool → Word → Option Initialising → Entity → Work (Unit {0})
+object_with_start static word None its = pass tt
+object_with_start static word (Some it) its = started_as static word it its
 
 -- 3.7.2: a tentative definition with internal linkage is of a complete type
 abbrev pub may_be_tentative : Bool → Word → TypeId → Option Initialising → Work (Unit {0})
 may_be_tentative static word id it =
     unless (Untyped word.place) (λ m. static && is_none it && not (is_complete m.typer.types id))
 
+-- the name has internal linkage
+abbrev pub is_internal_link : Option Linked → Bool
+is_internal_link None = false
+is_internal_link (Some it) = it.internal
+
+-- 3.1.2.2: without a storage word the linkage is external, and a name has one linkage in its unit
+abbrev pub keeps_linkage : Option Storage → Word → Work (Unit {0})
+keeps_linkage storage word = unless (Untyped word.place) (λ m. is_none storage && is_internal_link (find word.text m.links))
+
 -- an object of file scope
-abbrev pub file_object : Bool → Word → TypeId → Option Initialising → Work (Unit {0})
-file_object static word id it = do
+abbrev pub file_object : Option Storage → Word → TypeId → Option Initialising → Work (Unit {0})
+file_object storage word id it = do
   is_object word id
-  may_be_tentative static word id it
-  its ← linked static word id
-  object_with_start static word id it its
+  may_be_tentative (is_static storage) word id it
+  keeps_linkage storage word
+  its ← linked (is_static storage) word id
+  object_with_start (is_static storage) word it its
 
 -- the words of an inline trap, if there are some
 abbrev pub with_inline_words : Option Initialising → Work (Unit {0})
@@ -89,16 +115,9 @@ function_declared static word id it = do
   with_inline_words it
 
 -- by its type
-abbrev pub file_entity : Bool → Word → TypeId → Option Initialising → Work (Unit {0})
-file_entity static word id it m =
-    if is_function m.typer.types id then function_declared static word id it m else file_object static word id it m
-
--- `static` is the storage word
-abbrev pub is_static : Option Storage → Bool
-is_static None = false
-is_static (Some storage.Typedef) = false
-is_static (Some storage.Extern) = false
-is_static (Some storage.Static) = true
+abbrev pub file_entity : Option Storage → Word → TypeId → Option Initialising → Work (Unit {0})
+file_entity storage word id it m =
+    if is_function m.typer.types id then function_declared (is_static storage) word id it m else file_object storage word id it m
 
 abbrev pub is_typedef_word : Option Storage → Bool
 is_typedef_word None = false
@@ -107,20 +126,20 @@ is_typedef_word (Some storage.Extern) = false
 is_typedef_word (Some storage.Static) = false
 
 -- A declarator of a declaration names something.
-abbrev pub file_item_as : Bool → Place → Option Word → TypeId → Option Initialising → Work (Unit {0})
-file_item_as static at None id it = stop (Untyped at)
-file_item_as static at (Some word) id it = file_entity static word id it
+abbrev pub file_item_as : Option Storage → Place → Option Word → TypeId → Option Initialising → Work (Unit {0})
+file_item_as storage at None id it = stop (Untyped at)
+file_item_as storage at (Some word) id it = file_entity storage word id it
 
 -- one declarator of file scope
-abbrev pub file_item : Bool → Place → TypeId → Declaring → Work (Unit {0})
-file_item static at base it = do
+abbrev pub file_item : Option Storage → Place → TypeId → Declaring → Work (Unit {0})
+file_item storage at base it = do
   id ← typing (item_type at base it.declarator)
-  file_item_as static at (word_of it.declarator) id it.initialiser
+  file_item_as storage at (word_of it.declarator) id it.initialiser
 
 -- those of a declaration, in their order
-abbrev pub file_items : Bool → Place → TypeId → List Declaring → Work (Unit {0})
-file_items static at base [] = pass tt
-file_items static at base (it ∷ rest) = file_item static at base it >> file_items static at base rest
+abbrev pub file_items : Option Storage → Place → TypeId → List Declaring → Work (Unit {0})
+file_items storage at base [] = pass tt
+file_items storage at base (it ∷ rest) = file_item storage at base it >> file_items storage at base rest
 
 -- 3.5.6: the type of a typedef name, which has no initialiser
 abbrev pub typedef_as : Place → Option Word → TypeId → Option Initialising → Work TypeId
@@ -154,25 +173,26 @@ typedefs_named (it ∷ rest) (id ∷ ids) = typedef_named (word_of it.declarator
 abbrev pub typedef_items : Place → TypeId → List Declaring → Work (Unit {0})
 typedef_items at base its = typedef_types at base [] its >>= typedefs_named its
 
--- specifiers without a declarator
-abbrev pub declared_alone : Place → Specification → Work (Unit {0})
-declared_alone at its = do
+-- specifiers without a declarator. A typedef in a block is left out (own).
+abbrev pub declared_alone : Bool → Place → Specification → Work (Unit {0})
+declared_alone inside at its = do
   said ← typing (front at its)
+  unless (Untyped (storage_place at its)) (λ m. inside && is_typedef_word said.storage)
   unless (Untyped at) (λ m. not (declares_any its))
 
--- `struct tag;`, or others
-abbrev pub nothing_named : Place → Specification → Option Word → Work (Unit {0})
-nothing_named at its None = declared_alone at its
-nothing_named at its (Some word) = typing (tag_alone word)
+-- `struct tag;`, or others; in a block if `inside` is true
+abbrev pub nothing_named : Bool → Place → Specification → Option Word → Work (Unit {0})
+nothing_named inside at its None = declared_alone inside at its
+nothing_named inside at its (Some word) = typing (tag_alone word)
 
 -- by the storage word
 abbrev pub file_items_as : Place → List Declaring → Front → Work (Unit {0})
 file_items_as at its said =
-    if is_typedef_word said.storage then typedef_items at said.type_id its else file_items (is_static said.storage) at said.type_id its
+    if is_typedef_word said.storage then typedef_items at said.type_id its else file_items said.storage at said.type_id its
 
 -- with or without declarators
 abbrev pub file_declared_at : Place → Specification → List Declaring → Work (Unit {0})
-file_declared_at at specifiers [] = nothing_named at specifiers (lone_tag specifiers)
+file_declared_at at specifiers [] = nothing_named false at specifiers (lone_tag specifiers)
 file_declared_at at specifiers (it ∷ rest) = typing (front at specifiers) >>= file_items_as at (it ∷ rest)
 
 -- 3.5: a declaration of file scope. It begins with a specifier; `other` is the place of one that does not.
@@ -241,8 +261,8 @@ not_started (Some it) = stop (Untyped (place_of_start it))
 abbrev pub extern_object : Word → TypeId → Option Initialising → Work (Option TypedItem)
 extern_object word id it = do
   is_object word id
-  not_started it
   its ← linked false word id
+  not_started it
   pass None
 
 -- by the storage word
@@ -297,7 +317,7 @@ block_fronted at stored specifiers its = typing (front at specifiers) >>= block_
 
 -- with or without them
 abbrev pub block_declared_at : Place → Specification → List Declaring → Work (List TypedItem)
-block_declared_at at specifiers [] = nothing_named at specifiers (lone_tag specifiers) >> pass []
+block_declared_at at specifiers [] = nothing_named true at specifiers (lone_tag specifiers) >> pass []
 block_declared_at at specifiers (it ∷ rest) = block_fronted at (storage_place at specifiers) specifiers (it ∷ rest)
 
 -- 3.6.2: a declaration of a block: the variables that it gives a value

@@ -177,7 +177,7 @@ fn not_started(m: &Translator, it: Option<&Initialiser>) -> Result<(), TypeError
     }
 }
 
-/// An object with linkage, which has no initialiser in a block.
+/// An object with linkage, which has no initialiser in a block (3.5.7).
 fn extern_object(
     alloc: Global,
     m: &mut Translator,
@@ -188,9 +188,8 @@ fn extern_object(
     ensures { Works (λ done. None) m.new (extern_object word.now id (option_map view_initialiser (option_copied it.entry)) m.old) result }
 {
     must_be_object(m, word, id)?;
-    not_started(m, it)?;
     linked(alloc, m, false, word, id)?;
-    Ok(())
+    not_started(m, it)
 }
 
 /// An object of a block, by the storage word.
@@ -378,7 +377,7 @@ fn block_declared_at(
             block_fronted(alloc, m, at, stored, specifiers, its)
         }
         None => {
-            nothing_named(alloc, m, at, specifiers)?;
+            nothing_named(alloc, m, true, at, specifiers)?;
             Ok(Vec::new(alloc))
         }
     }

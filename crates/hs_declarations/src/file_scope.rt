@@ -1,16 +1,18 @@
 //! Declarations of file scope (X3.159-1989 3.5 and 3.7.2).
 
 ghost use Rattle.std.specs.Prelude.{◌≡◌, map, option_map, option_copied};
-ghost use Rattle.hs_declarations.specs.Declarations.{may_be_tentative, file_object, with_inline_words, function_declared, file_entity, is_static, is_typedef_word, file_item_as, file_item, file_items, declared_alone, nothing_named, file_items_as, file_declared_at, file_declared};
+ghost use Rattle.hs_declarations.specs.Declarations.{may_be_tentative, is_internal_link, keeps_linkage, file_object, with_inline_words, function_declared, file_entity, is_static, is_typedef_word, file_item_as, file_item, file_items, declared_alone, nothing_named, file_items_as, file_declared_at, file_declared};
 ghost use Rattle.hs_declarations.specs.Fronts.{lone_tag};
 ghost use Rattle.hs_linkage.specs.Works.{Works};
 ghost use Rattle.hs_syntax.specs.Views.{view_declaration, view_item, view_initialiser, specification_of};
 
-use crate::fronts::{Front, declares_any, first_place, front_of, item_type, lone_tag, tag_alone};
+use crate::fronts::{
+    Front, declares_any, first_place, front_of, item_type, lone_tag, storage_place, tag_alone,
+};
 use crate::starts::{must_be_object, object_with_start};
 use crate::typedefs::typedef_items;
 use hs_initialisers::inline_words;
-use hs_linkage::{Translator, is_complete, is_function, linked};
+use hs_linkage::{Linked, Translator, is_complete, is_function, linked};
 use hs_syntax::{Decl, Initialiser, Item, Specifier, Storage, Word};
 use hs_tokens::Place;
 use hs_typer::{TypeError, word_of};
@@ -33,21 +35,43 @@ fn may_be_tentative(
     Ok(())
 }
 
+/// Whether a name has internal linkage.
+fn is_internal_link(link: Option<Linked>) -> bool
+    ensures { result ≡ is_internal_link link }
+{
+    match link {
+        Some(it) => it.internal,
+        None => false,
+    }
+}
+
+/// Refuses an object without a storage word whose name has internal linkage (3.1.2.2).
+fn keeps_linkage(m: &Translator, storage: Option<Storage>, word: &Word) -> Result<(), TypeError>
+    ensures { Works (λ it. it) m.now (keeps_linkage storage word.now m.now) result }
+{
+    if storage.is_none() && is_internal_link(m.links.find(word.text.items())) {
+        return Err(TypeError::Untyped(word.place));
+    }
+    Ok(())
+}
+
 /// An object of file scope.
 fn file_object(
     alloc: Global,
     m: &mut Translator,
-    internal: bool,
+    storage: Option<Storage>,
     word: &Word,
     id: TypeId,
     it: Option<&Initialiser>,
 ) -> Result<(), TypeError>
-    ensures { Works (λ it. it) m.new (file_object internal word.now id (option_map view_initialiser (option_copied it.entry)) m.old) result }
+    ensures { Works (λ it. it) m.new (file_object storage word.now id (option_map view_initialiser (option_copied it.entry)) m.old) result }
 {
+    let internal = is_static(storage);
     must_be_object(m, word, id)?;
     may_be_tentative(m, internal, word, id, it)?;
+    keeps_linkage(m, storage, word)?;
     let its = linked(alloc, m, internal, word, id)?;
-    object_with_start(alloc, m, internal, word, id, it, its)
+    object_with_start(alloc, m, internal, word, it, its)
 }
 
 /// A function that is declared, at any level, with the words of an inline trap, if there are some.
@@ -72,17 +96,17 @@ pub(crate) fn function_declared(
 fn file_entity(
     alloc: Global,
     m: &mut Translator,
-    internal: bool,
+    storage: Option<Storage>,
     word: &Word,
     id: TypeId,
     it: Option<&Initialiser>,
 ) -> Result<(), TypeError>
-    ensures { Works (λ it. it) m.new (file_entity internal word.now id (option_map view_initialiser (option_copied it.entry)) m.old) result }
+    ensures { Works (λ it. it) m.new (file_entity storage word.now id (option_map view_initialiser (option_copied it.entry)) m.old) result }
 {
     if is_function(&m.typer.types, id) {
-        function_declared(alloc, m, internal, word, id, it)
+        function_declared(alloc, m, is_static(storage), word, id, it)
     } else {
-        file_object(alloc, m, internal, word, id, it)
+        file_object(alloc, m, storage, word, id, it)
     }
 }
 
@@ -114,17 +138,17 @@ pub fn is_typedef_word(storage: Option<Storage>) -> bool
 fn file_item_as(
     alloc: Global,
     m: &mut Translator,
-    internal: bool,
+    storage: Option<Storage>,
     at: Place,
     word: Option<&Word>,
     id: TypeId,
     it: Option<&Initialiser>,
 ) -> Result<(), TypeError>
     ensures { Works (λ it. it) m.new
-        (file_item_as internal at (option_copied word.entry) id (option_map view_initialiser (option_copied it.entry)) m.old) result }
+        (file_item_as storage at (option_copied word.entry) id (option_map view_initialiser (option_copied it.entry)) m.old) result }
 {
     match word {
-        Some(name) => file_entity(alloc, m, internal, name, id, it),
+        Some(name) => file_entity(alloc, m, storage, name, id, it),
         None => Err(TypeError::Untyped(at)),
     }
 }
@@ -133,63 +157,68 @@ fn file_item_as(
 fn file_item(
     alloc: Global,
     m: &mut Translator,
-    internal: bool,
+    storage: Option<Storage>,
     at: Place,
     base: TypeId,
     it: &Item,
 ) -> Result<(), TypeError>
-    ensures { Works (λ it. it) m.new (file_item internal at base (view_item it.now) m.old) result }
+    ensures { Works (λ it. it) m.new (file_item storage at base (view_item it.now) m.old) result }
 {
     let id = item_type(alloc, &mut m.typer, at, base, &it.declarator)?;
     let word = word_of(&it.declarator);
-    file_item_as(alloc, m, internal, at, word, id, it.initialiser.as_ref())
+    file_item_as(alloc, m, storage, at, word, id, it.initialiser.as_ref())
 }
 
 /// The declarators of a declaration of file scope, in their order.
 fn file_items(
     alloc: Global,
     m: &mut Translator,
-    internal: bool,
+    storage: Option<Storage>,
     at: Place,
     base: TypeId,
     its: &[Item],
 ) -> Result<(), TypeError>
-    ensures { Works (λ it. it) m.new (file_items internal at base (map view_item its.now) m.old) result }
+    ensures { Works (λ it. it) m.new (file_items storage at base (map view_item its.now) m.old) result }
 {
     'its: for it in its {
-        file_item(alloc, m, internal, at, base, it)?;
+        file_item(alloc, m, storage, at, base, it)?;
     }
     Ok(())
 }
 
-/// Specifiers without a declarator, which must declare a tag or constants (3.5).
+/// Specifiers without a declarator, which must declare a tag or constants (3.5), and in a block are no typedef (own).
 fn declared_alone(
     alloc: Global,
     m: &mut Translator,
+    inside: bool,
     at: Place,
     its: &[Specifier],
 ) -> Result<(), TypeError>
-    ensures { Works (λ it. it) m.new (declared_alone at (specification_of its.now) m.old) result }
+    ensures { Works (λ it. it) m.new (declared_alone inside at (specification_of its.now) m.old) result }
 {
-    front_of(alloc, &mut m.typer, at, its)?;
+    let said = front_of(alloc, &mut m.typer, at, its)?;
+    if inside && is_typedef_word(said.storage) {
+        return Err(TypeError::Untyped(storage_place(at, its)));
+    }
     if !declares_any(its) {
         return Err(TypeError::Untyped(at));
     }
     Ok(())
 }
 
-/// A declaration without declarators: `struct tag;`, or others.
+/// A declaration without declarators: `struct tag;`, or others. `inside` is whether it stands in a block.
 pub(crate) fn nothing_named(
     alloc: Global,
     m: &mut Translator,
+    inside: bool,
     at: Place,
     its: &[Specifier],
 ) -> Result<(), TypeError>
-    ensures { Works (λ it. it) m.new (nothing_named at (specification_of its.now) (lone_tag (specification_of its.now)) m.old) result }
+    ensures { Works (λ it. it) m.new (nothing_named inside at (specification_of its.now) (lone_tag (specification_of its.now)) m.old) result }
 {
     match lone_tag(its) {
         Some(word) => tag_alone(alloc, &mut m.typer, word),
-        None => declared_alone(alloc, m, at, its),
+        None => declared_alone(alloc, m, inside, at, its),
     }
 }
 
@@ -206,7 +235,7 @@ fn file_items_as(
     if is_typedef_word(said.storage) {
         typedef_items(alloc, m, at, said.type_id, its)
     } else {
-        file_items(alloc, m, is_static(said.storage), at, said.type_id, its)
+        file_items(alloc, m, said.storage, at, said.type_id, its)
     }
 }
 
@@ -225,7 +254,7 @@ fn file_declared_at(
             let said = front_of(alloc, &mut m.typer, at, specifiers)?;
             file_items_as(alloc, m, at, its, said)
         }
-        None => nothing_named(alloc, m, at, specifiers),
+        None => nothing_named(alloc, m, false, at, specifiers),
     }
 }
 

@@ -1,7 +1,7 @@
 //! What a declaration of an object must meet, and what objects with linkage start with (X3.159-1989 3.5.7 and 3.7.2).
 
 ghost use Rattle.std.specs.Prelude.{◌≡◌, option_map, option_copied};
-ghost use Rattle.hs_declarations.specs.Declarations.{is_object, is_whole, can_start, object_place, is_first, object_started, object_with_start};
+ghost use Rattle.hs_declarations.specs.Declarations.{is_object, is_whole, can_start, object_place, is_first, object_started, started_as, object_with_start};
 ghost use Rattle.hs_linkage.specs.Works.{Works};
 ghost use Rattle.hs_syntax.specs.Views.{view_initialiser};
 
@@ -80,22 +80,43 @@ fn object_started(
     m: &mut Translator,
     internal: bool,
     word: &Word,
-    id: TypeId,
     it: &Initialiser,
-    place: Option<u32>,
+    place: u32,
+    id: TypeId,
 ) -> Result<(), TypeError>
-    ensures { Works (λ it. it) m.new (object_started internal word.now id (view_initialiser it.now) place m.old) result }
+    ensures { Works (λ it. it) m.new (object_started internal word.now (view_initialiser it.now) place id m.old) result }
 {
-    match place {
-        Some(number) => {
-            must_start(m, word, id)?;
-            must_be_first(alloc, m, word, number)?;
-            let (made, parts) = initialised(alloc, &mut m.typer, word.place, id, it)?;
-            completed_link(alloc, m, internal, word, made)?;
-            m.objects.define(number, made, parts);
-            Ok(())
+    must_start(m, word, id)?;
+    must_be_first(alloc, m, word, place)?;
+    let (made, parts) = initialised(alloc, &mut m.typer, word.place, id, it)?;
+    completed_link(alloc, m, internal, word, made)?;
+    m.objects.define(place, made, parts);
+    Ok(())
+}
+
+/// The same of the object that a declaration refers to, of the composite type of the declarations that are visible there.
+fn started_as(
+    alloc: Global,
+    m: &mut Translator,
+    internal: bool,
+    word: &Word,
+    it: &Initialiser,
+    its: Entity,
+) -> Result<(), TypeError>
+    ensures { Works (λ it. it) m.new (started_as internal word.now (view_initialiser it.now) its m.old) result }
+{
+    match its {
+        Entity::Variable {
+            variable: Variable::Global(place),
+            type_id,
+        } => object_started(alloc, m, internal, word, it, place, type_id),
+        Entity::Variable {
+            variable: Variable::Local(_),
+            ..
         }
-        None => Ok(()),
+        | Entity::Constant(_)
+        | Entity::Function { .. }
+        | Entity::Typedef(_) => Ok(()),
     }
 }
 
@@ -105,14 +126,13 @@ pub(crate) fn object_with_start(
     m: &mut Translator,
     internal: bool,
     word: &Word,
-    id: TypeId,
     it: Option<&Initialiser>,
     its: Entity,
 ) -> Result<(), TypeError>
-    ensures { Works (λ it. it) m.new (object_with_start internal word.now id (option_map view_initialiser (option_copied it.entry)) its m.old) result }
+    ensures { Works (λ it. it) m.new (object_with_start internal word.now (option_map view_initialiser (option_copied it.entry)) its m.old) result }
 {
     match it {
-        Some(start) => object_started(alloc, m, internal, word, id, start, object_place(its)),
+        Some(start) => started_as(alloc, m, internal, word, start, its),
         None => Ok(()),
     }
 }

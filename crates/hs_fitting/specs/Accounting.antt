@@ -12,10 +12,10 @@ use Rattle.hs_fitting.specs.Claims.{Claims, IsBoundIn, IsAccountedAs, IsAccounte
 use Rattle.hs_fitting.specs.Entities.{IsAmong, among_has}
 use Rattle.hs_fitting.specs.Found.{same_texts, place_found, place_there}
 use Rattle.hs_fitting.specs.Registering.{linked_in}
-use Rattle.hs_fitting.specs.Strict.{SameBy, AreStrict, same_self, same_then, strict_self, strict_then}
+use Rattle.hs_fitting.specs.Strict.{SameBy, AreStrict, same_self, same_turned, same_then, strict_self, strict_then}
 use Rattle.hs_linkage.specs.Definitions.{same_name, first_place, is_definition_of}
-use Rattle.hs_linkage.specs.Externals.{type_of_entity, with_external}
-use Rattle.hs_linkage.specs.Linkage.{with_type_id, is_routine_entity}
+use Rattle.hs_linkage.specs.Externals.{type_of_entity}
+use Rattle.hs_linkage.specs.Linkage.{with_type_id, declared_as, is_routine_entity}
 use Rattle.hs_linkage.specs.declared.definitions.Definition.{Definition}
 use Rattle.hs_linkage.specs.declared.externals.External.{External}
 use Rattle.hs_linkage.specs.declared.translator.Linked.{Linked}
@@ -40,7 +40,7 @@ module _ (program : TypedProgram) (here : List ℕ → Bool) (its : Claims) (var
     (claiming : IsClaiming program.types its m word id it objects) where
   -- what is known then
   abbrev after : Translator
-  after = linked_in m word it objects
+  after = linked_in m word id it objects
 
   -- two types of the same structs
   abbrev Same : TypeId → TypeId → Type 0
@@ -55,22 +55,26 @@ module _ (program : TypedProgram) (here : List ℕ → Bool) (its : Claims) (var
   own_same : (a : TypeId) → Same a a
   own_same = same_self (AreStrict m.typer.origins program.types) program.types (strict_self m.typer.origins program.types)
 
+  -- the other way round
+  turned : (a b : TypeId) → Same a b → Same b a
+  turned a b is = same_turned (AreStrict m.typer.origins program.types) program.types a b is
+
   -- ---- what was noted before
 
   -- declarations with external linkage stay
   externals_stay : (other : External) → IsAmong other m.externals → IsAmong other after.externals
   externals_stay other is = by_linkage it.internal
     where
-      by_linkage : (b : Bool) → IsAmong other (if b then m.externals else with_external word m.typer.origins.unit it.entity m.externals)
+      by_linkage : (b : Bool) → IsAmong other (if b then m.externals else declared_as word id it.entity m m.externals)
       by_linkage true = is
-      by_linkage false = entities_stay word m.typer.origins.unit it.entity m.externals other is
+      by_linkage false = entities_stay word m.typer.origins.unit (with_type_id id it.entity) m.externals other is
 
   -- and those of routines
   routines_stay : (other : External) → IsAmong other m.routines → IsAmong other after.routines
   routines_stay other is = by_routine (is_routine_entity it.entity)
     where
-      by_routine : (b : Bool) → IsAmong other (if b then with_external word m.typer.origins.unit it.entity m.routines else m.routines)
-      by_routine true = entities_stay word m.typer.origins.unit it.entity m.routines other is
+      by_routine : (b : Bool) → IsAmong other (if b then declared_as word id it.entity m m.routines else m.routines)
+      by_routine true = entities_stay word m.typer.origins.unit (with_type_id id it.entity) m.routines other is
       by_routine false = is
 
   -- What was accounted for still is.
@@ -138,12 +142,12 @@ module _ (program : TypedProgram) (here : List ℕ → Bool) (its : Claims) (var
     -- with external linkage, by this declaration
     by_noted : it.internal ≡ false → IsAccountedAs false program.types claiming.claims after other number
     by_noted is =
-        let noted = entity_noted word m.typer.origins.unit it.entity m.externals in (
+        let noted = entity_noted word m.typer.origins.unit (with_type_id id it.entity) m.externals in (
           noted.0,
-          subst (λ b. IsAmong noted.0 (if b then m.externals else with_external word m.typer.origins.unit it.entity m.externals)) (sym is) noted.1,
-          made,
-          noted.2 ∙ same,
-          strict,
+          subst (λ b. IsAmong noted.0 (if b then m.externals else declared_as word id it.entity m m.externals)) (sym is) noted.1,
+          id,
+          noted.2 ∙ ap (with_type_id id) same,
+          across other made id strict (turned id made (chosen.strict made (ap type_of_entity same))),
         )
 
     function_accounted : IsAccounted program.types claiming.claims after (entity.Function other (bound.Function number))
@@ -164,13 +168,13 @@ module _ (program : TypedProgram) (here : List ℕ → Bool) (its : Claims) (var
   routine_accounted : (made : TypeId) (number : ℕ) → it.entity ≡ entity.Function made (bound.Routine number) → (other : TypeId) → Same other made
       → IsAccounted program.types claiming.claims after (entity.Function other (bound.Routine number))
   routine_accounted made number same other strict =
-      let noted = entity_noted word m.typer.origins.unit it.entity m.routines in (
+      let noted = entity_noted word m.typer.origins.unit (with_type_id id it.entity) m.routines in (
         noted.0,
-        subst (λ b. IsAmong noted.0 (if b then with_external word m.typer.origins.unit it.entity m.routines else m.routines))
+        subst (λ b. IsAmong noted.0 (if b then declared_as word id it.entity m m.routines else m.routines))
             (sym (ap is_routine_entity same)) noted.1,
-        made,
-        noted.2 ∙ same,
-        strict,
+        id,
+        noted.2 ∙ ap (with_type_id id) same,
+        across other made id strict (turned id made (chosen.strict made (ap type_of_entity same))),
       )
 
   -- with the type of its name

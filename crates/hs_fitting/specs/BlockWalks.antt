@@ -5,7 +5,7 @@
 --     object_walks                    an object is of no type of functions
 --     static_local_walks, extern_object_walks      objects of static storage duration that a block declares
 --     block_declared_walks            a declaration of a block
-use Rattle.std.proofs.Common.{◌≡◌, ℕ, Bool, true, false, not, ◌||◌, List, [], ◌∷◌, Option, Some, None, refl, sym, ap, subst, ◌∙◌, if◌then◌else◌}
+use Rattle.std.proofs.Common.{◌≡◌, ℕ, Bool, true, false, not, ◌&&◌, ◌||◌, List, [], ◌∷◌, Option, Some, None, refl, sym, ap, subst, ◌∙◌, if◌then◌else◌}
 use Rattle.std.specs.List.{AllByRecursion}
 use Rattle.hs_base.specs.Tests.{true_false, not_false}
 use Rattle.hs_base.specs.Entries.{all_appended}
@@ -16,7 +16,7 @@ use Rattle.hs_expressions.specs.Expressions.{first_place}
 use Rattle.hs_expressions.specs.Laws.{IsConstant, IsScoped}
 use Rattle.hs_fitting.specs.Answers.{false_true}
 use Rattle.hs_fitting.specs.Automatic.{IsRightItemIf, unless_grown_walks, automatic_walks}
-use Rattle.hs_fitting.specs.Claims.{Claims, RefersTo, IsVariableIn, Stands}
+use Rattle.hs_fitting.specs.Claims.{Claims, RefersTo, IsVariableIn, Stands, Proceeds}
 use Rattle.hs_fitting.specs.Declaring.{either_moved, new_object_moved, tag_always}
 use Rattle.hs_fitting.specs.Initialised.{initialised_walks}
 use Rattle.hs_fitting.specs.Known.{typing_walks}
@@ -26,7 +26,9 @@ use Rattle.hs_fitting.specs.Noting.{NamesAllow, Noting, Notes, same_noted}
 use Rattle.hs_fitting.specs.NotingCalm.{begun_struct_notes}
 use Rattle.hs_fitting.specs.NotingDeclaring.{front_notes}
 use Rattle.hs_fitting.specs.NotingInitialising.{inline_words_notes}
-use Rattle.hs_fitting.specs.OwnWalks.{OwnId, own_over, own_through, item_own_walks, front_own_walks}
+use Rattle.hs_fitting.specs.Moves.{Moves}
+use Rattle.hs_fitting.specs.OwnWalks.{OwnId, own_kept, with_own, own_over, own_through, item_own_walks, front_own_walks, initialised_also}
+use Rattle.hs_fitting.specs.Owned.{IsOwn}
 use Rattle.hs_fitting.specs.Owning.{IsOwnName}
 use Rattle.hs_fitting.specs.Phrases.{IsRightItem}
 use Rattle.hs_fitting.specs.Walk.{Anywhere, Nothing, Walking, Walks, passes_walks, stops_walks, unless_walks, then_walks, so_walks}
@@ -67,6 +69,18 @@ given_right : (program : TypedProgram) (function : TypedFunction) (done : List T
 given_right program function done None is are = are
 given_right program function done (Some it) is are = all_appended (IsRightItem program function) done (it ∷ []) are (is, tt)
 
+-- ---- objects of static storage duration
+
+-- a name refers to the object of that place, by a type of this unit
+abbrev IsOwnObject : TypedProgram → ℕ → TypeId → Claims → Translator → Type 0
+IsOwnObject program place id its m = RefersTo program.types its m.objects (entity.Variable (variable.Global place) id) × OwnId id its m
+
+-- which stays so
+object_kept : (program : TypedProgram) (place : ℕ) (id : TypeId) (its more : Claims) (m n : Translator) → Proceeds program.types its m more n → Moves m n
+    → IsOwnObject program place id its m → IsOwnObject program place id more n
+object_kept program place id its more m n proceeds moves is =
+    (refers_kept program (entity.Variable (variable.Global place) id) its more m n proceeds is.0, own_kept program.types id its more m n proceeds moves is.1)
+
 -- ---- both ways of a test
 
 module _ {here : List ℕ → Bool} {program : TypedProgram} {function : TypedFunction} where
@@ -104,14 +118,17 @@ module _ (Q : ℕ → TypeId → Type 0) (final : TypeTable) where
 
 module _ {here : List ℕ → Bool} {program : TypedProgram} {function : TypedFunction} where
   -- `struct tag;`, or others
-  pub nothing_named_walks : (at : Place) (its : Specification) (word : Option Word)
-      → Walks here program function Anywhere (nothing_named at its word) Nothing (λ done. Unit {0})
-  nothing_named_walks at its None =
+  pub nothing_named_walks : (inside : Bool) (at : Place) (its : Specification) (word : Option Word)
+      → Walks here program function Anywhere (nothing_named inside at its word) Nothing (λ done. Unit {0})
+  nothing_named_walks inside at its None =
       then_walks {after = Nothing} {holds = λ said. Unit {0}} (typing (front at its))
       (typing_walks (front at its) (λ Q. front_notes Q program.types at its) (λ s scoped counts knows binds p given noted. tt))
-      (λ said. so_walks {holds = λ done. Unit {0}} (λ its m met. met) (λ its m done is. tt) (λ done is before. tt)
-      (unless_walks {pre = Anywhere} {after = Nothing} (Untyped at) (λ m. not (declares_any its)) (λ its m met failed. tt)))
-  nothing_named_walks at its (Some word) =
+      (λ said. then_walks {after = Nothing} {holds = λ done. Unit {0}}
+      (unless (Untyped (storage_place at its)) (λ m. inside && is_typedef_word said.storage))
+      (unless_walks {pre = Anywhere} (Untyped (storage_place at its)) (λ m. inside && is_typedef_word said.storage) (λ its m met failed. tt))
+      (λ plain. so_walks {holds = λ done. Unit {0}} (λ its m met. met) (λ its m done is. tt) (λ done is a b. tt)
+      (unless_walks {pre = Anywhere} {after = Nothing} (Untyped at) (λ m. not (declares_any its)) (λ its m met failed. tt))))
+  nothing_named_walks inside at its (Some word) =
       typing_walks (tag_alone word) (λ Q. tag_notes Q program.types word) (λ s scoped counts knows binds p given noted. tt)
 
   -- ---- functions
@@ -158,11 +175,10 @@ module _ {here : List ℕ → Bool} {program : TypedProgram} {function : TypedFu
       → Walks here program function (λ its m. OwnId id its m) (extern_object word id it) Nothing (IsRightItemIf program function)
   extern_object_walks word id it =
       then_walks (is_object word id) (own_over id (object_walks {pre = Anywhere} word id))
-      (λ may. then_walks {holds = λ done. Unit {0}} (not_started it)
-      (not_started_walks {pre = λ its m. (category_of program.types id ≡ Some of_function → ⊥) × OwnId id its m} it)
-      (λ none. then_walks {holds = λ its. Unit {0}} (linked false word id)
-      (so_walks (λ its m is. (λ other. is.0, is.1)) (λ its m made is. is) (λ made is. is) (linked_walks false word id (λ is. absurd (false_true is))))
-      (λ its. passes_walks None (λ its m is. tt) (λ a b c. tt))))
+      (λ may. then_walks {holds = λ its. Unit {0}} (linked false word id)
+      (so_walks (λ its m is. (λ other. is.0, is.1)) (λ its m made is. tt) (λ made is. is) (linked_walks false word id (λ is. absurd (false_true is))))
+      (λ its. then_walks {holds = λ done. Unit {0}} (not_started it) (not_started_walks {pre = Anywhere} it)
+      (λ none. passes_walks None (λ its m is. tt) (λ a b c. tt))))
 
   -- an object without linkage is a new one
   fresh_walks : (word : Word) (id : TypeId)
@@ -177,47 +193,47 @@ module _ {here : List ℕ → Bool} {program : TypedProgram} {function : TypedFu
 
   -- its name
   object_named_walks : (word : Word) (id : TypeId) (it : Entity)
-      → Walks here program function (λ its m. RefersTo program.types its m.objects it × IsObject id it) (typing (declare word it))
-      (λ its m done. RefersTo program.types its m.objects it × IsObject id it) (λ done. Unit {0})
+      → Walks here program function (λ its m. (RefersTo program.types its m.objects it × IsObject id it) × OwnId id its m) (typing (declare word it))
+      (λ its m done. (RefersTo program.types its m.objects it × IsObject id it) × OwnId id its m) (λ done. Unit {0})
   object_named_walks word id it =
-      so_walks (λ its m is. ((is.0, no_local m.locals is.1, no_typedef its.base m.typer.types is.1), is)) (λ its m done is. is.1) (λ done is. is)
-      (kept_walks (λ its m. RefersTo program.types its m.objects it × IsObject id it)
-      (λ its more m n proceeds moves is. (refers_kept program it its more m n proceeds is.0, is.1)) (named_walks word it))
+      so_walks (λ its m is. ((is.0.0, no_local m.locals is.0.1, own_named its.base m.typer.types is.0.1 is.1), is)) (λ its m done is. is.1) (λ done is. is)
+      (kept_walks (λ its m. (RefersTo program.types its m.objects it × IsObject id it) × OwnId id its m)
+      (λ its more m n proceeds moves is.
+      ((refers_kept program it its more m n proceeds is.0.0, is.0.1), own_kept program.types id its more m n proceeds moves is.1)) (named_walks word it))
     where
       no_local : (locals : List VariableDecl) → IsObject id it → IsVariableIn program.types locals it
       no_local locals is = subst (IsVariableIn program.types locals) (sym is.1) tt
 
-      no_typedef : (base : ℕ) (types : TypeTable) → IsObject id it → IsOwnName base types it
-      no_typedef base types is = subst (IsOwnName base types) (sym is.1) tt
+      own_named : (base : ℕ) (types : TypeTable) → IsObject id it → IsOwn base types id → IsOwnName base types it
+      own_named base types is own = subst (IsOwnName base types) (sym is.1) own
 
   module _ (sound : IsRight program.types) where
     -- its initialiser
     placed_started_walks : (word : Word) (id : TypeId) (place : ℕ) (it : Option Initialising)
-        → Walks here program function (λ its m. RefersTo program.types its m.objects (entity.Variable (variable.Global place) id))
-        (static_started word id (Some place) it) Nothing (λ done. Unit {0})
+        → Walks here program function (IsOwnObject program place id) (static_started word id (Some place) it) Nothing (λ done. Unit {0})
     placed_started_walks word id place None =
         unless_walks (Untyped word.place) (λ m. not (is_complete m.typer.types id)) (λ its m met failed. tt)
     placed_started_walks word id place (Some it) =
         then_walks {holds = λ done. Unit {0}} (can_start word id)
-        (unless_walks {after = λ its m done.
-        MayStart m.typer.types id × RefersTo program.types its m.objects (entity.Variable (variable.Global place) id)} (Untyped word.place)
+        (unless_walks {after = λ its m done. MayStart m.typer.types id × IsOwnObject program place id its m} (Untyped word.place)
         (λ m. not (is_complete m.typer.types id || is_open m.typer.types id))
         (λ its m met failed. (not_false (is_complete m.typer.types id || is_open m.typer.types id) failed, met)))
         (λ may. then_walks {holds = λ p. Unit {0}} (typing (initialised word.place id it))
-        (referring_walks (entity.Variable (variable.Global place) id) (initialised_walks sound word.place id it))
-        (λ p. then_walks {after = λ its m done. RefersTo program.types its m.objects (entity.Variable (variable.Global place) p.0)}
-        {holds = λ done. Unit {0}} (define_object place p.0 p.1)
-        (so_walks (λ its m is. ((is.1 ∙ ap Some (sym is.0.1), is.0.0), is.1 ∙ ap Some (sym is.0.1))) (λ its m done is. is.1) (λ done is. is)
-        (referring_walks (entity.Variable (variable.Global place) p.0) (define_object_walks place p.0 p.1)))
-        (λ done. so_walks {holds = λ done. Unit {0}} (λ its m is. (is, tt, tt)) (λ its m made is. tt) (λ made is a b c. tt)
+        (so_walks (λ its m is. ((is.0, is.1.0), (is.0, is.1.1))) (λ its m p is. is) (λ p is. is)
+        (initialised_also word.place id it (referring_walks (entity.Variable (variable.Global place) id) (initialised_walks sound word.place id it))))
+        (λ p. then_walks {after = λ its m done. IsOwnObject program place p.0 its m} {holds = λ done. Unit {0}} (define_object place p.0 p.1)
+        (so_walks (λ its m is. ((is.0.1 ∙ ap Some (sym is.0.0.1), is.0.0.0), (is.0.1 ∙ ap Some (sym is.0.0.1), is.1))) (λ its m done is. is.1) (λ done is. is)
+        (kept_walks (IsOwnObject program place p.0) (object_kept program place p.0) (define_object_walks place p.0 p.1)))
+        (λ done. so_walks {holds = λ done. Unit {0}} (λ its m is. (is.0, tt, is.1)) (λ its m made is. tt) (λ made is a b c. tt)
         (renamed_walks word (entity.Variable (variable.Global place) p.0)))))
 
     -- of the object that the declaration made
     static_started_walks : (word : Word) (id : TypeId) (its : Entity) (it : Option Initialising)
-        → Walks here program function (λ c m. RefersTo program.types c m.objects its × IsObject id its) (static_started word id (object_place its) it)
-        Nothing (λ done. Unit {0})
+        → Walks here program function (λ c m. (RefersTo program.types c m.objects its × IsObject id its) × OwnId id c m)
+        (static_started word id (object_place its) it) Nothing (λ done. Unit {0})
     static_started_walks word id (entity.Variable (variable.Global place) other) it =
-        so_walks (λ c m is. subst (λ type. RefersTo program.types c m.objects (entity.Variable (variable.Global place) type)) (type_same is.1.0 is.1.1) is.0)
+        so_walks (λ c m is.
+        (subst (λ type. RefersTo program.types c m.objects (entity.Variable (variable.Global place) type)) (type_same is.0.1.0 is.0.1.1) is.0.0, is.1))
         (λ c m done is. is) (λ done is. is) (placed_started_walks word id place it)
       where
         type_same : (n : ℕ) → entity.Variable (variable.Global place) other ≡ entity.Variable (variable.Global n) id → other ≡ id
@@ -229,10 +245,10 @@ module _ {here : List ℕ → Bool} {program : TypedProgram} {function : TypedFu
 
     -- an object of static storage duration without linkage
     pub static_local_walks : (word : Word) (id : TypeId) (it : Option Initialising)
-        → Walks here program function Anywhere (static_local word id it) Nothing (IsRightItemIf program function)
+        → Walks here program function (λ its m. OwnId id its m) (static_local word id it) Nothing (IsRightItemIf program function)
     static_local_walks word id it =
-        then_walks (is_object word id) (object_walks word id)
-        (λ may. then_walks {holds = λ its. Unit {0}} (new_object word id) (fresh_walks word id)
+        then_walks (is_object word id) (own_over id (object_walks {pre = Anywhere} word id))
+        (λ may. then_walks {holds = λ its. Unit {0}} (new_object word id) (with_own id (fresh_walks word id))
         (λ its. then_walks {holds = λ done. Unit {0}} (typing (declare word its)) (object_named_walks word id its)
         (λ named. then_walks {holds = λ done. Unit {0}} (static_started word id (object_place its) it) (static_started_walks word id its it)
         (λ done. passes_walks None (λ c m is. tt) (λ a b c d. tt)))))
@@ -247,8 +263,7 @@ module _ {here : List ℕ → Bool} {program : TypedProgram} {function : TypedFu
     block_object_walks (Some storage.Typedef) word id it =
         so_walks (λ its m own. tt) (λ its m made is. is) (λ made is. is) (automatic_walks sound word id it)
     block_object_walks (Some storage.Extern) word id it = extern_object_walks word id it
-    block_object_walks (Some storage.Static) word id it =
-        so_walks (λ its m own. tt) (λ its m made is. is) (λ made is. is) (static_local_walks word id it)
+    block_object_walks (Some storage.Static) word id it = static_local_walks word id it
 
     -- a function that a block declares
     block_function_walks : (stored : Place) (storage : Option Storage) (word : Word) (id : TypeId) (it : Option Initialising)
@@ -308,7 +323,7 @@ module _ {here : List ℕ → Bool} {program : TypedProgram} {function : TypedFu
     block_declared_at_walks : (at : Place) (words : Specification) (its : List Declaring)
         → Walks here program function Anywhere (block_declared_at at words its) Nothing (λ made. AllByRecursion (IsRightItem program function) made)
     block_declared_at_walks at words [] =
-        then_walks (nothing_named at words (lone_tag words)) (nothing_named_walks at words (lone_tag words))
+        then_walks (nothing_named true at words (lone_tag words)) (nothing_named_walks true at words (lone_tag words))
         (λ done. passes_walks [] (λ its m met. tt) (λ before. tt))
     block_declared_at_walks at words (it ∷ rest) =
         then_walks {after = λ its m said. OwnId said.type_id its m} {holds = λ said. Unit {0}} (typing (front at words)) (front_own_walks at words)

@@ -165,8 +165,8 @@ not_started_moved (Some it) = stops_moved (Untyped (place_of_start it))
 extern_object_moved : (word : Word) (id : TypeId) (it : Option Initialising) → Moved (extern_object word id it)
 extern_object_moved word id it =
     then_moved (is_object word id) (unless_moved _ _)
-    (λ may. then_moved (not_started it) (not_started_moved it)
-    (λ none. then_moved (linked false word id) (linked_moved false word id) (λ its. passes_moved None)))
+    (λ may. then_moved (linked false word id) (linked_moved false word id)
+    (λ its. then_moved (not_started it) (not_started_moved it) (λ none. passes_moved None)))
 
 block_object_moved : (storage : Option Storage) (word : Word) (id : TypeId) (it : Option Initialising) → Moved (block_object storage word id it)
 block_object_moved None word id it = automatic_moved word id it
@@ -208,7 +208,7 @@ items_as_moved at stored its said =
 
 declared_at_moved : (at : Place) (words : Specification) (its : List Declaring) → Moved (block_declared_at at words its)
 declared_at_moved at words [] =
-    then_moved (nothing_named at words (lone_tag words)) (nothing_named_moved at words (lone_tag words)) (λ done. passes_moved [])
+    then_moved (nothing_named true at words (lone_tag words)) (nothing_named_moved true at words (lone_tag words)) (λ done. passes_moved [])
 declared_at_moved at words (it ∷ rest) =
     then_moved (typing (front at words)) (front_moved at words) (items_as_moved at (storage_place at words) (it ∷ rest))
 

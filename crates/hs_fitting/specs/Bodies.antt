@@ -12,7 +12,7 @@ use Rattle.hs_base.specs.Options.{one_there, some_none}
 use Rattle.hs_base.specs.Entries.{all_so}
 use Rattle.hs_typer.specs.declared.typer.Entity.TheVariants as meaning
 use Rattle.hs_operand_types.specs.declared.operand.Bound.TheVariants as bound
-use Rattle.hs_fitting.specs.Owning.{IsOwnName}
+use Rattle.hs_fitting.specs.Owning.{IsOwnName, name_later}
 use Rattle.hs_fitting.specs.LinkedNames.{IsPlainName}
 use Rattle.hs_fitting.specs.Entities.{IsAmong}
 use Rattle.hs_fitting.specs.Accounts.{all_accounted}
@@ -185,7 +185,7 @@ pub record IsBehind (program : TypedProgram) (here : List ℕ → Bool) (its : C
   pub outside : AllByRecursion (λ it. IsVariableIn program.types [] it.entity) mid.names.declarations
   pub types : types_of c.locals ≡ ids
   pub signature : IsSignature program.types id ids gives
-  pub plain : IsPlainName entity
+  pub plain : IsPlainName entity claims c
   pub typedefs : AllByRecursion (λ it. IsOwnName claims.base c.typer.types it.entity) mid.names.declarations
   pub among : (first : TypeId) → claims.functions (length done) ≡ Some first
       → IsAmong (meaning.Function id (bound.Function (length done))) claims.entities
@@ -264,7 +264,8 @@ module _ (program : TypedProgram) (here : List ℕ → Bool) (sound : IsRight pr
       typedefs_left : AllByRecursion (λ it. IsOwnName walked.claims.base n.typer.types it.entity) (left n.typer.names).declarations
       typedefs_left =
           subst (λ scopes. AllByRecursion (λ it. IsOwnName walked.claims.base n.typer.types it.entity) scopes.declarations) (sym names_left) (
-            behind.plain walked.claims.base n.typer.types,
+            subst (λ base. IsOwnName base n.typer.types entity) (sym walked.proceeds.base)
+                (name_later claims.base c.typer.types n.typer.types moves.typer.types entity behind.plain),
             typedefs_later claims.base walked.claims.base c.typer.types n.typer.types walked.proceeds.base moves.typer.types mid.names.declarations
                 behind.typedefs,
           )

@@ -20,11 +20,13 @@ use Rattle.hs_fitting.specs.Found.{same_texts, link_found}
 use Rattle.hs_fitting.specs.Links.{HasShape, objects_self, refers_as, refers_typed, global_typed, bound_typed, declared_again}
 use Rattle.hs_fitting.specs.Making.{function_category, IsFunction, agrees_typed, declared_function, function_typed}
 use Rattle.hs_fitting.specs.Owned.{IsOwn, own_later}
-use Rattle.hs_fitting.specs.Strict.{SameBy, AreStrict, same_self, same_turned, strict_self}
-use Rattle.hs_fitting.specs.Shapes.{SameShape, agree_shape, composite_shape, shape_turned}
+use Rattle.hs_fitting.specs.OwnNames.{IsOwnName}
+use Rattle.hs_fitting.specs.OwnSpecified.{found_own}
+use Rattle.hs_fitting.specs.Strict.{SameBy, AreStrict, same_self, same_turned, same_then, strict_self, strict_then}
+use Rattle.hs_fitting.specs.Shapes.{SameShape, agree_shape, composite_shape, shape_self, shape_turned, shape_then}
 use Rattle.hs_linkage.specs.Definitions.{same_name}
 use Rattle.hs_linkage.specs.Externals.{type_of_entity, agrees_in, newest_external}
-use Rattle.hs_linkage.specs.Linkage.{bound_to, with_type_id, composite_of, agrees, agrees_with_all, clash_of, linked_as, external_as, first_link, next_link, link_as, zero_object, new_function, new_object, is_function}
+use Rattle.hs_linkage.specs.Linkage.{bound_to, with_type_id, composite_of, seen_type, type_seen, declarations_of, agrees, agrees_if, agrees_with_all, clash_of, linked_as, external_as, first_link, next_link, link_as, zero_object, new_function, new_object, is_function}
 use Rattle.hs_linkage.specs.Works.{work_with, pass}
 use Rattle.hs_linkage.specs.declared.externals.External.{External}
 use Rattle.hs_linkage.specs.declared.translator.Linked.{Linked}
@@ -32,6 +34,7 @@ use Rattle.hs_linkage.specs.declared.translator.StaticObject.{StaticObject}
 use Rattle.hs_linkage.specs.declared.translator.Translator.{Translator}
 use Rattle.hs_syntax.specs.declared.word.Word.{Word}
 use Rattle.hs_tree.specs.Trees.{TypedProgram}
+use Rattle.hs_tree.specs.contracts.head.VariablePartialEq.TheImpl as variable_eq
 use Rattle.hs_tree.specs.declared.head.Variable.TheVariants as variable
 use Rattle.hs_tree.specs.declared.head.VariableDecl.{VariableDecl}
 use Rattle.hs_typer.specs.declared.origins.Origins.{Origins}
@@ -76,6 +79,7 @@ pub record IsChosen (types : TypeTable) (here : List ℕ → Bool) (its : Claims
   pub made : (objects ≡ m.objects) ⊎ IsOneMore m word id objects
   pub kind : is_function m.typer.types id ≡ true → IsFunction it.entity
   pub typed : IsTypedIn m.typer.types it.entity
+  pub declared : IsTypedIn m.typer.types (with_type_id id it.entity)
   pub own : (made : TypeId) → type_of_entity it.entity ≡ Some made → IsOwn its.base m.typer.types made
   pub strict : (made : TypeId) → type_of_entity it.entity ≡ Some made → SameBy (AreStrict m.typer.origins types) types id made
   pub older : it.internal ≡ true → (made : TypeId) (number : ℕ) → it.entity ≡ entity.Function made (binding.Function number)
@@ -158,6 +162,7 @@ module _ (types : TypeTable) (here : List ℕ → Bool) (its : Claims) (m : Tran
       made = inl refl;
       kind = λ is. (id, (bound_to internal m.typer.origins.unit word.text m.definitions m.typer.table, refl));
       typed = function_category m.typer.types m.typer.types id (grows_self m.typer.types) same;
+      declared = function_category m.typer.types m.typer.types id (grows_self m.typer.types) same;
       own = λ made is. subst (IsOwn its.base m.typer.types) (some_same id made is) own;
       strict = λ made is. strict_same m.typer.origins types id made (some_same id made is);
       older = λ is made number same. inl (record { function = refl; unlinked = unlinked; undeclared = undeclared });
@@ -175,6 +180,7 @@ module _ (types : TypeTable) (here : List ℕ → Bool) (its : Claims) (m : Tran
       made = inr (same, refl);
       kind = λ is. absurd (true_false (is_function m.typer.types id) is same);
       typed = tt;
+      declared = tt;
       own = λ made is. subst (IsOwn its.base m.typer.types) (some_same id made is) own;
       strict = λ made is. strict_same m.typer.origins types id made (some_same id made is);
       older = λ is made number same. absurd cc;
@@ -244,6 +250,8 @@ module _ (program : TypedProgram) (here : List ℕ → Bool) (its : Claims) (var
         made = inl refl;
         kind = λ is. function_again it id old global (newest_typed m.externals it agree found) (newest_shape m.externals it agree found) is;
         typed = typed_again m.typer.types id it (subst (IsTypedIn m.typer.types) one.3 one.1.typed) (newest_here m.externals it agree found);
+        declared = subst (IsTypedIn m.typer.types) (sym (declared_again id id it))
+            (typed_again m.typer.types id it (subst (IsTypedIn m.typer.types) one.3 one.1.typed) (newest_here m.externals it agree found));
         own = λ made is. subst (IsOwn its.base m.typer.types) (typed_made id made it is) own_id;
         strict = λ made is. strict_same m.typer.origins program.types id made (typed_made id made it is);
         older = λ is. absurd cc;
@@ -274,24 +282,20 @@ module _ (program : TypedProgram) (here : List ℕ → Bool) (its : Claims) (var
   known_shape (Some old) fits other is =
       subst (λ its. SameShape program.types its id) (some_same old other is) (agree_shape m.typer.types program.types m.typer.origins old id grows fits)
 
-  -- and the type that both make together
-  together_shape : (known : Option TypeId) → agrees m id known ≡ true → (other : TypeId) → known ≡ Some other
-      → SameShape program.types other (composite_of m.typer.types known id)
-  together_shape None fits other is = absurd cc
-  together_shape (Some old) fits other is =
-      subst (λ its. SameShape program.types its (composite_of m.typer.types (Some old) id)) (some_same old other is)
-      (shape_turned program.types (composite_of m.typer.types (Some old) id) old
-      (composite_shape program.types m.typer.types old id (agree_shape m.typer.types program.types m.typer.origins old id grows fits)).0)
-
   -- by the types that are known
-  together_here : (known : Option TypeId) → agrees m id known ≡ true → (other : TypeId) → known ≡ Some other
-      → SameShape m.typer.types other (composite_of m.typer.types known id)
-  together_here None fits other is = absurd cc
-  together_here (Some old) fits other is =
-      subst (λ its. SameShape m.typer.types its (composite_of m.typer.types (Some old) id)) (some_same old other is)
-      (shape_turned m.typer.types (composite_of m.typer.types (Some old) id) old
-      (composite_shape m.typer.types m.typer.types old id
-      (agree_shape m.typer.types m.typer.types m.typer.origins old id (grows_self m.typer.types) fits)).0)
+  known_here : (known : Option TypeId) → agrees m id known ≡ true → (other : TypeId) → known ≡ Some other → SameShape m.typer.types other id
+  known_here None fits other is = absurd cc
+  known_here (Some old) fits other is =
+      subst (λ its. SameShape m.typer.types its id) (some_same old other is)
+      (agree_shape m.typer.types m.typer.types m.typer.origins old id (grows_self m.typer.types) fits)
+
+  -- the type that this declaration and the visible ones make together
+  together_shape : (types : TypeTable) → Grows m.typer.types types → (seen : Option TypeId) → agrees_if m id seen ≡ true
+      → SameShape types id (composite_of m.typer.types seen id)
+  together_shape types grows None fits = shape_self types id
+  together_shape types grows (Some old) fits =
+      shape_turned types (composite_of m.typer.types (Some old) id) id
+      (composite_shape types m.typer.types old id (agree_shape m.typer.types types m.typer.origins old id grows fits)).1
 
   -- of this unit, both have the same structs
   old_strict : (old : TypeId) → IsOwn its.base m.typer.types old → agrees m id (Some old) ≡ true
@@ -300,57 +304,77 @@ module _ (program : TypedProgram) (here : List ℕ → Bool) (its : Claims) (var
       agree_strict its.base m.typer program.types grows stands.traced old id (own_later its.base m.typer.types program.types grows old own)
       (own_later its.base m.typer.types program.types grows id own_id) fits
 
+  -- a type of this unit, of the same structs
+  abbrev IsTogether : TypeId → Type 0
+  IsTogether made = IsOwn its.base m.typer.types made × SameBy (AreStrict m.typer.origins program.types) program.types id made
+
   -- and so has the type that both make together
-  either_strict : (b : Bool) (old : TypeId) → IsOwn its.base m.typer.types old → agrees m id (Some old) ≡ true
-      → IsOwn its.base m.typer.types (if b then id else old)
-      × SameBy (AreStrict m.typer.origins program.types) program.types id (if b then id else old)
-      × SameBy (AreStrict m.typer.origins program.types) program.types (if b then id else old) old
-  either_strict true old own fits = (
-    own_id,
-    strict_same m.typer.origins program.types id id refl,
-    same_turned (AreStrict m.typer.origins program.types) program.types old id (old_strict old own fits),
-  )
-  either_strict false old own fits = (
-    own,
-    same_turned (AreStrict m.typer.origins program.types) program.types old id (old_strict old own fits),
-    strict_same m.typer.origins program.types old old refl,
-  )
+  either_strict : (b : Bool) (old : TypeId) → IsOwn its.base m.typer.types old → agrees m id (Some old) ≡ true → IsTogether (if b then id else old)
+  either_strict true old own fits = (own_id, strict_same m.typer.origins program.types id id refl)
+  either_strict false old own fits =
+      (own, same_turned (AreStrict m.typer.origins program.types) program.types old id (old_strict old own fits))
 
-  -- of the type that was declared
-  abbrev IsTogether : TypeId → TypeId → Type 0
-  IsTogether old made =
-      IsOwn its.base m.typer.types made × SameBy (AreStrict m.typer.origins program.types) program.types id made
-      × SameBy (AreStrict m.typer.origins program.types) program.types made old
+  -- with the visible ones
+  together_strict : (seen : Option TypeId) → ((old : TypeId) → seen ≡ Some old → IsOwn its.base m.typer.types old) → agrees_if m id seen ≡ true
+      → IsTogether (composite_of m.typer.types seen id)
+  together_strict None own fits = (own_id, strict_same m.typer.origins program.types id id refl)
+  together_strict (Some old) own fits = either_strict (is_open m.typer.types old) old (own old refl) fits
 
-  together_strict : (it : Entity) → ((old : TypeId) → type_of_entity it ≡ Some old → IsOwn its.base m.typer.types old)
-      → agrees m id (type_of_entity it) ≡ true → (old : TypeId) → type_of_entity it ≡ Some old
-      → IsTogether old (composite_of m.typer.types (type_of_entity it) id)
-  together_strict it own fits old same =
-      subst (λ known. IsTogether old (composite_of m.typer.types known id)) (sym same)
-      (either_strict (is_open m.typer.types old) old (own old same) (subst (λ known. agrees m id known ≡ true) same fits))
+  -- the type that is seen, if it is
+  seen_same : (b : Bool) (x old : TypeId) → (if b then Some x else None) ≡ Some old → x ≡ old
+  seen_same true x old is = some_same x old is
+  seen_same false x old is = absurd cc
 
-  -- the type that it had
-  type_there : (it : Entity) → agrees m id (type_of_entity it) ≡ true → (old : TypeId) × (type_of_entity it ≡ Some old)
-  type_there it fits = agrees_typed m.typer.types m.typer.origins id (type_of_entity it) fits
+  -- it is of this unit
+  seen_own : (seen it : Entity) → IsOwnName its.base m.typer.types seen → IsVariableIn program.types [] it → (old : TypeId)
+      → seen_type (Some seen) it ≡ Some old → IsOwn its.base m.typer.types old
+  seen_own (entity.Constant bits) it own global old is = absurd cc
+  seen_own (entity.Variable (variable.Global place) x) (entity.Constant bits) own global old is = absurd cc
+  seen_own (entity.Variable (variable.Global place) x) (entity.Variable one y) own global old is =
+      subst (IsOwn its.base m.typer.types) (seen_same ((variable_eq.ghosts).eq (variable.Global place) one) x old is) own
+  seen_own (entity.Variable (variable.Global place) x) (entity.Function y to) own global old is = absurd cc
+  seen_own (entity.Variable (variable.Global place) x) (entity.Typedef y) own global old is = absurd cc
+  seen_own (entity.Variable (variable.Local place) x) (entity.Constant bits) own global old is = absurd cc
+  seen_own (entity.Variable (variable.Local place) x) (entity.Variable (variable.Global number) y) own global old is = absurd cc
+  seen_own (entity.Variable (variable.Local place) x) (entity.Variable (variable.Local number) y) own global old is = absurd global
+  seen_own (entity.Variable (variable.Local place) x) (entity.Function y to) own global old is = absurd cc
+  seen_own (entity.Variable (variable.Local place) x) (entity.Typedef y) own global old is = absurd cc
+  seen_own (entity.Function x to) (entity.Constant bits) own global old is = absurd cc
+  seen_own (entity.Function x to) (entity.Variable one y) own global old is = absurd cc
+  seen_own (entity.Function x to) (entity.Function y to') own global old is = subst (IsOwn its.base m.typer.types) (some_same x old is) own
+  seen_own (entity.Function x to) (entity.Typedef y) own global old is = absurd cc
+  seen_own (entity.Typedef x) it own global old is = absurd cc
+
+  -- of what the name means where it stands
+  seen_here : (it : Entity) → IsVariableIn program.types [] it → (old : TypeId) → type_seen m word it ≡ Some old → IsOwn its.base m.typer.types old
+  seen_here it global old is = by_name (find word.text m.typer.names) refl is
+    where
+      by_name : (seen : Option Entity) → find word.text m.typer.names ≡ seen → seen_type seen it ≡ Some old → IsOwn its.base m.typer.types old
+      by_name None found is = absurd cc
+      by_name (Some seen) found is =
+          seen_own seen it (found_own its.base m.typer.types word.text m.typer.names.declarations stands.typedefs seen found) global old is
 
   -- a function that was declared before
   older_function : (it : Entity) → RefersTo program.types its m.objects it
-      → ((old : TypeId) → type_of_entity it ≡ Some old → IsOwn its.base m.typer.types old) → agrees m id (type_of_entity it) ≡ true → (made : TypeId)
-      (number : ℕ) → with_type_id (composite_of m.typer.types (type_of_entity it) id) it ≡ entity.Function made (binding.Function number)
-      → IsOlder program.types its m made number
-  older_function (entity.Constant bits) refers own fits made number same = absurd cc
-  older_function (entity.Variable one old) refers own fits made number same = absurd cc
-  older_function (entity.Function old (binding.Function place)) refers own fits made number same =
-      let together = together_strict (entity.Function old (binding.Function place)) own fits old refl in
-      let types_same : composite_of m.typer.types (Some old) id ≡ made = cc in
-      let places : place ≡ number = cc in (
+      → ((old : TypeId) → type_of_entity it ≡ Some old → IsOwn its.base m.typer.types old) → agrees m id (type_of_entity it) ≡ true → (new : TypeId)
+      → SameBy (AreStrict m.typer.origins program.types) program.types id new → (made : TypeId) (number : ℕ)
+      → with_type_id new it ≡ entity.Function made (binding.Function number) → IsOlder program.types its m made number
+  older_function (entity.Constant bits) refers own fits new together made number same = absurd cc
+  older_function (entity.Variable one old) refers own fits new together made number same = absurd cc
+  older_function (entity.Function old (binding.Function place)) refers own fits new together made number same =
+      let types_same : new ≡ made = cc in
+      let places : place ≡ number = cc in
+      let strict : SameBy (AreStrict m.typer.origins program.types) program.types new old
+      = same_then (AreStrict m.typer.origins program.types) program.types (strict_then m.typer.origins program.types) new id old
+      (same_turned (AreStrict m.typer.origins program.types) program.types id new together)
+      (same_turned (AreStrict m.typer.origins program.types) program.types old id (old_strict old (own old refl) fits)) in (
         old,
         subst (λ n. IsAmong (entity.Function old (binding.Function n)) its.entities) places refers.1,
-        subst (λ made. SameBy (AreStrict m.typer.origins program.types) program.types made old) types_same together.2,
+        subst (λ made. SameBy (AreStrict m.typer.origins program.types) program.types made old) types_same strict,
       )
-  older_function (entity.Function old (binding.Routine place)) refers own fits made number same = absurd cc
-  older_function (entity.Function old binding.Nothing) refers own fits made number same = absurd cc
-  older_function (entity.Typedef old) refers own fits made number same = absurd cc
+  older_function (entity.Function old (binding.Routine place)) refers own fits new together made number same = absurd cc
+  older_function (entity.Function old binding.Nothing) refers own fits new together made number same = absurd cc
+  older_function (entity.Typedef old) refers own fits new together made number same = absurd cc
 
   -- a link is of a type of this unit
   link_own : (one : Declared Linked) → IsLink program.types here its m one → (it : Linked) → one.entity ≡ it → (old : TypeId)
@@ -359,14 +383,17 @@ module _ (program : TypedProgram) (here : List ℕ → Bool) (its : Claims) (var
 
   -- it is what it was
   again_chosen : (it : Linked) → find word.text m.links ≡ Some it → agrees m id (type_of_entity it.entity) ≡ true
+      → agrees_if m id (type_seen m word it.entity) ≡ true
       → IsChosen program.types here its m word id
-      (linked_as it.internal (with_type_id (composite_of m.typer.types (type_of_entity it.entity) id) it.entity)) m.objects
-  again_chosen it found fits =
+      (linked_as it.internal (with_type_id (composite_of m.typer.types (type_seen m word it.entity) id) it.entity)) m.objects
+  again_chosen it found fits sees =
       let one = link_found (IsLink program.types here its m) word.text m.links.declarations it stands.links found in
-      let made : TypeId = composite_of m.typer.types (type_of_entity it.entity) id in
+      let made : TypeId = composite_of m.typer.types (type_seen m word it.entity) id in
       let old : RefersAs program.types its m.objects it.entity
       = subst (λ it. RefersAs program.types its m.objects it.entity) one.3 (refers_as program.types its m.objects one.0.entity.entity one.1.refers) in
       let global : IsVariableIn program.types [] it.entity = subst (λ it. IsVariableIn program.types [] it.entity) one.3 one.1.global in
+      let typed : IsTypedIn m.typer.types it.entity = subst (λ it. IsTypedIn m.typer.types it.entity) one.3 one.1.typed in
+      let together : IsTogether made = together_strict (type_seen m word it.entity) (seen_here it.entity global) sees in
       record {
         stay = objects_self program.types m.objects;
         internal = subst (λ name. it.internal ≡ true → here name ≡ true) one.2
@@ -377,23 +404,25 @@ module _ (program : TypedProgram) (here : List ℕ → Bool) (its : Claims) (var
         global = global_typed program.types made it.entity global;
         kept = λ is. subst IsInternalLink found is;
         refers = inr (record {
-          own = refers_typed program.types its m.objects made it.entity old (together_shape (type_of_entity it.entity) fits);
+          own = refers_typed program.types its m.objects made it.entity old
+              (λ other is. shape_then program.types other id made (known_shape (type_of_entity it.entity) fits other is)
+              (together_shape program.types grows (type_seen m word it.entity) sees));
           typed = subst (RefersAs program.types its m.objects) (sym (declared_again id made it.entity))
               (refers_typed program.types its m.objects id it.entity old (known_shape (type_of_entity it.entity) fits));
         });
         made = inl refl;
         kind = λ is. function_again it.entity made old global (agrees_typed m.typer.types m.typer.origins id (type_of_entity it.entity) fits)
             (known_shape (type_of_entity it.entity) fits) is;
-        typed = typed_again m.typer.types made it.entity (subst (λ it. IsTypedIn m.typer.types it.entity) one.3 one.1.typed)
-            (together_here (type_of_entity it.entity) fits);
-        own = λ other is. subst (IsOwn its.base m.typer.types) (typed_made made other it.entity is)
-            (together_strict it.entity (link_own one.0 one.1 it one.3) fits (type_there it.entity fits).0 (type_there it.entity fits).1).0;
-        strict = λ other is.
-            subst (SameBy (AreStrict m.typer.origins program.types) program.types id) (typed_made made other it.entity is)
-            (together_strict it.entity (link_own one.0 one.1 it one.3) fits (type_there it.entity fits).0 (type_there it.entity fits).1).1;
+        typed = typed_again m.typer.types made it.entity typed
+            (λ other is. shape_then m.typer.types other id made (known_here (type_of_entity it.entity) fits other is)
+            (together_shape m.typer.types (grows_self m.typer.types) (type_seen m word it.entity) sees));
+        declared = subst (IsTypedIn m.typer.types) (sym (declared_again id made it.entity))
+            (typed_again m.typer.types id it.entity typed (known_here (type_of_entity it.entity) fits));
+        own = λ other is. subst (IsOwn its.base m.typer.types) (typed_made made other it.entity is) together.0;
+        strict = λ other is. subst (SameBy (AreStrict m.typer.origins program.types) program.types id) (typed_made made other it.entity is) together.1;
         older = λ is other number same. inr
             (older_function it.entity (subst (λ it. RefersTo program.types its m.objects it.entity) one.3 one.1.refers)
-            (link_own one.0 one.1 it one.3) fits other number same);
+            (link_own one.0 one.1 it one.3) fits made together.1 other number same);
       }
 
   -- after the tests
@@ -401,9 +430,14 @@ module _ (program : TypedProgram) (here : List ℕ → Bool) (its : Claims) (var
       → Gives (Choosing program.types here its m word id) (next_link static word id it m)
   next_chosen static it found =
       gives_unless _ _ (Untyped word.place) m (static && not it.internal)
-      (λ a. gives_unless _ _ (clash_of word) m (not (agrees m id (type_of_entity it.entity)))
-      (λ fits. gives_unless _ _ (clash_of word) m (not it.internal && not (agrees_with_all m word.text id m.externals))
-      (λ c. (again_chosen it found (not_false (agrees m id (type_of_entity it.entity)) fits), refl))))
+      (λ a. gives_unless _ _ (clash_of word) m (not (agrees_with_all m word.text id (declarations_of it.internal m)))
+      (λ b. gives_unless _ _ (clash_of word) m (not (agrees m id (type_of_entity it.entity)))
+      (λ fits. gives_unless _ _ (clash_of word) m (not (agrees_if m id (type_seen m word it.entity)))
+      (λ sees. (
+        again_chosen it found (not_false (agrees m id (type_of_entity it.entity)) fits)
+            (not_false (agrees_if m id (type_seen m word it.entity)) sees),
+        refl,
+      )))))
 
   -- what the name was linked to in the unit
   pub link_as_chosen : (static : Bool) → (static ≡ true → here word.text ≡ true) → (found : Option Linked) → find word.text m.links ≡ found

@@ -13,7 +13,7 @@ use Rattle.hs_fitting.specs.Registering.{linked_in}
 use Rattle.hs_fitting.specs.Strict.{SameBy, AreOneIn, AreApart, AreClosed, closed_later, same_so, same_turned}
 use Rattle.hs_linkage.specs.Definitions.{same_name}
 use Rattle.hs_linkage.specs.Externals.{type_of_entity, agrees_in, all_agree, newest_external, external_of, says_same, with_external, unfit}
-use Rattle.hs_linkage.specs.Linkage.{is_routine_entity}
+use Rattle.hs_linkage.specs.Linkage.{with_type_id, declared_as, is_routine_entity}
 use Rattle.hs_linkage.specs.declared.externals.External.{External}
 use Rattle.hs_linkage.specs.declared.translator.Linked.{Linked}
 use Rattle.hs_linkage.specs.declared.translator.StaticObject.{StaticObject}
@@ -58,30 +58,30 @@ older_among word unit it its x older is = by_test (says_same (newest_external wo
     by_test false (inr among) = among
 
 -- With it, those of earlier units agree as before.
-pub closed_linked : (m : Translator) (word : Word) (it : Linked) (objects : List StaticObject) (later base : ℕ) → later ≡ base → (types : TypeTable)
-    → AreClosedAt types base m → AreClosedAt types later (linked_in m word it objects)
-closed_linked m word it objects later base same types are =
-    subst (λ n. AreClosedAt types n (linked_in m word it objects)) (sym same) (
+pub closed_linked : (m : Translator) (word : Word) (id : TypeId) (it : Linked) (objects : List StaticObject) (later base : ℕ) → later ≡ base → (types : TypeTable)
+    → AreClosedAt types base m → AreClosedAt types later (linked_in m word id it objects)
+closed_linked m word id it objects later base same types are =
+    subst (λ n. AreClosedAt types n (linked_in m word id it objects)) (sym same) (
       λ x y among among' older older'. are.0 x y (external_before x older among) (external_before y older' among') older older',
       λ x y among among' older older'. are.1 x y (routine_before x older among) (routine_before y older' among') older older',
     )
   where
-    external_before : (x : External) → (x.unit == m.typer.origins.unit) ≡ false → IsAmong x (linked_in m word it objects).externals
+    external_before : (x : External) → (x.unit == m.typer.origins.unit) ≡ false → IsAmong x (linked_in m word id it objects).externals
         → IsAmong x m.externals
     external_before x older among = by_linkage it.internal among
       where
-        by_linkage : (b : Bool) → IsAmong x (if b then m.externals else with_external word m.typer.origins.unit it.entity m.externals)
+        by_linkage : (b : Bool) → IsAmong x (if b then m.externals else declared_as word id it.entity m m.externals)
             → IsAmong x m.externals
         by_linkage true is = is
-        by_linkage false is = older_among word m.typer.origins.unit it.entity m.externals x older is
+        by_linkage false is = older_among word m.typer.origins.unit (with_type_id id it.entity) m.externals x older is
 
-    routine_before : (x : External) → (x.unit == m.typer.origins.unit) ≡ false → IsAmong x (linked_in m word it objects).routines
+    routine_before : (x : External) → (x.unit == m.typer.origins.unit) ≡ false → IsAmong x (linked_in m word id it objects).routines
         → IsAmong x m.routines
     routine_before x older among = by_routine (is_routine_entity it.entity) among
       where
-        by_routine : (b : Bool) → IsAmong x (if b then with_external word m.typer.origins.unit it.entity m.routines else m.routines)
+        by_routine : (b : Bool) → IsAmong x (if b then declared_as word id it.entity m m.routines else m.routines)
             → IsAmong x m.routines
-        by_routine true is = older_among word m.typer.origins.unit it.entity m.routines x older is
+        by_routine true is = older_among word m.typer.origins.unit (with_type_id id it.entity) m.routines x older is
         by_routine false is = is
 
 -- ---- at the end of a unit

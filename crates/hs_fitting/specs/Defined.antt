@@ -23,7 +23,7 @@ use Rattle.hs_fitting.specs.Leaving.{local_later, typedefs_later}
 use Rattle.hs_fitting.specs.Linking.{Linking, MayMake, link_stands, linking_global}
 use Rattle.hs_fitting.specs.Links.{global_in}
 use Rattle.hs_fitting.specs.Owned.{IsOwn}
-use Rattle.hs_fitting.specs.Owning.{IsOwnName, own_after}
+use Rattle.hs_fitting.specs.Owning.{IsOwnName, name_later, own_after}
 use Rattle.hs_expressions.specs.Laws.Traced.{TracedTo, traced_then, traced_same}
 use Rattle.hs_fitting.specs.Listed.{list_stays}
 use Rattle.hs_fitting.specs.Moves.{Moves, same_locals}
@@ -117,8 +117,9 @@ module _ (program : TypedProgram) (here : List ℕ → Bool) (its : Claims) (m :
 
   pub parameter_plain : (base : ℕ) (types : TypeTable) (it : Entity) → IsParameterName opened.ids it → IsOwnName base types it
   parameter_plain base types (entity.Constant bits) is = tt
-  parameter_plain base types (entity.Variable variable id) is = tt
-  parameter_plain base types (entity.Function id to) is = tt
+  parameter_plain base types (entity.Variable (variable.Global place) id) is = absurd is
+  parameter_plain base types (entity.Variable (variable.Local place) id) is = tt
+  parameter_plain base types (entity.Function id to) is = absurd is
   parameter_plain base types (entity.Typedef id) is = absurd is
 
   typedefs_opened : AllByRecursion (λ it. IsOwnName its.base new.types it.entity) new.names.declarations
@@ -252,7 +253,7 @@ module _ (program : TypedProgram) (here : List ℕ → Bool) (sound : IsRight pr
 
       typedefs_named : AllByRecursion (λ it. IsOwnName linking.claims.base p.1.typer.types it.entity) here_named.typer.names.declarations
       typedefs_named =
-          named_all (IsOwnName linking.claims.base p.1.typer.types) (linking.plain linking.claims.base p.1.typer.types) linking.stands.typedefs
+          named_all (IsOwnName linking.claims.base p.1.typer.types) (subst (λ known. IsOwnName linking.claims.base known.types p.0) (sym linking.typer) linking.plain) linking.stands.typedefs
           (parameter_plain program here its m id new opened stands linking.claims.base p.1.typer.types)
           (typedefs_later its.base linking.claims.base opened.mid.types p.1.typer.types linking.proceeds.base grows_named
           opened.mid.names.declarations (around_own program here its m id new opened stands))
@@ -336,7 +337,8 @@ module _ (program : TypedProgram) (here : List ℕ → Bool) (sound : IsRight pr
               outside = around_outside program here its m id new opened stands none;
               types = locals_then;
               signature = signature_here;
-              plain = linking.plain;
+              plain = name_later linking.claims.base p.1.typer.types c.typer.types given_here.typer.types p.0
+                  (subst (λ known. IsOwnName linking.claims.base known.types p.0) (sym linking.typer) linking.plain);
               typedefs = typedefs_later its.base linking.claims.base opened.mid.types c.typer.types linking.proceeds.base
                   (grows_then opened.mid.types p.1.typer.types c.typer.types grows_named given_here.typer.types) opened.mid.names.declarations
                   (around_own program here its m id new opened stands);

@@ -31,7 +31,7 @@ use Rattle.hs_fitting.specs.Walk.{Anywhere, Nothing, Walks, proceeds_then}
 use Rattle.hs_functions.specs.Functions.{parameters_of, defined_of, defined_as, defined_by, defined_said, brace_of, defined}
 use Rattle.hs_functions.specs.Opening.{opened_type}
 use Rattle.hs_linkage.specs.Definitions.{has_static, text_of}
-use Rattle.hs_linkage.specs.Linkage.{is_free}
+use Rattle.hs_linkage.specs.Linkage.{is_barred}
 use Rattle.hs_linkage.specs.Works.{work_with, ◌>>=◌, typing, with_typer}
 use Rattle.hs_linkage.specs.declared.definitions.Definition.{Definition}
 use Rattle.hs_linkage.specs.declared.translator.Translator.{Translator}
@@ -125,7 +125,7 @@ module _ (program : TypedProgram) (here : List ℕ → Bool) (sound : IsRight pr
     by_right place said own is_so inside None is_word them same = tt
     by_right place said own is_so inside (Some word) is_word None same = tt
     by_right place said own is_so inside (Some word) is_word (Some them) same =
-        may (is_typedef (find word.text m.typer.names) || not (is_free (find_here word.text m.typer.names) (find word.text m.links)))
+        may (is_barred word m)
       where
         opened_so : DefiningRight program here its m done
             (work_with (λ id. defined_as (length done) static word them body id) (with_typer m (opened_type place said.type_id it them m.typer)))

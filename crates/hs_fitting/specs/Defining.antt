@@ -23,7 +23,7 @@ use Rattle.hs_fitting.specs.Passes.{AreWhole, Passes, each_whole, marked_types, 
 use Rattle.hs_fitting.specs.Stating.{body_moved}
 use Rattle.hs_functions.specs.Functions.{is_only, named_parameter, first_type, next_type, parameter_in, parameters_in, counts, finished, defined_with, defined_of, defined_as, defined_by, defined_said, brace_of, defined, parameters_of, is_of_other}
 use Rattle.hs_functions.specs.Opening.{opened_type, named_outside}
-use Rattle.hs_linkage.specs.Linkage.{clash_of, is_free, link}
+use Rattle.hs_linkage.specs.Linkage.{clash_of, is_barred, link}
 use Rattle.hs_linkage.specs.Objects.{marked}
 use Rattle.hs_linkage.specs.Works.{work_with, ◌>>=◌, ◌>>◌, pass, typing, with_typer}
 use Rattle.hs_linkage.specs.declared.translator.Translator.{Translator}
@@ -215,7 +215,7 @@ module _ (m : Translator) (are : AreWhole m.typer.types m.locals) (scoped : IsSc
   by_fits number at said it body None them same = tt
   by_fits number at said it body (Some word) None same = tt
   by_fits number at said it body (Some word) (Some them) same =
-      named_if (is_typedef (find word.text m.typer.names) || not (is_free (find_here word.text m.typer.names) (find word.text m.links)))
+      named_if (is_barred word m)
     where
       named_if : (b : Bool)
           → FitsGiven m (work_with {A = Unit {0}} {B = TypedFunction} (λ may. typing (opened_type at said.type_id it them)

@@ -3,14 +3,14 @@
 --     passes_still, typing_still, ..  one step; then_still, either_still: one after another
 --     file_declared_locals            of a declaration of file scope
 use Rattle.std.proofs.Common.{◌≡◌, ℕ, Bool, true, false, not, ◌&&◌, List, [], ◌∷◌, ◌++◌, Option, Some, None, Result, Ok, Err, refl, subst, ◌∙◌, if◌then◌else◌}
-use Rattle.hs_declarations.specs.Declarations.{is_object, can_start, object_place, is_first, object_started, object_with_start, may_be_tentative, file_object, with_inline_words, function_declared, file_entity, is_static, is_typedef_word, file_item_as, file_item, file_items, typedef_as, typedef_item, typedef_types, typedef_named, typedefs_named, typedef_items, nothing_named, file_declared_at, file_declared}
-use Rattle.hs_declarations.specs.Fronts.{front, item_type, tag_alone, lone_tag, declares_any, place_of_start}
+use Rattle.hs_declarations.specs.Declarations.{is_object, can_start, is_first, object_started, started_as, object_with_start, may_be_tentative, keeps_linkage, file_object, with_inline_words, function_declared, file_entity, is_static, is_typedef_word, file_item_as, file_item, file_items, typedef_as, typedef_item, typedef_types, typedef_named, typedefs_named, typedef_items, nothing_named, file_declared_at, file_declared}
+use Rattle.hs_declarations.specs.Fronts.{front, item_type, tag_alone, lone_tag, declares_any, storage_place, place_of_start}
 use Rattle.hs_declarations.specs.declared.fronts.Front.{Front}
 use Rattle.hs_expressions.specs.Expressions.{first_place}
 use Rattle.hs_initialisers.specs.Initialisers.{initialised}
 use Rattle.hs_initialisers.specs.InlineWords.{inline_words}
 use Rattle.hs_linkage.specs.Externals.{newest_external, type_of_entity}
-use Rattle.hs_linkage.specs.Linkage.{agrees, agrees_with_all, may_name, new_object, new_function, new_entity, external_as, clash_of, compatible_externals, linked_as, composite_of, first_link, relinked, next_link, link_as, is_function, compatible_routines, noted, link, object_typed, renamed, linked, completed_link, define_object, with_type_id}
+use Rattle.hs_linkage.specs.Linkage.{agrees, agrees_if, agrees_with_all, declarations_of, type_seen, may_name, new_object, new_function, new_entity, external_as, clash_of, compatible_externals, linked_as, composite_of, first_link, relinked, next_link, link_as, is_function, compatible_routines, noted, link, object_typed, renamed, linked, completed_link, define_object, with_type_id}
 use Rattle.hs_linkage.specs.Works.{Work, work_with, ◌>>=◌, pass, stop, typing, with_typer, knowing, same_work, unless}
 use Rattle.hs_linkage.specs.declared.translator.Linked.{Linked}
 use Rattle.hs_linkage.specs.declared.translator.Translator.{Translator}
@@ -19,6 +19,7 @@ use Rattle.hs_syntax.specs.Trees.{Declaring, Declaration, Initialising, Specific
 use Rattle.hs_syntax.specs.declared.word.Word.{Word}
 use Rattle.hs_tokens.specs.declared.place.Place.{Place}
 use Rattle.hs_tree.specs.declared.constant.Part.{Part}
+use Rattle.hs_syntax.specs.declared.operators.Storage.{Storage}
 use Rattle.hs_tree.specs.declared.head.Variable.TheVariants as variable
 use Rattle.hs_typer.specs.Declarators.{declare, word_of}
 use Rattle.hs_typer.specs.Steps.{Step}
@@ -122,17 +123,18 @@ first_link_still false word id =
     (λ found. then_still (external_as word id found) (external_as_still word id found) (λ it. passes_still (linked_as false it))))
 
 -- the composite type
-relinked_still : (it : Linked) (id : TypeId) → Still (relinked it id)
-relinked_still it id =
-    knowing_still (λ m. Ok (linked_as it.internal (with_type_id (composite_of m.typer.types (type_of_entity it.entity) id) it.entity)))
+relinked_still : (word : Word) (id : TypeId) (it : Linked) → Still (relinked word id it)
+relinked_still word id it =
+    knowing_still (λ m. Ok (linked_as it.internal (with_type_id (composite_of m.typer.types (type_seen m word it.entity) id) it.entity)))
 
 -- and one more
 next_link_still : (static : Bool) (word : Word) (id : TypeId) (it : Linked) → Still (next_link static word id it)
 next_link_still static word id it =
     then_still (unless (Untyped word.place) (λ m. static && not it.internal)) (unless_still _ _)
-    (λ a. then_still (unless (clash_of word) (λ m. not (agrees m id (type_of_entity it.entity)))) (unless_still _ _)
-    (λ b. then_still (unless (clash_of word) (λ m. not it.internal && not (agrees_with_all m word.text id m.externals))) (unless_still _ _)
-    (λ c. relinked_still it id)))
+    (λ a. then_still (unless (clash_of word) (λ m. not (agrees_with_all m word.text id (declarations_of it.internal m)))) (unless_still _ _)
+    (λ b. then_still (unless (clash_of word) (λ m. not (agrees m id (type_of_entity it.entity)))) (unless_still _ _)
+    (λ c. then_still (unless (clash_of word) (λ m. not (agrees_if m id (type_seen m word it.entity)))) (unless_still _ _)
+    (λ d. relinked_still word id it))))
 
 -- by what the unit has declared
 link_as_still : (static : Bool) (word : Word) (id : TypeId) (it : Option Linked) → Still (link_as static word id it)
@@ -140,15 +142,15 @@ link_as_still static word id None = first_link_still static word id
 link_as_still static word id (Some it) = next_link_still static word id it
 
 -- which is known then
-noted_still : (word : Word) (it : Linked) → Still (noted word it)
-noted_still word it = record { from = λ m. (refl, refl) }
+noted_still : (word : Word) (id : TypeId) (it : Linked) → Still (noted word id it)
+noted_still word id it = record { from = λ m. (refl, refl) }
 
 -- the object or the function that a name refers to
 link_still : (static : Bool) (word : Word) (id : TypeId) → Still (link static word id)
 link_still static word id =
     then_still (knowing (λ m. Ok (find word.text m.links))) (knowing_still (λ m. Ok (find word.text m.links)))
     (λ found. then_still (link_as static word id found) (link_as_still static word id found)
-    (λ it. then_still (compatible_routines word id it) (unless_still _ _) (λ fits. noted_still word it)))
+    (λ it. then_still (compatible_routines word id it) (unless_still _ _) (λ fits. noted_still word id it)))
 
 -- the type of an object
 object_typed_still : (it : Entity) → Still (object_typed it)
@@ -179,26 +181,35 @@ define_object_still : (place : ℕ) (id : TypeId) (parts : List Part) → Still 
 define_object_still place id parts = record { from = λ m. (refl, refl) }
 
 -- the definition of an object
-object_started_still : (static : Bool) (word : Word) (id : TypeId) (it : Initialising) (place : Option ℕ) → Still (object_started static word id it place)
-object_started_still static word id it None = passes_still tt
-object_started_still static word id it (Some place) =
+object_started_still : (static : Bool) (word : Word) (it : Initialising) (place : ℕ) (id : TypeId) → Still (object_started static word it place id)
+object_started_still static word it place id =
     then_still (can_start word id) (unless_still _ _)
     (λ may. then_still (is_first word place) (unless_still _ _)
     (λ first. then_still (typing (initialised word.place id it)) (typing_still (initialised word.place id it))
     (λ its. then_still (completed_link static word its.0) (completed_link_still static word its.0)
     (λ again. define_object_still place its.0 its.1))))
 
+-- of what the declaration refers to
+started_as_still : (static : Bool) (word : Word) (it : Initialising) (its : Entity) → Still (started_as static word it its)
+started_as_still static word it (entity.Constant bits) = passes_still tt
+started_as_still static word it (entity.Variable (variable.Global place) id) = object_started_still static word it place id
+started_as_still static word it (entity.Variable (variable.Local place) id) = passes_still tt
+started_as_still static word it (entity.Function id its) = passes_still tt
+started_as_still static word it (entity.Typedef id) = passes_still tt
+
 -- if it has an initialiser
-with_start_still : (static : Bool) (word : Word) (id : TypeId) (it : Option Initialising) (its : Entity) → Still (object_with_start static word id it its)
-with_start_still static word id None its = passes_still tt
-with_start_still static word id (Some it) its = object_started_still static word id it (object_place its)
+with_start_still : (static : Bool) (word : Word) (it : Option Initialising) (its : Entity) → Still (object_with_start static word it its)
+with_start_still static word None its = passes_still tt
+with_start_still static word (Some it) its = started_as_still static word it its
 
 -- an object
-file_object_still : (static : Bool) (word : Word) (id : TypeId) (it : Option Initialising) → Still (file_object static word id it)
-file_object_still static word id it =
+file_object_still : (storage : Option Storage) (word : Word) (id : TypeId) (it : Option Initialising) → Still (file_object storage word id it)
+file_object_still storage word id it =
     then_still (is_object word id) (unless_still _ _)
-    (λ may. then_still (may_be_tentative static word id it) (unless_still _ _)
-    (λ whole. then_still (linked static word id) (linked_still static word id) (λ its. with_start_still static word id it its)))
+    (λ may. then_still (may_be_tentative (is_static storage) word id it) (unless_still _ _)
+    (λ whole. then_still (keeps_linkage storage word) (unless_still _ _)
+    (λ keeps. then_still (linked (is_static storage) word id) (linked_still (is_static storage) word id)
+    (λ its. with_start_still (is_static storage) word it its))))
 
 -- the words of an inline trap
 words_still : (it : Option Initialising) → Still (with_inline_words it)
@@ -210,27 +221,28 @@ function_declared_still : (static : Bool) (word : Word) (id : TypeId) (it : Opti
 function_declared_still static word id it = then_still (linked static word id) (linked_still static word id) (λ its. words_still it)
 
 -- by its type
-file_entity_still : (static : Bool) (word : Word) (id : TypeId) (it : Option Initialising) → Still (file_entity static word id it)
-file_entity_still static word id it =
-    either_still (λ m. is_function m.typer.types id) (function_declared static word id it) (file_object static word id it)
-    (function_declared_still static word id it) (file_object_still static word id it)
+file_entity_still : (storage : Option Storage) (word : Word) (id : TypeId) (it : Option Initialising) → Still (file_entity storage word id it)
+file_entity_still storage word id it =
+    either_still (λ m. is_function m.typer.types id) (function_declared (is_static storage) word id it) (file_object storage word id it)
+    (function_declared_still (is_static storage) word id it) (file_object_still storage word id it)
 
 -- a declarator names something
-file_item_as_still : (static : Bool) (at : Place) (word : Option Word) (id : TypeId) (it : Option Initialising) → Still (file_item_as static at word id it)
-file_item_as_still static at None id it = stops_still (Untyped at)
-file_item_as_still static at (Some word) id it = file_entity_still static word id it
+file_item_as_still : (storage : Option Storage) (at : Place) (word : Option Word) (id : TypeId) (it : Option Initialising)
+    → Still (file_item_as storage at word id it)
+file_item_as_still storage at None id it = stops_still (Untyped at)
+file_item_as_still storage at (Some word) id it = file_entity_still storage word id it
 
 -- one declarator
-file_item_still : (static : Bool) (at : Place) (base : TypeId) (it : Declaring) → Still (file_item static at base it)
-file_item_still static at base it =
+file_item_still : (storage : Option Storage) (at : Place) (base : TypeId) (it : Declaring) → Still (file_item storage at base it)
+file_item_still storage at base it =
     then_still (typing (item_type at base it.declarator)) (typing_still (item_type at base it.declarator))
-    (λ id. file_item_as_still static at (word_of it.declarator) id it.initialiser)
+    (λ id. file_item_as_still storage at (word_of it.declarator) id it.initialiser)
 
 -- all of a declaration
-file_items_still : (static : Bool) (at : Place) (base : TypeId) (its : List Declaring) → Still (file_items static at base its)
-file_items_still static at base [] = passes_still tt
-file_items_still static at base (it ∷ rest) =
-    then_still (file_item static at base it) (file_item_still static at base it) (λ done. file_items_still static at base rest)
+file_items_still : (storage : Option Storage) (at : Place) (base : TypeId) (its : List Declaring) → Still (file_items storage at base its)
+file_items_still storage at base [] = passes_still tt
+file_items_still storage at base (it ∷ rest) =
+    then_still (file_item storage at base it) (file_item_still storage at base it) (λ done. file_items_still storage at base rest)
 
 -- ---- typedef names
 
@@ -267,21 +279,23 @@ typedefs_named_still (it ∷ rest) (id ∷ ids) =
 -- ---- declarations
 
 -- specifiers without a declarator
-nothing_named_still : (at : Place) (its : Specification) (word : Option Word) → Still (nothing_named at its word)
-nothing_named_still at its None =
-    then_still (typing (front at its)) (typing_still (front at its)) (λ said. unless_still (Untyped at) (λ m. not (declares_any its)))
-nothing_named_still at its (Some word) = typing_still (tag_alone word)
+nothing_named_still : (inside : Bool) (at : Place) (its : Specification) (word : Option Word) → Still (nothing_named inside at its word)
+nothing_named_still inside at its None =
+    then_still (typing (front at its)) (typing_still (front at its))
+    (λ said. then_still (unless (Untyped (storage_place at its)) (λ m. inside && is_typedef_word said.storage)) (unless_still _ _)
+    (λ plain. unless_still (Untyped at) (λ m. not (declares_any its))))
+nothing_named_still inside at its (Some word) = typing_still (tag_alone word)
 
 -- by the storage word
 items_as_still : (b : Bool) (at : Place) (its : List Declaring) (said : Front)
-    → Still (if b then typedef_items at said.type_id its else file_items (is_static said.storage) at said.type_id its)
+    → Still (if b then typedef_items at said.type_id its else file_items said.storage at said.type_id its)
 items_as_still true at its said =
     then_still (typedef_types at said.type_id [] its) (typedef_types_still at said.type_id [] its) (λ ids. typedefs_named_still its ids)
-items_as_still false at its said = file_items_still (is_static said.storage) at said.type_id its
+items_as_still false at its said = file_items_still said.storage at said.type_id its
 
 -- with or without declarators
 file_declared_at_still : (at : Place) (words : Specification) (its : List Declaring) → Still (file_declared_at at words its)
-file_declared_at_still at words [] = nothing_named_still at words (lone_tag words)
+file_declared_at_still at words [] = nothing_named_still false at words (lone_tag words)
 file_declared_at_still at words (it ∷ rest) =
     then_still (typing (front at words)) (typing_still (front at words)) (λ said. items_as_still (is_typedef_word said.storage) at (it ∷ rest) said)
 

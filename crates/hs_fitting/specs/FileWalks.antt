@@ -4,9 +4,10 @@
 --     file_declared_walks             a declaration of file scope
 use Rattle.std.proofs.Common.{◌≡◌, ℕ, Bool, true, false, not, ◌&&◌, ◌||◌, List, [], ◌∷◌, ◌++◌, slice_get, Option, Some, None, is_none, refl, sym, ap, subst, ◌∙◌, if◌then◌else◌}
 use Rattle.std.specs.List.{AllByRecursion}
+use Rattle.hs_base.specs.Options.{some_same}
 use Rattle.hs_base.specs.Tests.{true_false, not_false}
 use Rattle.hs_base.specs.Entries.{all_appended}
-use Rattle.hs_declarations.specs.Declarations.{is_object, can_start, is_first, object_started, object_with_start, may_be_tentative, file_object, function_declared, file_entity, is_static, is_typedef_word, file_item_as, file_item, file_items, typedef_as, typedef_item, typedef_types, typedef_named, typedefs_named, typedef_items, file_items_as, file_declared_at, file_declared}
+use Rattle.hs_declarations.specs.Declarations.{is_object, can_start, is_first, object_started, started_as, object_with_start, may_be_tentative, is_internal_link, keeps_linkage, file_object, function_declared, file_entity, is_static, is_typedef_word, file_item_as, file_item, file_items, typedef_as, typedef_item, typedef_types, typedef_named, typedefs_named, typedef_items, file_items_as, file_declared_at, file_declared}
 use Rattle.hs_declarations.specs.Fronts.{front, item_type, lone_tag, place_of_start}
 use Rattle.hs_declarations.specs.declared.fronts.Front.{Front}
 use Rattle.hs_expressions.specs.Expressions.{first_place}
@@ -16,7 +17,7 @@ use Rattle.hs_fitting.specs.Claims.{Claims, RefersTo, Endures, Proceeds, categor
 use Rattle.hs_fitting.specs.Initialised.{initialised_walks}
 use Rattle.hs_fitting.specs.Known.{own_here, typing_fully, typing_walks}
 use Rattle.hs_fitting.specs.Lasting.{endures_moves}
-use Rattle.hs_fitting.specs.LinkedNames.{kept_walks, define_object_walks, named_walks, linked_walks, completed_link_walks}
+use Rattle.hs_fitting.specs.LinkedNames.{IsReferred, kept_walks, define_object_walks, named_walks, linked_walks, completed_link_walks}
 use Rattle.hs_fitting.specs.Moves.{Moves}
 use Rattle.hs_fitting.specs.Moving.{Moved}
 use Rattle.hs_fitting.specs.Noting.{Notes}
@@ -29,7 +30,7 @@ use Rattle.hs_fitting.specs.Walk.{Anywhere, Nothing, Walks, passes_walks, stops_
 use Rattle.hs_fitting.specs.Whole.{MayStart}
 use Rattle.hs_initialisers.specs.Initialisers.{initialised}
 use Rattle.hs_linkage.specs.Definitions.{has_static}
-use Rattle.hs_linkage.specs.Linkage.{with_type_id, is_function, linked, completed_link, clash_of}
+use Rattle.hs_linkage.specs.Linkage.{is_function, linked, completed_link, clash_of}
 use Rattle.hs_linkage.specs.Objects.{is_defined}
 use Rattle.hs_linkage.specs.Works.{Work, ◌>>=◌, typing}
 use Rattle.hs_linkage.specs.declared.translator.Translator.{Translator}
@@ -41,6 +42,8 @@ use Rattle.hs_tree.specs.Kinds.{of_function, category_of}
 use Rattle.hs_tree.specs.Objects.{FitsParts}
 use Rattle.hs_tree.specs.Trees.{TypedFunction, TypedProgram}
 use Rattle.hs_tree.specs.declared.constant.Part.{Part}
+use Rattle.hs_names.specs.Scopes.{find}
+use Rattle.hs_syntax.specs.declared.operators.Storage.{Storage}
 use Rattle.hs_tree.specs.declared.head.Variable.TheVariants as variable
 use Rattle.hs_typer.specs.Declarators.{word_of}
 use Rattle.hs_typer.specs.Steps.{Step}
@@ -68,6 +71,10 @@ IsStartedAt program place id parts its m = IsObjectAt program.types place id m �
 abbrev IsReady : TypedProgram → ℕ → TypeId → Claims → Translator → Type 0
 IsReady program place id its m =
     MayStart m.typer.types id × (IsObjectAt program.types place id m × IsNoFunction program.types id) × OwnId id its m
+
+-- An object that is linked, by its name: a declaration with a type that is no function type refers to it.
+abbrev IsObjectLinked : TypedProgram → TypeId → Entity → Claims → Translator → Type 0
+IsObjectLinked program id it its m = IsReferred program.types id it its m × IsNoFunction program.types id
 
 -- types of this unit
 abbrev AllOwn : List TypeId → Claims → Translator → Type 0
@@ -143,10 +150,10 @@ module _ {here : List ℕ → Bool} {program : TypedProgram} {function : TypedFu
       (completed_link_walks static word id inside))
 
   -- the whole definition
-  object_started_walks : (static : Bool) (word : Word) (id : TypeId) (it : Initialising) (place : ℕ) → (static ≡ true → here word.text ≡ true)
+  object_started_walks : (static : Bool) (word : Word) (it : Initialising) (place : ℕ) (id : TypeId) → (static ≡ true → here word.text ≡ true)
       → Walks here program function (λ its m. (IsObjectAt program.types place id m × IsNoFunction program.types id) × OwnId id its m)
-      (object_started static word id it (Some place)) Nothing (λ done. Unit {0})
-  object_started_walks static word id it place inside =
+      (object_started static word it place id) Nothing (λ done. Unit {0})
+  object_started_walks static word it place id inside =
       then_plain {after = λ its m done. IsReady program place id its m} (can_start word id)
       (unless_walks (Untyped word.place) (λ m. not (is_complete m.typer.types id || is_open m.typer.types id))
       (λ its m met failed. (not_false (is_complete m.typer.types id || is_open m.typer.types id) failed, met.0, met.1)))
@@ -158,73 +165,81 @@ module _ {here : List ℕ → Bool} {program : TypedProgram} {function : TypedFu
       (λ p. then_plain (completed_link static word p.0) (completed_walks static word p.0 p.1 place inside)
       (λ again. define_object_walks place p.0 p.1))))
 
-  -- the object that the name is linked to, if it has an initialiser
-  with_start_walks : (static : Bool) (word : Word) (id : TypeId) (it : Option Initialising) (entity : Entity)
+  -- the object that the name is linked to
+  started_as_walks : (static : Bool) (word : Word) (it : Initialising) (id : TypeId) (entity : Entity) → (static ≡ true → here word.text ≡ true)
+      → Walks here program function (λ its m. IsObjectLinked program id entity its m) (started_as static word it entity) Nothing (λ done. Unit {0})
+  started_as_walks static word it id (entity.Constant bits) inside = passes_walks tt (λ its m met. tt) tt
+  started_as_walks static word it id (entity.Variable (variable.Global place) old) inside =
+      so_walks (λ its m is.
+      let same : category_of program.types old ≡ category_of program.types id
+      = some_same (category_of program.types old) (category_of program.types id) (sym is.0.0 ∙ is.0.1) in
+      ((is.0.0, λ other. is.1 (sym same ∙ other)), is.0.3)) (λ its m done is. is) (λ done is. is)
+      (object_started_walks static word it place old inside)
+  started_as_walks static word it id (entity.Variable (variable.Local place) old) inside = passes_walks tt (λ its m met. tt) tt
+  started_as_walks static word it id (entity.Function old to) inside = passes_walks tt (λ its m met. tt) tt
+  started_as_walks static word it id (entity.Typedef old) inside = passes_walks tt (λ its m met. tt) tt
+
+  -- if it has an initialiser
+  with_start_walks : (static : Bool) (word : Word) (it : Option Initialising) (id : TypeId) (entity : Entity)
       → (static ≡ true → here word.text ≡ true)
-      → Walks here program function
-      (λ its m. (RefersTo program.types its m.objects (with_type_id id entity) × IsNoFunction program.types id) × OwnId id its m)
-      (object_with_start static word id it entity) Nothing (λ done. Unit {0})
-  with_start_walks static word id None its inside = passes_walks tt (λ its m met. tt) tt
-  with_start_walks static word id (Some it) (entity.Constant bits) inside = passes_walks tt (λ its m met. tt) tt
-  with_start_walks static word id (Some it) (entity.Variable (variable.Global place) old) inside =
-      object_started_walks static word id it place inside
-  with_start_walks static word id (Some it) (entity.Variable (variable.Local place) old) inside = passes_walks tt (λ its m met. tt) tt
-  with_start_walks static word id (Some it) (entity.Function old to) inside = passes_walks tt (λ its m met. tt) tt
-  with_start_walks static word id (Some it) (entity.Typedef old) inside = passes_walks tt (λ its m met. tt) tt
+      → Walks here program function (λ its m. IsObjectLinked program id entity its m) (object_with_start static word it entity) Nothing (λ done. Unit {0})
+  with_start_walks static word None id its inside = passes_walks tt (λ its m met. tt) tt
+  with_start_walks static word (Some it) id its inside = started_as_walks static word it id its inside
 
   -- its name
   object_linked_walks : (static : Bool) (word : Word) (id : TypeId) → (static ≡ true → here word.text ≡ true)
       → Walks here program function (λ its m. IsNoFunction program.types id × OwnId id its m) (linked static word id)
-      (λ its m it. (RefersTo program.types its m.objects (with_type_id id it) × IsNoFunction program.types id) × OwnId id its m) (λ it. Unit {0})
+      (λ its m it. IsObjectLinked program id it its m) (λ it. Unit {0})
   object_linked_walks static word id inside =
-      so_walks (λ its m is. ((λ other. is.0, is.1), is)) (λ its m it is. ((is.0.1, is.1.0), is.1.1)) (λ it is. is)
-      (kept_walks (λ its m. IsNoFunction program.types id × OwnId id its m)
-      (λ its later m n proceeds moves is. (is.0, own_kept program.types id its later m n proceeds moves is.1)) (linked_walks static word id inside))
+      so_walks (λ its m is. ((λ other. is.0, is.1), is.0)) (λ its m it is. is) (λ it is. is)
+      (kept_walks (λ its m. IsNoFunction program.types id) (λ its later m n proceeds moves is. is) (linked_walks static word id inside))
 
   -- an object of file scope
-  file_object_walks : (static : Bool) (word : Word) (id : TypeId) (it : Option Initialising)
-      → (static ≡ true → here word.text ≡ true)
-      → Walks here program function (λ its m. OwnId id its m) (file_object static word id it) Nothing (λ done. Unit {0})
-  file_object_walks static word id it inside =
+  file_object_walks : (storage : Option Storage) (word : Word) (id : TypeId) (it : Option Initialising)
+      → (is_static storage ≡ true → here word.text ≡ true)
+      → Walks here program function (λ its m. OwnId id its m) (file_object storage word id it) Nothing (λ done. Unit {0})
+  file_object_walks storage word id it inside =
       then_plain (is_object word id) (own_over id (object_walks {pre = Anywhere} word id))
-      (λ may. then_plain {after = λ its m done. IsNoFunction program.types id × OwnId id its m} (may_be_tentative static word id it)
-      (unless_walks (Untyped word.place) (λ m. static && is_none it && not (is_complete m.typer.types id)) (λ its m met failed. met))
-      (λ whole. then_plain (linked static word id) (object_linked_walks static word id inside)
-      (λ its. with_start_walks static word id it its inside)))
+      (λ may. then_plain {after = λ its m done. IsNoFunction program.types id × OwnId id its m} (may_be_tentative (is_static storage) word id it)
+      (unless_walks (Untyped word.place) (λ m. is_static storage && is_none it && not (is_complete m.typer.types id)) (λ its m met failed. met))
+      (λ whole. then_plain {after = λ its m done. IsNoFunction program.types id × OwnId id its m} (keeps_linkage storage word)
+      (unless_walks (Untyped word.place) (λ m. is_none storage && is_internal_link (find word.text m.links)) (λ its m met failed. met))
+      (λ keeps. then_plain (linked (is_static storage) word id) (object_linked_walks (is_static storage) word id inside)
+      (λ its. with_start_walks (is_static storage) word it id its inside))))
 
   -- ---- declarators
 
   -- by its type
-  file_entity_walks : (static : Bool) (word : Word) (id : TypeId) (it : Option Initialising) → (static ≡ true → here word.text ≡ true)
-      → Walks here program function (λ its m. OwnId id its m) (file_entity static word id it) Nothing (λ done. Unit {0})
-  file_entity_walks static word id it inside =
-      either_known_walks (λ m. is_function m.typer.types id) (function_declared static word id it) (file_object static word id it)
+  file_entity_walks : (storage : Option Storage) (word : Word) (id : TypeId) (it : Option Initialising) → (is_static storage ≡ true → here word.text ≡ true)
+      → Walks here program function (λ its m. OwnId id its m) (file_entity storage word id it) Nothing (λ done. Unit {0})
+  file_entity_walks storage word id it inside =
+      either_known_walks (λ m. is_function m.typer.types id) (function_declared (is_static storage) word id it) (file_object storage word id it)
       (so_walks (λ its m is. (λ other. absurd (true_false (is_function m.typer.types id) is.1 other), is.0)) (λ its m done is. is) (λ done is. is)
-      (function_declared_walks static word id it inside))
-      (so_walks (λ its m is. is.0) (λ its m done is. is) (λ done is. is) (file_object_walks static word id it inside))
+      (function_declared_walks (is_static storage) word id it inside))
+      (so_walks (λ its m is. is.0) (λ its m done is. is) (λ done is. is) (file_object_walks storage word id it inside))
 
   -- a declarator names something
-  file_item_as_walks : (static : Bool) (at : Place) (o : Option Word) (id : TypeId) (it : Option Initialising)
-      → (static ≡ true → (word : Word) → o ≡ Some word → here word.text ≡ true)
-      → Walks here program function (λ its m. OwnId id its m) (file_item_as static at o id it) Nothing (λ done. Unit {0})
-  file_item_as_walks static at None id it inside = stops_walks (Untyped at)
-  file_item_as_walks static at (Some word) id it inside = file_entity_walks static word id it (λ is. inside is word refl)
+  file_item_as_walks : (storage : Option Storage) (at : Place) (o : Option Word) (id : TypeId) (it : Option Initialising)
+      → (is_static storage ≡ true → (word : Word) → o ≡ Some word → here word.text ≡ true)
+      → Walks here program function (λ its m. OwnId id its m) (file_item_as storage at o id it) Nothing (λ done. Unit {0})
+  file_item_as_walks storage at None id it inside = stops_walks (Untyped at)
+  file_item_as_walks storage at (Some word) id it inside = file_entity_walks storage word id it (λ is. inside is word refl)
 
   -- one declarator
-  file_item_walks : (static : Bool) (at : Place) (base : TypeId) (it : Declaring)
-      → (static ≡ true → (word : Word) → word_of it.declarator ≡ Some word → here word.text ≡ true)
-      → Walks here program function (λ its m. OwnId base its m) (file_item static at base it) Nothing (λ done. Unit {0})
-  file_item_walks static at base it inside =
+  file_item_walks : (storage : Option Storage) (at : Place) (base : TypeId) (it : Declaring)
+      → (is_static storage ≡ true → (word : Word) → word_of it.declarator ≡ Some word → here word.text ≡ true)
+      → Walks here program function (λ its m. OwnId base its m) (file_item storage at base it) Nothing (λ done. Unit {0})
+  file_item_walks storage at base it inside =
       then_plain (typing (item_type at base it.declarator)) (item_own_walks at base it.declarator)
-      (λ id. file_item_as_walks static at (word_of it.declarator) id it.initialiser inside)
+      (λ id. file_item_as_walks storage at (word_of it.declarator) id it.initialiser inside)
 
   -- those of a declaration
-  file_items_walks : (static : Bool) (at : Place) (base : TypeId) (its : List Declaring) → (static ≡ true → AreHere here its)
-      → Walks here program function (λ its m. OwnId base its m) (file_items static at base its) Nothing (λ done. Unit {0})
-  file_items_walks static at base [] inside = passes_walks tt (λ its m met. tt) tt
-  file_items_walks static at base (it ∷ rest) inside =
-      then_plain (file_item static at base it) (own_through base (file_item_walks static at base it (λ is. (inside is).0)))
-      (λ done. file_items_walks static at base rest (λ is. (inside is).1))
+  file_items_walks : (storage : Option Storage) (at : Place) (base : TypeId) (its : List Declaring) → (is_static storage ≡ true → AreHere here its)
+      → Walks here program function (λ its m. OwnId base its m) (file_items storage at base its) Nothing (λ done. Unit {0})
+  file_items_walks storage at base [] inside = passes_walks tt (λ its m met. tt) tt
+  file_items_walks storage at base (it ∷ rest) inside =
+      then_plain (file_item storage at base it) (own_through base (file_item_walks storage at base it (λ is. (inside is).0)))
+      (λ done. file_items_walks storage at base rest (λ is. (inside is).1))
 
   -- ---- typedef names
 
@@ -280,12 +295,12 @@ module _ {here : List ℕ → Bool} {program : TypedProgram} {function : TypedFu
   -- by the storage word
   items_by_walks : (b : Bool) (at : Place) (its : List Declaring) (said : Front) → (is_static said.storage ≡ true → AreHere here its)
       → Walks here program function (λ its m. OwnId said.type_id its m)
-      (if b then typedef_items at said.type_id its else file_items (is_static said.storage) at said.type_id its) Nothing (λ done. Unit {0})
+      (if b then typedef_items at said.type_id its else file_items said.storage at said.type_id its) Nothing (λ done. Unit {0})
   items_by_walks true at its said inside =
       then_plain (typedef_types at said.type_id [] its)
       (so_walks (λ its m own. (own, tt)) (λ its m ids is. is) (λ ids is. is) (typedef_types_walks at said.type_id [] its))
       (λ ids. typedefs_named_walks its ids)
-  items_by_walks false at its said inside = file_items_walks (is_static said.storage) at said.type_id its inside
+  items_by_walks false at its said inside = file_items_walks said.storage at said.type_id its inside
 
   -- by what the specifiers say
   items_as_walks : (at : Place) (its : List Declaring) (said : Front) → (is_static said.storage ≡ true → AreHere here its)
@@ -326,7 +341,7 @@ module _ {here : List ℕ → Bool} {program : TypedProgram} {function : TypedFu
   file_declared_at_walks : (at : Place) (words : Specification) (its : List Declaring)
       → (has_static words ≡ true → AreHere here its)
       → Walks here program function Anywhere (file_declared_at at words its) Nothing (λ done. Unit {0})
-  file_declared_at_walks at words [] inside = nothing_named_walks at words (lone_tag words)
+  file_declared_at_walks at words [] inside = nothing_named_walks false at words (lone_tag words)
   file_declared_at_walks at words (it ∷ rest) inside =
       then_plain (typing (front at words)) (front_walks at words) (λ said. fronted_walks at words (it ∷ rest) said inside)
 

@@ -15,7 +15,7 @@ use Rattle.hs_fitting.specs.Making.{IsFunction, zero_right}
 use Rattle.hs_fitting.specs.Moves.{Moves}
 use Rattle.hs_fitting.specs.Moving.{Moving}
 use Rattle.hs_fitting.specs.Owned.{IsOwn}
-use Rattle.hs_fitting.specs.Owning.{IsOwnName}
+use Rattle.hs_fitting.specs.Owning.{IsOwnName, name_later}
 use Rattle.hs_fitting.specs.Setting.{defined_stay, defined_right}
 use Rattle.hs_fitting.specs.Walk.{Nothing, Walking, Walks, passes_walks, unless_walks, then_walks, so_walks}
 use Rattle.hs_linkage.specs.Externals.{newest_external}
@@ -138,9 +138,15 @@ module _ {here : List ℕ → Bool} {program : TypedProgram} {function : TypedFu
 
 -- ---- names with linkage
 
--- no typedef name
-abbrev pub IsPlainName : Entity → Type 0
-IsPlainName it = (base : ℕ) (types : TypeTable) → IsOwnName base types it
+-- of a type of this unit
+abbrev pub IsPlainName : Entity → Claims → Translator → Type 0
+IsPlainName it its m = IsOwnName its.base m.typer.types it
+
+-- which stays so
+plain_kept : (program : TypedProgram) (it : Entity) (its more : Claims) (m n : Translator) → Proceeds program.types its m more n → Moves m n
+    → IsPlainName it its m → IsPlainName it more n
+plain_kept program it its more m n proceeds moves is =
+    subst (λ base. IsOwnName base n.typer.types it) (sym proceeds.base) (name_later its.base m.typer.types n.typer.types moves.typer.types it is)
 
 -- of a type of this unit
 abbrev pub MayLink : TypedProgram → Claims → Translator → TypeId → Type 0
@@ -158,21 +164,21 @@ pub record IsLinkedTo (types : TypeTable) (here : List ℕ → Bool) (its : Clai
   pub external : linked.internal ≡ false → IsTrue (is_some (newest_external word.text m.externals))
   pub global : IsVariableIn types [] it
   pub kind : is_function m.typer.types id ≡ true → IsFunction it
-  pub plain : IsPlainName it
+  pub plain : IsPlainName it its m
 
 -- it and its name refer to what was claimed, and it is no automatic variable
-abbrev IsReferred : TypeTable → TypeId → Entity → Claims → Translator → Type 0
+abbrev pub IsReferred : TypeTable → TypeId → Entity → Claims → Translator → Type 0
 IsReferred types id it its m =
-    RefersTo types its m.objects it × RefersTo types its m.objects (with_type_id id it) × IsVariableIn types [] it × IsPlainName it
+    RefersTo types its m.objects it × RefersTo types its m.objects (with_type_id id it) × IsVariableIn types [] it × IsPlainName it its m
 
 -- which stays so
 referred_kept : (program : TypedProgram) (id : TypeId) (it : Entity) (its more : Claims) (m n : Translator) → Proceeds program.types its m more n
-    → IsReferred program.types id it its m → IsReferred program.types id it more n
-referred_kept program id it its more m n proceeds is = (
+    → Moves m n → IsReferred program.types id it its m → IsReferred program.types id it more n
+referred_kept program id it its more m n proceeds moves is = (
   refers_kept program it its more m n proceeds is.0,
   refers_kept program (with_type_id id it) its more m n proceeds is.1,
   is.2,
-  is.3,
+  plain_kept program it its more m n proceeds moves is.3,
 )
 
 -- of an answer of `link`
@@ -199,7 +205,7 @@ link_walked here program function static word id its m inside may stands (Ok p) 
         external = linking.external;
         global = linking_global program here its m.locals m word id p linking;
         kind = λ is. linking.kind (subst (λ known. is_function known.types id ≡ true) linking.typer is);
-        plain = linking.plain;
+        plain = subst (λ known. IsOwnName linking.claims.base known.types p.0) (sym linking.typer) linking.plain;
       };
       gives = λ continues. tt;
     }
@@ -216,7 +222,7 @@ module _ {here : List ℕ → Bool} {program : TypedProgram} {function : TypedFu
   referred_walks id it met walks =
       so_walks (λ its m is. (met its m is, is)) (λ its m done is. is.1) (λ done is. is)
       (kept_walks (λ its m. IsReferred program.types id it its m)
-      (λ its more m n proceeds moves is. referred_kept program id it its more m n proceeds is) walks)
+      (λ its more m n proceeds moves is. referred_kept program id it its more m n proceeds moves is) walks)
 
   -- the object or the function that a name refers to
   pub link_walks : (static : Bool) (word : Word) (id : TypeId) → (static ≡ true → here word.text ≡ true)
@@ -241,29 +247,25 @@ module _ {here : List ℕ → Bool} {program : TypedProgram} {function : TypedFu
       → Walks here program function (λ its m. IsReferred program.types id it its m) (typing (renamed word it))
       (λ its m done. IsReferred program.types id it its m) (λ done. Unit {0})
   again_walks word id it =
-      referred_walks id it (λ its m is. (is.0, global_in program.types m.locals it is.2, is.3 its.base m.typer.types)) (renamed_walks word it)
+      referred_walks id it (λ its m is. (is.0, global_in program.types m.locals it is.2, is.3)) (renamed_walks word it)
 
   -- a declaration with linkage
   pub linked_walks : (static : Bool) (word : Word) (id : TypeId) → (static ≡ true → here word.text ≡ true)
       → Walks here program function (λ its m. MayLink program its m id) (linked static word id)
-      (λ its m it.
-      RefersTo program.types its m.objects it × RefersTo program.types its m.objects (with_type_id id it) × IsVariableIn program.types [] it)
-      (λ it. Unit {0})
+      (λ its m it. IsReferred program.types id it its m) (λ it. Unit {0})
   linked_walks static word id inside =
       then_walks {after = λ its m done. MayLink program its m id} {holds = λ done. Unit {0}} (may_name word)
       (unless_walks (Untyped word.place) _ (λ its m may failed. may))
       (λ may. then_walks {holds = λ it. Unit {0}} (link static word id) (link_refers_walks static word id inside)
       (λ it. then_walks (object_typed it) (referred_walks id it (λ its m is. is.0) (object_typed_walks it))
       (λ done. then_walks (typing (renamed word it)) (again_walks word id it)
-      (λ named. passes_walks it (λ its m is. (is.0, is.1, is.2)) (λ a b c d. tt)))))
+      (λ named. passes_walks it (λ its m is. is) (λ a b c d. tt)))))
 
   -- after its initialiser
   pub completed_link_walks : (static : Bool) (word : Word) (id : TypeId) → (static ≡ true → here word.text ≡ true)
       → Walks here program function (λ its m. MayLink program its m id) (completed_link static word id)
-      (λ its m it.
-      RefersTo program.types its m.objects it × RefersTo program.types its m.objects (with_type_id id it) × IsVariableIn program.types [] it)
-      (λ it. Unit {0})
+      (λ its m it. IsReferred program.types id it its m) (λ it. Unit {0})
   completed_link_walks static word id inside =
       then_walks (link static word id) (link_refers_walks static word id inside)
       (λ it. then_walks (typing (renamed word it)) (again_walks word id it)
-      (λ named. passes_walks it (λ its m is. (is.0, is.1, is.2)) (λ a b. tt)))
+      (λ named. passes_walks it (λ its m is. is) (λ a b. tt)))

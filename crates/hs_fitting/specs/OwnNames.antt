@@ -1,5 +1,5 @@
 -- Tags and typedef names of this unit (X3.159-1989 3.5, and own).
---     IsOwnName base types it       a typedef name of this unit, or another name
+--     IsOwnName base types it       the name of a type, an object of static storage duration or a function is of this unit by its type
 --     OwnAt base s                  tags and typedef names are of this unit, and origins are as they should be
 --     own_after                     so it is after a step that declares constants alone
 --     then_owning                   steps, one after another
@@ -11,6 +11,7 @@ use Rattle.hs_expressions.specs.Laws.Always.{Reaching}
 use Rattle.hs_expressions.specs.Laws.Reached.{IsAllowedAt, Reaches, scoped_after}
 use Rattle.hs_expressions.specs.Laws.Traced.{IsTracedAt}
 use Rattle.hs_fitting.specs.Owned.{IsOwn, own_later}
+use Rattle.hs_tree.specs.declared.head.Variable.TheVariants as variable
 use Rattle.hs_typer.specs.Steps.{Step, then_with, kept}
 use Rattle.hs_typer.specs.declared.type_error.TypeError.{TypeError}
 use Rattle.hs_typer.specs.declared.typer.Entity.{Entity}
@@ -21,18 +22,20 @@ use Rattle.hs_types.specs.TypeTables.{TypeTable, Grows}
 use Rattle.hs_types.specs.declared.row.Row.{Row}
 
 module _ (base : ℕ) where
-  -- a typedef name of this unit, or another name
+  -- the name of a type, an object of static storage duration or a function is of this unit by its type
   abbrev pub IsOwnName : TypeTable → Entity → Type 0
   IsOwnName types (entity.Constant bits) = Unit {0}
-  IsOwnName types (entity.Variable its id) = Unit {0}
-  IsOwnName types (entity.Function id its) = Unit {0}
+  IsOwnName types (entity.Variable (variable.Global place) id) = IsOwn base types id
+  IsOwnName types (entity.Variable (variable.Local place) id) = Unit {0}
+  IsOwnName types (entity.Function id its) = IsOwn base types id
   IsOwnName types (entity.Typedef id) = IsOwn base types id
 
   -- as the table grows
   pub name_later : (old new : TypeTable) → Grows old new → (it : Entity) → IsOwnName old it → IsOwnName new it
   name_later old new grows (entity.Constant bits) is = tt
-  name_later old new grows (entity.Variable its id) is = tt
-  name_later old new grows (entity.Function id its) is = tt
+  name_later old new grows (entity.Variable (variable.Global place) id) is = own_later base old new grows id is
+  name_later old new grows (entity.Variable (variable.Local place) id) is = tt
+  name_later old new grows (entity.Function id its) is = own_later base old new grows id is
   name_later old new grows (entity.Typedef id) is = own_later base old new grows id is
 
   -- Tags and typedef names are of this unit; and the types with fixed numbers are there.
@@ -44,8 +47,8 @@ module _ (base : ℕ) where
   -- a constant is no typedef name
   constant_own : (types : TypeTable) (it : Entity) → IsConstant it → IsOwnName types it
   constant_own types (entity.Constant bits) is = tt
-  constant_own types (entity.Variable its id) is = tt
-  constant_own types (entity.Function id its) is = tt
+  constant_own types (entity.Variable its id) is = absurd is
+  constant_own types (entity.Function id its) is = absurd is
   constant_own types (entity.Typedef id) is = absurd is
 
   -- after a step that declares constants alone

@@ -102,6 +102,7 @@ ended_at m =
         origins = record m.typer.origins { unit = suc m.typer.origins.unit; times = [] };
       };
       links = record { declarations = []; level = 0 };
+      internals = [];
     }
 
 -- what is claimed there, where all structs are of earlier units

@@ -122,6 +122,7 @@ ended_passes : (m new : Translator) → Passes m new → Passes m (record new {
     origins = record new.typer.origins { unit = suc new.typer.origins.unit; times = [] };
   };
   links = record { declarations = []; level = 0 };
+  internals = [];
 })
 ended_passes m new passes =
     record {

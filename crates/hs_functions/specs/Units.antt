@@ -66,6 +66,7 @@ unit_ended m =
           origins = record m.typer.origins { unit = suc m.typer.origins.unit; times = [] };
         };
         links = record { declarations = []; level = 0 };
+        internals = [];
       },
     )
 

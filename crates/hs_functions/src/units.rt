@@ -9,7 +9,7 @@ ghost use Rattle.hs_tree.specs.Views.{view_function};
 use crate::functions::defined;
 use hs_base::NoMemory;
 use hs_declarations::file_declaration;
-use hs_linkage::{Translator, rechecked};
+use hs_linkage::{Externals, Translator, rechecked};
 use hs_names::Scopes;
 use hs_syntax::{Decl, External, Unit, first_of_specifiers};
 use hs_tokens::Place;
@@ -122,6 +122,7 @@ fn end_unit(alloc: Global, m: &mut Translator) -> Result<(), TypeError>
     m.typer.origins.times = Braces::new(alloc);
     m.typer.origins.unit = next_place(m.typer.origins.unit)?;
     m.links = Scopes::new(alloc);
+    m.internals = Externals::new(alloc);
     Ok(())
 }
 

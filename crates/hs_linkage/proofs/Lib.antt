@@ -3,4 +3,5 @@ mod Indexed
 mod KeptChains
 mod Marked
 mod Onward
+mod Refused
 mod Unfit

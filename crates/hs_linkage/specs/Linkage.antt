@@ -62,11 +62,25 @@ is_free None link = true
 is_free (Some it) None = false
 is_free (Some it) (Some link) = same_entity it link.entity
 
--- Such a name is no typedef name (own), and means nothing else in its scope (3.5).
+-- the name means that object or function where it stands
+abbrev pub sees : Option Entity → Entity → Bool
+sees None it = false
+sees (Some seen) it = same_entity seen it
+
+-- 3.1.2.2: a name with internal linkage, where another meaning hides it. A declaration there would give it external linkage.
+abbrev pub is_hidden : Option Entity → Option Linked → Bool
+is_hidden seen None = false
+is_hidden seen (Some link) = link.internal && not (sees seen link.entity)
+
+-- The name is a typedef name (own), means something else in its scope (3.5), or would get a second linkage in its unit (3.1.2.2).
+abbrev pub is_barred : Word → Translator → Bool
+is_barred word m =
+    is_typedef (find word.text m.typer.names) || not (is_free (find_here word.text m.typer.names) (find word.text m.links)) ||
+    is_hidden (find word.text m.typer.names) (find word.text m.links)
+
+-- A declaration with linkage may declare the name.
 abbrev pub may_name : Word → Work (Unit {0})
-may_name word =
-    unless (Untyped word.place)
-    (λ m. is_typedef (find word.text m.typer.names) || not (is_free (find_here word.text m.typer.names) (find word.text m.links)))
+may_name word = unless (Untyped word.place) (is_barred word)
 
 -- a function
 abbrev pub is_function : TypeTable → TypeId → Bool
@@ -137,18 +151,38 @@ abbrev pub composite_of : TypeTable → Option TypeId → TypeId → TypeId
 composite_of types None id = id
 composite_of types (Some old) id = composite types old id
 
--- the same object or function, declared once more
-abbrev pub relinked : Linked → TypeId → Work Linked
-relinked it id =
-    knowing (λ m. Ok (linked_as it.internal (with_type_id (composite_of m.typer.types (type_of_entity it.entity) id) it.entity)))
+-- the type of the declaration that is visible, if the name means that object or function where it stands
+abbrev pub seen_type : Option Entity → Entity → Option TypeId
+seen_type None it = None
+seen_type (Some seen) it = if same_entity seen it then type_of_entity seen else None
 
--- `static` after a declaration with external linkage is refused (own; 3.1.2.2 leaves it open)
+-- by what is known
+abbrev pub type_seen : Translator → Word → Entity → Option TypeId
+type_seen m word it = seen_type (find word.text m.typer.names) it
+
+-- compatible with that type, if there is one
+abbrev pub agrees_if : Translator → TypeId → Option TypeId → Bool
+agrees_if m id None = true
+agrees_if m id (Some old) = agrees m id (Some old)
+
+-- the declarations with that linkage: of all units, or of this one
+abbrev pub declarations_of : Bool → Translator → List External
+declarations_of internal m = if internal then m.internals else m.externals
+
+-- the same object or function, declared once more, of the composite type of the declarations that are visible here
+abbrev pub relinked : Word → TypeId → Linked → Work Linked
+relinked word id it =
+    knowing (λ m. Ok (linked_as it.internal (with_type_id (composite_of m.typer.types (type_seen m word it.entity) id) it.entity)))
+
+-- `static` after a declaration with external linkage is refused (own; 3.1.2.2 leaves it open). The type is compatible with that of each earlier
+-- declaration, and so with the composite types that they make.
 abbrev pub next_link : Bool → Word → TypeId → Linked → Work Linked
 next_link static word id it = do
   unless (Untyped word.place) (λ m. static && not it.internal)
+  unless (clash_of word) (λ m. not (agrees_with_all m word.text id (declarations_of it.internal m)))
   unless (clash_of word) (λ m. not (agrees m id (type_of_entity it.entity)))
-  unless (clash_of word) (λ m. not it.internal && not (agrees_with_all m word.text id m.externals))
-  relinked it id
+  unless (clash_of word) (λ m. not (agrees_if m id (type_seen m word it.entity)))
+  relinked word id it
 
 -- by what the unit has declared
 abbrev pub link_as : Bool → Word → TypeId → Option Linked → Work Linked
@@ -172,15 +206,20 @@ abbrev pub compatible_routines : Word → TypeId → Linked → Work (Unit {0})
 compatible_routines word id it =
     unless (clash_of word) (λ m. is_routine_entity it.entity && not (agrees_with_all m word.text id m.routines))
 
+-- one more declaration of an object or a function, with the type that the declaration gives it
+abbrev pub declared_as : Word → TypeId → Entity → Translator → List External → List External
+declared_as word id it m its = with_external word m.typer.origins.unit (with_type_id id it) its
+
 -- the declaration is known
-abbrev pub noted : Word → Linked → Work Entity
-noted word it m =
+abbrev pub noted : Word → TypeId → Linked → Work Entity
+noted word id it m =
     Ok (
       it.entity,
       record m {
         links = declared word.text it m.links;
-        externals = if it.internal then m.externals else with_external word m.typer.origins.unit it.entity m.externals;
-        routines = if is_routine_entity it.entity then with_external word m.typer.origins.unit it.entity m.routines else m.routines;
+        internals = if it.internal then declared_as word id it.entity m m.internals else m.internals;
+        externals = if it.internal then m.externals else declared_as word id it.entity m m.externals;
+        routines = if is_routine_entity it.entity then declared_as word id it.entity m m.routines else m.routines;
       },
     )
 
@@ -190,7 +229,7 @@ link static word id = do
   found ← knowing (λ m. Ok (find word.text m.links))
   it ← link_as static word id found
   compatible_routines word id it
-  noted word it
+  noted word id it
 
 -- if it is an object
 abbrev pub with_object_type : Entity → Translator → Translator

@@ -23,6 +23,7 @@ before_units table its =
       definitions = its;
       objects = [];
       links = record { declarations = []; level = 0 };
+      internals = [];
       externals = [];
       routines = [];
       locals = [];

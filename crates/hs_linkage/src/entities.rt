@@ -2,7 +2,7 @@
 
 ghost use Rattle.std.specs.Prelude.{◌≡◌};
 ghost use Rattle.hs_linkage.specs.Externals.{type_of_entity};
-ghost use Rattle.hs_linkage.specs.Linkage.{with_type_id, same_entity, is_free, is_routine_entity};
+ghost use Rattle.hs_linkage.specs.Linkage.{with_type_id, same_entity, is_free, sees, is_hidden, seen_type, is_routine_entity};
 ghost use Rattle.hs_typer.specs.Declarators.{is_typedef};
 
 use crate::translator::Linked;
@@ -59,6 +59,42 @@ pub(crate) fn is_free(here: Option<Entity>, link: Option<Linked>) -> bool
         (None, _) => true,
         (Some(_), None) => false,
         (Some(entity), Some(link)) => is_same(entity, link.entity),
+    }
+}
+
+/// Whether a name that means the first, if it means something, means that object or function.
+fn sees(seen: Option<Entity>, it: Entity) -> bool
+    ensures { result ≡ sees seen it }
+{
+    match seen {
+        Some(entity) => is_same(entity, it),
+        None => false,
+    }
+}
+
+/// Whether a name has internal linkage, and means something else where it stands.
+pub(crate) fn is_hidden(seen: Option<Entity>, link: Option<Linked>) -> bool
+    ensures { result ≡ is_hidden seen link }
+{
+    match link {
+        Some(link) => link.internal && !sees(seen, link.entity),
+        None => false,
+    }
+}
+
+/// The type of the visible declaration of that object or function, if the name means it where it stands.
+pub(crate) fn seen_type(seen: Option<Entity>, it: Entity) -> Option<TypeId>
+    ensures { result ≡ seen_type seen it }
+{
+    match seen {
+        Some(entity) => {
+            if is_same(entity, it) {
+                type_of(entity)
+            } else {
+                None
+            }
+        }
+        None => None,
     }
 }
 

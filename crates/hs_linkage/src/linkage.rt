@@ -2,11 +2,12 @@
 
 ghost use Rattle.std.specs.Prelude.{◌≡◌, IfOk};
 ghost use Rattle.hs_linkage.specs.Definitions.{first_place, same_name};
-ghost use Rattle.hs_linkage.specs.Linkage.{bound_to, new_object, new_function, new_entity, external_as, compatible_externals, clash_of, first_link, relinked, next_link, link_as, compatible_routines, noted, link};
+ghost use Rattle.hs_linkage.specs.Linkage.{bound_to, new_object, new_function, new_entity, external_as, compatible_externals, clash_of, declarations_of, first_link, next_link, link_as, compatible_routines, declared_as, noted, link};
 ghost use Rattle.hs_linkage.specs.Works.{Works};
 
-use crate::entities::{is_routine, type_of, with_type};
-use crate::questions::{agrees, composite_of, is_function};
+use crate::entities::{is_routine, seen_type, type_of, with_type};
+use crate::externals::Externals;
+use crate::questions::{agrees, agrees_if, composite_of, is_function};
 use crate::translator::{Linked, StaticObject, Translator};
 use hs_base::NoMemory;
 use hs_operand_types::Bound;
@@ -177,7 +178,14 @@ fn first_link(
     })
 }
 
-/// What one more declaration of a name in its unit refers to: the same, with the composite type.
+/// The declarations with that linkage: of all units, or of this one.
+fn declarations_of(m: &Translator, internal: bool) -> &Externals
+    ensures { result.now ≡ declarations_of internal m.now }
+{
+    if internal { &m.internals } else { &m.externals }
+}
+
+/// What one more declaration of a name in its unit refers to: the same, with the composite type of the declarations that are visible here.
 fn next_link(
     alloc: Global,
     m: &Translator,
@@ -191,14 +199,15 @@ fn next_link(
     if internal && !it.internal {
         return Err(TypeError::Untyped(word.place));
     }
-    let old = type_of(it.entity);
-    if !agrees(&m.typer.types, &m.typer.origins, id, old) {
+    let name = word.text.items();
+    let seen = seen_type(m.typer.names.find(name), it.entity);
+    if !declarations_of(m, it.internal).agree(&m.typer.types, &m.typer.origins, name, id)
+        || !agrees(&m.typer.types, &m.typer.origins, id, type_of(it.entity))
+        || !agrees_if(m, id, seen)
+    {
         return Err(clash(alloc, word)?);
     }
-    if !it.internal {
-        compatible_externals(alloc, m, word, id)?;
-    }
-    let entity = with_type(composite_of(&m.typer.types, old, id), it.entity);
+    let entity = with_type(composite_of(&m.typer.types, seen, id), it.entity);
     Ok(Linked {
         internal: it.internal,
         entity,
@@ -239,23 +248,33 @@ fn compatible_routines(
     Ok(())
 }
 
-/// The declaration is known: in its unit, to other units if its linkage is external, and of a routine.
-fn noted(alloc: Global, m: &mut Translator, word: &Word, it: Linked) -> Result<Entity, TypeError>
-    ensures { Works (λ it. it) m.new (noted word.now it m.old) result }
+/// The declaration is known: in its unit, to other units if its linkage is external, and of a routine. The type is that which the declaration
+/// gives.
+fn noted(
+    alloc: Global,
+    m: &mut Translator,
+    word: &Word,
+    id: TypeId,
+    it: Linked,
+) -> Result<Entity, TypeError>
+    ensures { Works (λ it. it) m.new (noted word.now id it m.old) result }
 {
     let unit = m.typer.origins.unit;
+    let declared = with_type(id, it.entity);
     m.links.declare(alloc, word.text.items(), it)?;
-    if !it.internal {
-        m.externals.note(alloc, word, unit, it.entity)?;
+    if it.internal {
+        m.internals.note(alloc, word, unit, declared)?;
+    } else {
+        m.externals.note(alloc, word, unit, declared)?;
     }
     if is_routine(it.entity) {
-        m.routines.note(alloc, word, unit, it.entity)?;
+        m.routines.note(alloc, word, unit, declared)?;
     }
     Ok(it.entity)
 }
 
 /// The object or the function that a declaration with linkage refers to. `internal` is whether it has the word `static`. Refused at the
-/// name, as a `Clash` if it does not fit another declaration of the name.
+/// name, as a `Clash` if its type is not compatible with that of each earlier declaration of that object or function.
 ///
 /// Example: `extern int x;` after `static int x;` refers to the same object.
 pub fn link(
@@ -270,5 +289,5 @@ pub fn link(
     let found = m.links.find(word.text.items());
     let it = link_as(alloc, m, internal, word, id, found)?;
     compatible_routines(alloc, m, word, id, it)?;
-    noted(alloc, m, word, it)
+    noted(alloc, m, word, id, it)
 }

@@ -5,7 +5,7 @@ ghost use Rattle.hs_linkage.specs.Linkage.{may_name, with_object_type, object_ty
 ghost use Rattle.hs_linkage.specs.Works.{Works};
 ghost use Rattle.hs_typer.specs.Steps.{Steps};
 
-use crate::entities::{is_free, is_typedef};
+use crate::entities::{is_free, is_hidden, is_typedef};
 use crate::externals::Externals;
 use crate::linkage::link;
 use crate::translator::Translator;
@@ -15,7 +15,8 @@ use hs_typer::{Entity, TypeError, Typer, copied};
 use hs_types::TypeId;
 use std::alloc::Global;
 
-/// Refuses a name that is a typedef name, or means something else in the innermost scope.
+/// Refuses a name that is a typedef name, that means something else in the innermost scope, or that has internal linkage and is hidden, so that
+/// it would get external linkage too.
 ///
 /// Example: `x` after `enum { x };`.
 pub fn may_name(m: &Translator, word: &Word) -> Result<(), TypeError>
@@ -26,6 +27,9 @@ pub fn may_name(m: &Translator, word: &Word) -> Result<(), TypeError>
         return Err(TypeError::Untyped(word.place));
     }
     if !is_free(m.typer.names.find_here(name), m.links.find(name)) {
+        return Err(TypeError::Untyped(word.place));
+    }
+    if is_hidden(m.typer.names.find(name), m.links.find(name)) {
         return Err(TypeError::Untyped(word.place));
     }
     Ok(())

@@ -2,10 +2,11 @@
 
 ghost use Rattle.std.specs.Prelude.{◌≡◌};
 ghost use Rattle.hs_linkage.specs.Externals.{agrees_in};
-ghost use Rattle.hs_linkage.specs.Linkage.{is_function, composite_of};
+ghost use Rattle.hs_linkage.specs.Linkage.{is_function, agrees_if, composite_of};
 ghost use Rattle.hs_operand_types.specs.Types.{designates, is_open};
 ghost use Rattle.hs_types.specs.TypeTables.{is_complete};
 
+use crate::translator::Translator;
 use hs_typer::{Origins, agree};
 use hs_types::{Row, TypeId, Types};
 
@@ -96,5 +97,15 @@ pub(crate) fn agrees(types: &Types, origins: &Origins, id: TypeId, old: Option<T
     match old {
         Some(old) => agree(types, origins, old, id),
         None => false,
+    }
+}
+
+/// Whether a type is compatible with another one, if that is there.
+pub(crate) fn agrees_if(m: &Translator, id: TypeId, old: Option<TypeId>) -> bool
+    ensures { result ≡ agrees_if m.now id old }
+{
+    match old {
+        Some(_) => agrees(&m.typer.types, &m.typer.origins, id, old),
+        None => true,
     }
 }

@@ -44,6 +44,8 @@ pub struct Translator {
     pub objects: Objects,
     /// What names with linkage refer to in this unit.
     pub links: Scopes<Linked>,
+    /// The declarations with internal linkage so far, in this unit.
+    pub internals: Externals,
     /// The declarations with external linkage so far, in all units.
     pub externals: Externals,
     /// The declarations of functions that are bound to a routine so far.
@@ -68,6 +70,7 @@ impl Translator {
             definitions,
             objects: Objects::new(alloc),
             links: Scopes::new(alloc),
+            internals: Externals::new(alloc),
             externals: Externals::new(alloc),
             routines: Externals::new(alloc),
             locals: Locals::new(alloc),

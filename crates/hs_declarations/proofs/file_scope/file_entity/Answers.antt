@@ -1,5 +1,5 @@
 use Rattle.std.proofs.Common.{rules, ◌≡◌, Bool, true, false, sym, subst, option_map, option_copied, if◌then◌else◌}
-use Rattle.hs_declarations.specs.Declarations.{function_declared, file_object}
+use Rattle.hs_declarations.specs.Declarations.{is_static, function_declared, file_object}
 use Rattle.hs_linkage.specs.Linkage.{is_function}
 use Rattle.hs_linkage.specs.Works.{Works}
 use Rattle.hs_syntax.specs.Views.{view_initialiser}
@@ -13,8 +13,8 @@ returns-then-is_function c =
     subst
     (λ (b : Bool). Works {A = Unit {0}} {B = Unit {0}} (λ it. it) c.function_declared.new.m
     (if b
-    then function_declared c.args.internal c.args.word.now c.args.id start c.args.m.now
-    else file_object c.args.internal c.args.word.now c.args.id start c.args.m.now) c.function_declared.result)
+    then function_declared (is_static c.args.storage) c.args.word.now c.args.id start c.args.m.now
+    else file_object c.args.storage c.args.word.now c.args.id start c.args.m.now) c.function_declared.result)
     (sym is) c.function_declared.ensures
 
 -- or an object
@@ -25,6 +25,6 @@ returns-else-is_function c =
     subst
     (λ (b : Bool). Works {A = Unit {0}} {B = Unit {0}} (λ it. it) c.file_object.new.m
     (if b
-    then function_declared c.args.internal c.args.word.now c.args.id start c.args.m.now
-    else file_object c.args.internal c.args.word.now c.args.id start c.args.m.now) c.file_object.result)
+    then function_declared (is_static c.args.storage) c.args.word.now c.args.id start c.args.m.now
+    else file_object c.args.storage c.args.word.now c.args.id start c.args.m.now) c.file_object.result)
     (sym is) c.file_object.ensures
