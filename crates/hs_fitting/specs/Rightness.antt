@@ -18,7 +18,8 @@ use Rattle.hs_operand_types.specs.declared.operand_end.OperandEnd.TheVariants as
 use Rattle.hs_syntax.specs.declared.word.Word.{Word}
 use Rattle.hs_table.specs.declared.routine.Routine.{Routine}
 use Rattle.hs_tokens.specs.declared.place.Place.{Place}
-use Rattle.hs_tree.specs.Kinds.{is_readable, element}
+use Rattle.hs_operand_types.specs.Types.{is_accessible}
+use Rattle.hs_tree.specs.Kinds.{element}
 use Rattle.hs_tree.specs.Trees as tree
 use Rattle.hs_tree.specs.Trees.{LeftValue, type_of_left, head_of_left}
 use Rattle.hs_typer.specs.Declarators.{is_function_row, is_array_row, added, untyped_end, derived_of, derived_from, formed_onto, formed, parameter_row, parameter_of, parameter_type, listed_onto, listed}
@@ -390,7 +391,7 @@ lifted_rights types (Err why) rights = tt
 loaded_as_rights : (types : TypeTable) (it : LeftValue) (o : Option TypeId) → Righting types (loaded_as types it o)
 loaded_as_rights types it (Some of) = right_row (row.Pointer of) types tt tt
 loaded_as_rights types it None =
-    tested_rights (is_readable types (type_of_left it)) types (Ok (tree.load (head_of_left it) it, types))
+    tested_rights (is_accessible types (type_of_left it)) types (Ok (tree.load (head_of_left it) it, types))
     (Err (operand_end.Untyped (head_of_left it).at)) (right_self types) tt
 
 -- the value of an operand

@@ -14,7 +14,7 @@ use Rattle.hs_operand_types.specs.Operands as operand
 use Rattle.hs_operand_types.specs.Operands.{TypedOperand}
 use Rattle.hs_operands.specs.Operators.{with_number, with_numbers, unary_of, arithmetic_in, is_shift, arithmetic_of, comparison_in, comparison_of, not_of, and_of, or_of}
 use Rattle.hs_operands.specs.Pointers.{are_numbers, stepped, plus_of, apart, difference_by, minus_of, may_be_compared, is_equality, is_nil_test, nil_test, compared}
-use Rattle.hs_operand_types.specs.Types.{are_compatible}
+use Rattle.hs_operand_types.specs.Types.{are_compatible, is_accessible}
 use Rattle.hs_operand_types.specs.declared.operand_end.OperandEnd.{OperandEnd}
 use Rattle.hs_tokens.specs.declared.place.Place.{Place}
 use Rattle.hs_tree.specs.Kinds.{number_kind, is_number, is_pointer, is_scalar, is_readable, is_void, pointed, size_at}
@@ -26,7 +26,7 @@ use Rattle.hs_tree.specs.declared.operators.Comparison.{Comparison}
 use Rattle.hs_tree.specs.declared.operators.Unary.{Unary}
 use Rattle.hs_types.specs.Integers.{promoted, common}
 use Rattle.hs_types.specs.Rows.{integer_id}
-use Rattle.hs_types.specs.TypeTables.{TypeTable, layout_of}
+use Rattle.hs_types.specs.TypeTables.{TypeTable, layout_of, is_complete}
 use Rattle.hs_types.specs.declared.integer.Integer.{Integer}
 use Rattle.hs_types.specs.declared.integer.Integer.TheVariants as kind
 use Rattle.hs_types.specs.declared.layout.Layout.{Layout}
@@ -168,7 +168,7 @@ module _ (types : TypeTable) where
 
   pub assign_wide : (at : Place) (it : LeftValue) (e : RightValue) → MakesWide (assign_of types at it e)
   assign_wide at it e =
-      whichever MakesWide (is_readable types (type_of_left it))
+      whichever MakesWide (is_accessible types (type_of_left it))
       (gives_then HasWideKinds (assigned types at (type_of_left it) e)
       (λ converted. Ok (tree.assign (head_at at (type_of_left it)) it converted))
       (λ converted given. gives HasWideKinds (tree.assign (head_at at (type_of_left it)) it converted) tt)) (refuses HasWideKinds at)
@@ -187,7 +187,9 @@ module _ (types : TypeTable) where
   update_by_wide None (Some its) at op it e = advance_wide (direction op) (size_at types (pointed types (type_of_left it))) at it e
 
   pub update_wide : (at : Place) (op : Arithmetic) (it : LeftValue) (e : RightValue) → MakesWide (update_of types at op it e)
-  update_wide at op it e = update_by_wide (number_kind types (type_of_left it)) (number_kind types (type_of e)) at op it e
+  update_wide at op it e =
+      whichever MakesWide (is_accessible types (type_of_left it))
+      (update_by_wide (number_kind types (type_of_left it)) (number_kind types (type_of e)) at op it e) (refuses HasWideKinds at)
 
   post_advance_wide : (way : Option Bool) (o : Option ℕ) (at : Place) (it : LeftValue) → MakesWide (post_advance_by at way o it)
   post_advance_wide None o at it = refuses HasWideKinds at
@@ -200,12 +202,14 @@ module _ (types : TypeTable) where
   post_by_wide None at op it = post_advance_wide (direction op) (size_at types (pointed types (type_of_left it))) at it
 
   pub post_wide : (at : Place) (op : Arithmetic) (it : LeftValue) → MakesWide (post_update_of types at op it)
-  post_wide at op it = post_by_wide (number_kind types (type_of_left it)) at op it
+  post_wide at op it =
+      whichever MakesWide (is_accessible types (type_of_left it)) (post_by_wide (number_kind types (type_of_left it)) at op it)
+      (refuses HasWideKinds at)
 
   pub cast_wide : (at : Place) (id : TypeId) (e : RightValue) → HasWideKinds e → MakesWide (cast_of types at id e)
   cast_wide at id e is =
       whichever MakesWide (is_void types id) (gives HasWideKinds (tree.cast (head_at at id) e) is)
-      (whichever MakesWide (is_scalar types id)
+      (whichever MakesWide (is_scalar types id && is_complete types id)
       (gives_then HasWideKinds (assigned types at id e) (λ converted. Ok (tree.cast (head_at at id) converted))
       (λ converted given. gives HasWideKinds (tree.cast (head_at at id) converted) (assigned_wide at id e is converted given)))
       (refuses HasWideKinds at))

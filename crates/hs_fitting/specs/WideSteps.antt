@@ -19,7 +19,8 @@ use Rattle.hs_operand_types.specs.declared.operand_end.OperandEnd.{OperandEnd}
 use Rattle.hs_operand_types.specs.declared.operand_end.OperandEnd.TheVariants.{Untyped}
 use Rattle.hs_syntax.specs.declared.word.Word.{Word}
 use Rattle.hs_tokens.specs.declared.place.Place.{Place}
-use Rattle.hs_tree.specs.Kinds.{element, is_readable}
+use Rattle.hs_operand_types.specs.Types.{is_accessible}
+use Rattle.hs_tree.specs.Kinds.{element}
 use Rattle.hs_tree.specs.Trees as tree
 use Rattle.hs_tree.specs.Trees.{RightValue, LeftValue, type_of_left, head_of_left}
 use Rattle.hs_typer.specs.Primaries.{named_as, number_of, number_as, character_as, character_of, string_in, string_as}
@@ -103,7 +104,7 @@ object_given (Err why) = tt
 -- the value of an operand
 loaded_as_wide : (s : Typer) (it : LeftValue) (o : Option TypeId) → Giving HasWideKinds (with_types s (lifted (loaded_as s.types it o)))
 loaded_as_wide s it (Some of) = tt
-loaded_as_wide s it None = by (is_readable s.types (type_of_left it))
+loaded_as_wide s it None = by (is_accessible s.types (type_of_left it))
   where
     by : (b : Bool)
         → Giving HasWideKinds (with_types s (lifted (if b then Ok (tree.load (head_of_left it) it, s.types) else Err (Untyped (head_of_left it).at))))

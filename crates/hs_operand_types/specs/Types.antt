@@ -1,10 +1,12 @@
 -- What types operators ask for, beside `Kinds.antt` of hs_tree.
 --     designates types id              an object can be of the type, or will be once it is complete (X3.159-1989 3.3.3.2)
+--     is_accessible types id           the value of an object of the type can be read and written (3.2.2.1)
 --     are_compatible types a b         the types are compatible (3.1.2.6)
-use Rattle.std.specs.Prelude.{ℕ, zero, suc, ◌==◌, Bool, true, false, ◌||◌, Option, Some, None, if◌then◌else◌}
+use Rattle.std.specs.Prelude.{ℕ, zero, suc, ◌==◌, Bool, true, false, ◌&&◌, ◌||◌, Option, Some, None, if◌then◌else◌}
 use Rattle.hs_operand_types.specs.Conversions.{same_type}
 use Rattle.hs_operand_types.specs.declared.types.Inside.{Inside}
-use Rattle.hs_types.specs.TypeTables.{TypeTable, row_of}
+use Rattle.hs_tree.specs.Kinds.{is_readable}
+use Rattle.hs_types.specs.TypeTables.{TypeTable, row_of, is_complete}
 use Rattle.hs_types.specs.declared.integer.Integer.{Integer}
 use Rattle.hs_types.specs.declared.integer.Integer.TheVariants as kind
 use Rattle.hs_types.specs.declared.row.Row.{Row}
@@ -26,6 +28,10 @@ designates_row (Some (row.Function result parameters)) = false
 -- by its number
 abbrev pub designates : TypeTable → TypeId → Bool
 designates types id = designates_row (row_of types id)
+
+-- A scalar, or a struct, and complete. An enumeration is incomplete until its closing brace (3.5.2.3).
+abbrev pub is_accessible : TypeTable → TypeId → Bool
+is_accessible types id = is_readable types id && is_complete types id
 
 -- an array whose length is not known
 abbrev pub is_open_row : Option Row → Bool

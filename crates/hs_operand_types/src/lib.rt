@@ -13,6 +13,6 @@ pub use laws::constants_are_folded;
 pub use operand::{Bound, Designator, Operand};
 pub use operand_end::OperandEnd;
 pub use types::{
-    are_compatible, designates, element, is_open, is_pointer, is_readable, is_scalar, is_void,
-    number_kind, pointed,
+    are_compatible, designates, element, is_accessible, is_complete, is_open, is_pointer,
+    is_readable, is_scalar, is_void, number_kind, pointed,
 };

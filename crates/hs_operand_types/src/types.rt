@@ -1,8 +1,9 @@
 //! Questions about types (X3.159-1989 3.1.2.5 and 3.1.2.6).
 
 ghost use Rattle.std.specs.Prelude.{◌≡◌};
-ghost use Rattle.hs_operand_types.specs.Types.{designates, is_open, are_int, inside_both, are_compatible};
+ghost use Rattle.hs_operand_types.specs.Types.{designates, is_accessible, is_open, are_int, inside_both, are_compatible};
 ghost use Rattle.hs_tree.specs.Kinds.{number_kind, pointed, element, is_pointer, is_scalar, is_void, is_readable};
+ghost use Rattle.hs_types.specs.TypeTables.{is_complete};
 
 use hs_types::{Integer, Row, TypeId, Types};
 
@@ -109,6 +110,24 @@ pub fn is_readable(types: &Types, id: TypeId) -> bool
             false
         }
     }
+}
+
+/// Whether the type is complete (3.1.2.5), so that its objects have a size.
+///
+/// Example: `true` for `int [3]`, and `false` for `int []` and for an enumeration before its closing brace.
+pub fn is_complete(types: &Types, id: TypeId) -> bool
+    ensures { result ≡ is_complete types.now id }
+{
+    types.layout(id).is_some()
+}
+
+/// Whether the value of an object of the type can be read and written (3.2.2.1): a scalar or a struct, and complete.
+///
+/// Example: `false` for an array, and for an enumeration before its closing brace.
+pub fn is_accessible(types: &Types, id: TypeId) -> bool
+    ensures { result ≡ is_accessible types.now id }
+{
+    is_readable(types, id) && is_complete(types, id)
 }
 
 /// Whether an object can be of the type, or will be once the type is complete.

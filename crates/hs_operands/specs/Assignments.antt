@@ -13,7 +13,7 @@ use Rattle.hs_operand_types.specs.Answers.{◌>>=◌}
 use Rattle.hs_operand_types.specs.Constants.{is_null_constant}
 use Rattle.hs_operand_types.specs.Conversions.{head_at, same_type, as_kind, truth}
 use Rattle.hs_operands.specs.Operators.{is_shift}
-use Rattle.hs_operand_types.specs.Types.{are_compatible, is_open}
+use Rattle.hs_operand_types.specs.Types.{are_compatible, is_accessible, is_open}
 use Rattle.hs_operand_types.specs.declared.operand_end.OperandEnd.{OperandEnd}
 use Rattle.hs_operand_types.specs.declared.operand_end.OperandEnd.TheVariants.{Untyped}
 use Rattle.hs_tree.specs.Kinds.{number_kind, is_number, is_pointer, is_scalar, is_readable, is_void, pointed, size_at}
@@ -24,7 +24,7 @@ use Rattle.hs_tree.specs.declared.operators.Arithmetic.{Arithmetic}
 use Rattle.hs_tree.specs.declared.operators.Arithmetic.TheVariants as arithmetic
 use Rattle.hs_types.specs.Integers.{promoted, common}
 use Rattle.hs_types.specs.Rows.{integer_id}
-use Rattle.hs_types.specs.TypeTables.{TypeTable, row_of}
+use Rattle.hs_types.specs.TypeTables.{TypeTable, row_of, is_complete}
 use Rattle.hs_types.specs.declared.integer.Integer.{Integer}
 use Rattle.hs_types.specs.declared.integer.Integer.TheVariants as kind
 use Rattle.hs_types.specs.declared.row.ListId.{ListId}
@@ -57,7 +57,7 @@ assigned types at id e =
 -- 3.3.16.1
 abbrev pub assign_of : TypeTable → Place → LeftValue → RightValue → Result RightValue OperandEnd
 assign_of types at it e =
-    if is_readable types (type_of_left it)
+    if is_accessible types (type_of_left it)
     then (do
       converted ← assigned types at (type_of_left it) e
       Ok (tree.assign (head_at at (type_of_left it)) it converted))
@@ -98,7 +98,10 @@ update_by types at op None (Some its) it e = advance_by at (direction op) (size_
 
 -- by the types of both
 abbrev pub update_of : TypeTable → Place → Arithmetic → LeftValue → RightValue → Result RightValue OperandEnd
-update_of types at op it e = update_by types at op (number_kind types (type_of_left it)) (number_kind types (type_of e)) it e
+update_of types at op it e =
+    if is_accessible types (type_of_left it)
+    then update_by types at op (number_kind types (type_of_left it)) (number_kind types (type_of e)) it e
+    else Err (Untyped at)
 
 -- `++l` is `l += 1` (3.3.3.1)
 abbrev pub one : Place → RightValue
@@ -118,14 +121,15 @@ post_update_by types at op None it = post_advance_by at (direction op) (size_at 
 
 -- by its type
 abbrev pub post_update_of : TypeTable → Place → Arithmetic → LeftValue → Result RightValue OperandEnd
-post_update_of types at op it = post_update_by types at op (number_kind types (type_of_left it)) it
+post_update_of types at op it =
+    if is_accessible types (type_of_left it) then post_update_by types at op (number_kind types (type_of_left it)) it else Err (Untyped at)
 
--- 3.3.4: to void anything, and otherwise a scalar to a scalar type. Between a number and a pointer only a null pointer constant is
--- converted (own).
+-- 3.3.4: to void anything, and otherwise a scalar to a scalar type, which is complete. Between a number and a pointer only a null
+-- pointer constant is converted (own).
 abbrev pub cast_of : TypeTable → Place → TypeId → RightValue → Result RightValue OperandEnd
 cast_of types at id e =
     if is_void types id then Ok (tree.cast (head_at at id) e)
-    else if is_scalar types id
+    else if is_scalar types id && is_complete types id
     then (do
       converted ← assigned types at id e
       Ok (tree.cast (head_at at id) converted))

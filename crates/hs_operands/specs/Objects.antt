@@ -11,12 +11,12 @@ use Rattle.hs_tokens.specs.declared.place.Place.{Place}
 use Rattle.hs_operand_types.specs.Conversions.{head_at}
 use Rattle.hs_operand_types.specs.Operands as operand
 use Rattle.hs_operand_types.specs.Operands.{TypedOperand}
-use Rattle.hs_operand_types.specs.Types.{designates}
+use Rattle.hs_operand_types.specs.Types.{designates, is_accessible}
 use Rattle.hs_operands.specs.declared.objects.Found.{Found}
 use Rattle.hs_operands.specs.declared.spacing.Spacing.{Spacing}
 use Rattle.hs_operand_types.specs.declared.operand_end.OperandEnd.{OperandEnd}
 use Rattle.hs_operand_types.specs.declared.operand_end.OperandEnd.TheVariants.{Untyped}
-use Rattle.hs_tree.specs.Kinds.{is_number, is_readable, pointed, element}
+use Rattle.hs_tree.specs.Kinds.{is_number, pointed, element}
 use Rattle.hs_tree.specs.Trees as tree
 use Rattle.hs_tree.specs.Trees.{RightValue, LeftValue, type_of, type_of_left, head_of_left}
 use Rattle.hs_types.specs.Members.{field_place}
@@ -35,7 +35,7 @@ abbrev pub loaded_as : TypeTable → LeftValue → Option TypeId → Result (Rig
 loaded_as types it (Some of) =
     Ok (tree.decay (head_at (head_of_left it).at (id_of (row.Pointer of) types)) it, with_row (row.Pointer of) types)
 loaded_as types it None =
-    if is_readable types (type_of_left it) then Ok (tree.load (head_of_left it) it, types) else Err (Untyped (head_of_left it).at)
+    if is_accessible types (type_of_left it) then Ok (tree.load (head_of_left it) it, types) else Err (Untyped (head_of_left it).at)
 
 -- A function is not a value (own).
 abbrev pub loaded : TypeTable → TypedOperand → Result (RightValue × TypeTable) OperandEnd

@@ -12,7 +12,8 @@ use crate::conversions::as_kind;
 use crate::operators::int_head;
 use hs_base::NoMemory;
 use hs_operand_types::{
-    OperandEnd, is_null_constant, is_pointer, is_readable, is_scalar, is_void, number_kind, pointed,
+    OperandEnd, is_accessible, is_complete, is_null_constant, is_pointer, is_readable, is_scalar,
+    is_void, number_kind, pointed,
 };
 use hs_tokens::Place;
 use hs_tree::{Arithmetic, Head, Lvalue, Rvalue, Stride};
@@ -102,7 +103,7 @@ pub fn assign(
     ensures { Gives (λ it. view_right it.value) (assign_of types.now at (view_left target.value) (view_right value.value)) result }
 {
     let type_id = target.head().type_id;
-    if !is_readable(types, type_id) {
+    if !is_accessible(types, type_id) {
         return Err(OperandEnd::Untyped(at));
     }
     let value = assigned(alloc, types, at, type_id, value)?;
@@ -128,10 +129,14 @@ pub fn update(
 ) -> Result<Box<Rvalue>, OperandEnd>
     ensures { Gives (λ it. view_right it.value) (update_of types.now at operator (view_left target.value) (view_right value.value)) result }
 {
+    let type_id = target.head().type_id;
+    if !is_accessible(types, type_id) {
+        return Err(OperandEnd::Untyped(at));
+    }
     let Some(kind) = number_kind(types, value.head().type_id) else {
         return Err(OperandEnd::Untyped(at));
     };
-    match number_kind(types, target.head().type_id) {
+    match number_kind(types, type_id) {
         Some(to) => Ok(update_with(alloc, at, operator, to, kind, target, value)?),
         None => advance(alloc, types, at, operator, target, value),
     }
@@ -252,6 +257,9 @@ pub fn post_update(
     ensures { Gives (λ it. view_right it.value) (post_update_of types.now at operator (view_left target.value)) result }
 {
     let type_id = target.head().type_id;
+    if !is_accessible(types, type_id) {
+        return Err(OperandEnd::Untyped(at));
+    }
     let Some(to) = number_kind(types, type_id) else {
         return post_advance(alloc, types, at, operator, target);
     };
@@ -294,8 +302,8 @@ fn post_advance(
     Ok(Box::new(alloc, made)?)
 }
 
-/// `(type)e` (3.3.4): anything to `void`, and otherwise a scalar to a scalar type. Between numbers and pointers only a null pointer
-/// constant is converted (own).
+/// `(type)e` (3.3.4): anything to `void`, and otherwise a scalar to a scalar type, which is complete. Between numbers and pointers
+/// only a null pointer constant is converted (own).
 pub fn cast(
     alloc: Global,
     types: &Types,
@@ -309,7 +317,7 @@ pub fn cast(
     if is_void(types, id) {
         return Ok(Box::new(alloc, Rvalue::Cast { head, operand })?);
     }
-    if !is_scalar(types, id) {
+    if !(is_scalar(types, id) && is_complete(types, id)) {
         return Err(OperandEnd::Untyped(at));
     }
     let operand = assigned(alloc, types, at, id, operand)?;

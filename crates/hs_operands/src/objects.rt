@@ -11,7 +11,7 @@ ghost use Rattle.hs_tree.specs.Views.{view_right, view_left};
 
 use crate::spacing::spacing_of;
 use hs_base::NoMemory;
-use hs_operand_types::{Operand, OperandEnd, designates, element, is_readable, pointed};
+use hs_operand_types::{Operand, OperandEnd, designates, element, is_accessible, pointed};
 use hs_tokens::Place;
 use hs_tree::{Head, Lvalue, Rvalue};
 use hs_types::{FieldId, Fields, Integer, Row, TypeId, Types};
@@ -53,7 +53,7 @@ fn loaded_object(
             },
         )?);
     }
-    if !is_readable(types, head.type_id) {
+    if !is_accessible(types, head.type_id) {
         return Err(OperandEnd::Untyped(head.at));
     }
     Ok(Box::new(alloc, Rvalue::Load { head, object })?)

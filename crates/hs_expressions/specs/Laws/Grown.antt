@@ -17,7 +17,8 @@ use Rattle.hs_operand_types.specs.declared.operand_end.OperandEnd.{OperandEnd}
 use Rattle.hs_operand_types.specs.declared.operand_end.OperandEnd.TheVariants as operand_end
 use Rattle.hs_syntax.specs.declared.word.Word.{Word}
 use Rattle.hs_tokens.specs.declared.place.Place.{Place}
-use Rattle.hs_tree.specs.Kinds.{is_readable, element}
+use Rattle.hs_operand_types.specs.Types.{is_accessible}
+use Rattle.hs_tree.specs.Kinds.{element}
 use Rattle.hs_tree.specs.Trees as tree
 use Rattle.hs_tree.specs.Trees.{LeftValue, type_of_left, head_of_left}
 use Rattle.hs_types.specs.Growing.{grows_self, grows_then}
@@ -191,7 +192,7 @@ lifted_grows types (Err why) grows = tt
 loaded_as_grows : (types : TypeTable) (it : LeftValue) (o : Option TypeId) → Growing types (loaded_as types it o)
 loaded_as_grows types it (Some of) = plain_row (row.Pointer of) types
 loaded_as_grows types it None =
-    tested (is_readable types (type_of_left it)) types (Ok (tree.load (head_of_left it) it, types))
+    tested (is_accessible types (type_of_left it)) types (Ok (tree.load (head_of_left it) it, types))
     (Err (operand_end.Untyped (head_of_left it).at)) (plain_self types) tt
 
 pub loaded_grows : (types : TypeTable) (it : TypedOperand) → Growing types (loaded types it)

@@ -1,10 +1,12 @@
 -- Conversions as by assignment, assignments and casts are well typed.
 use Rattle.std.proofs.Common.{◌≡◌, ℕ, Bool, true, false, ◌&&◌, Option, Some, None, Ok, Err, refl, sym, subst, if◌then◌else◌}
+use Rattle.hs_base.specs.Tests.{whichever}
 use Rattle.hs_tokens.specs.declared.place.Place.{Place}
 use Rattle.hs_operand_types.specs.Answers.{◌>>=◌}
 use Rattle.hs_operands.specs.Assignments.{assigned_pointer, assigned_number, assigned, assign_of, update_with, direction, advance_by, update_by, update_of, post_advance_by, post_update_by, post_update_of, cast_of}
 use Rattle.hs_operand_types.specs.Constants.{is_null_constant}
 use Rattle.hs_operand_types.specs.Conversions.{head_at, same_type, as_kind}
+use Rattle.hs_operand_types.specs.Types.{is_accessible}
 use Rattle.hs_operands.specs.Laws.{IsTyped, IsTypedObject, MakesTyped, MakesOfType}
 use Rattle.hs_operands.specs.Operators.{is_shift}
 use Rattle.hs_operand_types.specs.declared.operand_end.OperandEnd.TheVariants.{Untyped}
@@ -16,7 +18,7 @@ use Rattle.hs_tree.specs.Trees as tree
 use Rattle.hs_tree.specs.Trees.{RightValue, LeftValue, TypedFunction, TypedProgram, type_of, type_of_left}
 use Rattle.hs_tree.specs.declared.operators.Arithmetic.{Arithmetic}
 use Rattle.hs_types.specs.Integers.{promoted, common}
-use Rattle.hs_types.specs.TypeTables.{TypeTable, IsRight, Grows}
+use Rattle.hs_types.specs.TypeTables.{TypeTable, is_complete, IsRight, Grows}
 use Rattle.hs_types.specs.declared.integer.Integer.{Integer}
 use Rattle.hs_types.specs.declared.integer.Integer.TheVariants as kind
 use Rattle.hs_types.specs.declared.row.TypeId.{TypeId}
@@ -74,12 +76,14 @@ module _ (program : TypedProgram) (function : TypedFunction) (types : TypeTable)
   pub assign-typed : (at : Place) (it : LeftValue) (e : RightValue) → IsTypedObject program function it → IsTyped program function e
       → MakesTyped program function (assign_of types at it e)
   assign-typed at it e object typed =
-      either_way (MakesTyped program function) (is_readable types (type_of_left it))
+      either_way (MakesTyped program function) (is_accessible types (type_of_left it))
       (assigned types at (type_of_left it) e >>= (λ converted. Ok (tree.assign (head_at at (type_of_left it)) it converted))) (Err (Untyped at))
-      (λ readable. gives_then (IsTyped program function) (assigned types at (type_of_left it) e)
+      (λ accessible. gives_then (IsTyped program function) (assigned types at (type_of_left it) e)
       (λ converted. Ok (tree.assign (head_at at (type_of_left it)) it converted))
       (λ converted given.
       let is : IsOfType (type_of_left it) converted = assigned-typed at (type_of_left it) e typed converted given in
+      let readable : is_readable types (type_of_left it) ≡ true
+      = first-of (is_readable types (type_of_left it)) (is_complete types (type_of_left it)) accessible in
       gives (IsTyped program function) (tree.assign (head_at at (type_of_left it)) it converted)
       (((is_readable-stays types program.types grows (type_of_left it) readable, is.1), refl, tt), object, is.0)))
       (λ other. refuses (IsTyped program function) at)
@@ -149,7 +153,9 @@ module _ (program : TypedProgram) (function : TypedFunction) (types : TypeTable)
   pub update-typed : (at : Place) (op : Arithmetic) (it : LeftValue) (e : RightValue) → IsTypedObject program function it
       → IsTyped program function e → MakesTyped program function (update_of types at op it e)
   update-typed at op it e object typed =
-      update_by-typed (number_kind types (type_of_left it)) (number_kind types (type_of e)) at op it e object typed refl refl
+      whichever (MakesTyped program function) (is_accessible types (type_of_left it))
+      (update_by-typed (number_kind types (type_of_left it)) (number_kind types (type_of e)) at op it e object typed refl refl)
+      (refuses (IsTyped program function) at)
 
   -- the same without a right operand
   post_advance_by-typed : (way : Option Bool) (o : Option ℕ) (at : Place) (it : LeftValue) → IsTypedObject program function it
@@ -171,25 +177,29 @@ module _ (program : TypedProgram) (function : TypedFunction) (types : TypeTable)
   -- `l++` and `l--`
   pub post_update-typed : (at : Place) (op : Arithmetic) (it : LeftValue) → IsTypedObject program function it
       → MakesTyped program function (post_update_of types at op it)
-  post_update-typed at op it object = post_update_by-typed (number_kind types (type_of_left it)) at op it object refl
+  post_update-typed at op it object =
+      whichever (MakesTyped program function) (is_accessible types (type_of_left it))
+      (post_update_by-typed (number_kind types (type_of_left it)) at op it object refl) (refuses (IsTyped program function) at)
 
   -- `(type)e`
   pub cast-typed : (at : Place) (id : TypeId) (e : RightValue) → IsTyped program function e → MakesTyped program function (cast_of types at id e)
   cast-typed at id e typed =
       either_way (MakesTyped program function) (is_void types id) (Ok (tree.cast (head_at at id) e))
-      (if is_scalar types id then assigned types at id e >>= (λ converted. Ok (tree.cast (head_at at id) converted)) else Err (Untyped at))
+      (if is_scalar types id && is_complete types id
+      then assigned types at id e >>= (λ converted. Ok (tree.cast (head_at at id) converted))
+      else Err (Untyped at))
       (λ void. gives (IsTyped program function) (tree.cast (head_at at id) e) (
         (void-or_not id void (IsScalar program.types (type_of e)), void-or_not id void (id ≡ type_of e), tt),
         typed,
       ))
-      (λ other. either_way (MakesTyped program function) (is_scalar types id)
+      (λ other. either_way (MakesTyped program function) (is_scalar types id && is_complete types id)
       (assigned types at id e >>= (λ converted. Ok (tree.cast (head_at at id) converted))) (Err (Untyped at))
-      (λ scalar. gives_then (IsTyped program function) (assigned types at id e) (λ converted. Ok (tree.cast (head_at at id) converted))
+      (λ both. gives_then (IsTyped program function) (assigned types at id e) (λ converted. Ok (tree.cast (head_at at id) converted))
       (λ converted given.
       let is : IsOfType id converted = assigned-typed at id e typed converted given in
       gives (IsTyped program function) (tree.cast (head_at at id) converted) (
         (
-          λ some. subst (IsScalar program.types) (sym is.1) (is_scalar-stays types program.types grows id scalar),
+          λ some. subst (IsScalar program.types) (sym is.1) (is_scalar-stays types program.types grows id (first-of (is_scalar types id) (is_complete types id) both)),
           λ some. sym is.1,
           tt,
         ),

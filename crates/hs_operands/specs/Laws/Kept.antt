@@ -17,7 +17,7 @@ use Rattle.hs_operand_types.specs.Operands as operand
 use Rattle.hs_operand_types.specs.Operands.{TypedOperand}
 use Rattle.hs_operands.specs.Operators.{with_number, with_numbers, unary_of, arithmetic_in, is_shift, arithmetic_of, comparison_in, comparison_of, not_of, and_of, or_of}
 use Rattle.hs_operands.specs.Pointers.{are_numbers, stepped, plus_of, apart, difference_by, minus_of, may_be_compared, is_equality, is_nil_test, nil_test, compared}
-use Rattle.hs_operand_types.specs.Types.{designates, are_compatible, is_open}
+use Rattle.hs_operand_types.specs.Types.{designates, are_compatible, is_accessible, is_open}
 use Rattle.hs_operands.specs.declared.objects.Found.{Found}
 use Rattle.hs_operand_types.specs.declared.operand_end.OperandEnd.{OperandEnd}
 use Rattle.hs_operands.specs.declared.spacing.Spacing.{Spacing}
@@ -33,7 +33,7 @@ use Rattle.hs_tree.specs.declared.operators.Comparison.{Comparison}
 use Rattle.hs_tree.specs.declared.operators.Unary.{Unary}
 use Rattle.hs_types.specs.Integers.{promoted, common}
 use Rattle.hs_types.specs.Rows.{integer_id}
-use Rattle.hs_types.specs.TypeTables.{TypeTable, layout_of, with_row, id_of}
+use Rattle.hs_types.specs.TypeTables.{TypeTable, layout_of, is_complete, with_row, id_of}
 use Rattle.hs_types.specs.declared.integer.Integer.{Integer}
 use Rattle.hs_types.specs.declared.integer.Integer.TheVariants as kind
 use Rattle.hs_types.specs.declared.layout.Layout.{Layout}
@@ -255,7 +255,7 @@ module _ (holds : Node → Type 0) (plain : (node : Node) → IsPlain node → h
 
     pub assign_kept : (at : Place) (it : LeftValue) (e : RightValue) → IsKeptObject it → IsKept e → MakesKept (assign_of types at it e)
     assign_kept at it e is is' =
-        whichever MakesKept (is_readable types (type_of_left it))
+        whichever MakesKept (is_accessible types (type_of_left it))
         (gives_then IsKept (assigned types at (type_of_left it) e)
         (λ converted. Ok (tree.assign (head_at at (type_of_left it)) it converted))
         (λ converted given. gives IsKept (tree.assign (head_at at (type_of_left it)) it converted)
@@ -285,7 +285,8 @@ module _ (holds : Node → Type 0) (plain : (node : Node) → IsPlain node → h
     pub update_kept : (at : Place) (op : Arithmetic) (it : LeftValue) (e : RightValue) → IsKeptObject it → IsKept e
         → MakesKept (update_of types at op it e)
     update_kept at op it e is is' =
-        update_by_kept (number_kind types (type_of_left it)) (number_kind types (type_of e)) at op it e is is'
+        whichever MakesKept (is_accessible types (type_of_left it))
+        (update_by_kept (number_kind types (type_of_left it)) (number_kind types (type_of e)) at op it e is is') (refuses IsKept at)
 
     post_advance_kept : (way : Option Bool) (o : Option ℕ) (at : Place) (it : LeftValue) → IsKeptObject it
         → MakesKept (post_advance_by at way o it)
@@ -301,12 +302,14 @@ module _ (holds : Node → Type 0) (plain : (node : Node) → IsPlain node → h
     post_by_kept None at op it is = post_advance_kept (direction op) (size_at types (pointed types (type_of_left it))) at it is
 
     pub post_kept : (at : Place) (op : Arithmetic) (it : LeftValue) → IsKeptObject it → MakesKept (post_update_of types at op it)
-    post_kept at op it is = post_by_kept (number_kind types (type_of_left it)) at op it is
+    post_kept at op it is =
+        whichever MakesKept (is_accessible types (type_of_left it)) (post_by_kept (number_kind types (type_of_left it)) at op it is)
+        (refuses IsKept at)
 
     pub cast_kept : (at : Place) (id : TypeId) (e : RightValue) → IsKept e → MakesKept (cast_of types at id e)
     cast_kept at id e is =
         whichever MakesKept (is_void types id) (gives IsKept (tree.cast (head_at at id) e) (plain _ tt, is))
-        (whichever MakesKept (is_scalar types id)
+        (whichever MakesKept (is_scalar types id && is_complete types id)
         (gives_then IsKept (assigned types at id e) (λ converted. Ok (tree.cast (head_at at id) converted))
         (λ converted given. gives IsKept (tree.cast (head_at at id) converted)
         (plain _ tt, (assigned_kept at id e is converted given).0))) (refuses IsKept at))
@@ -368,7 +371,7 @@ module _ (holds : Node → Type 0) (plain : (node : Node) → IsPlain node → h
         gives (λ p. IsKept p.0)
         (tree.decay (head_at (head_of_left it).at (id_of (row.Pointer of) types)) it, with_row (row.Pointer of) types) (plain _ tt, is)
     loaded_as_kept None it is =
-        whichever (Makes (λ p. IsKept p.0)) (is_readable types (type_of_left it))
+        whichever (Makes (λ p. IsKept p.0)) (is_accessible types (type_of_left it))
         (gives (λ p. IsKept p.0) (tree.load (head_of_left it) it, types) (plain _ tt, is))
         (refuses (λ p. IsKept p.0) (head_of_left it).at)
 

@@ -1,5 +1,5 @@
 -- The objects that operators designate are well typed, and so are their values, their addresses and their sizes.
-use Rattle.std.proofs.Common.{◌≡◌, ℕ, List, Option, Some, None, Ok, Err, refl, ap, sym, subst, ◌∙◌}
+use Rattle.std.proofs.Common.{◌≡◌, ℕ, true, List, Option, Some, None, Ok, Err, refl, ap, sym, subst, ◌∙◌}
 use Rattle.std.specs.Prelude.{slice_get, is_some}
 use Rattle.hs_tokens.specs.declared.place.Place.{Place}
 use Rattle.hs_operand_types.specs.Conversions.{head_at}
@@ -7,11 +7,12 @@ use Rattle.hs_operands.specs.Laws.{IsTyped, IsTypedObject, IsTypedOperand, Makes
 use Rattle.hs_operands.specs.Objects.{loaded_as, loaded, target_at, target_of, spacing, element_by, element_of, found_field, found_place, found_in, found_of_row, found_at, member_by, member_of, found_behind, arrow_by, arrow_of, address_of, size_by, size_number}
 use Rattle.hs_operand_types.specs.Operands as operand
 use Rattle.hs_operand_types.specs.Operands.{TypedOperand}
-use Rattle.hs_operand_types.specs.Types.{designates}
+use Rattle.hs_operand_types.specs.Types.{designates, is_accessible}
 use Rattle.hs_operands.specs.declared.objects.Found.{Found}
 use Rattle.hs_operand_types.specs.declared.operand_end.OperandEnd.TheVariants.{Untyped}
 use Rattle.hs_operands.specs.declared.spacing.Spacing.{Spacing}
 use Rattle.hs_operands.specs.Laws.Added.{row_found}
+use Rattle.hs_operands.specs.Laws.AssignedTyped.{first-of}
 use Rattle.hs_operands.specs.Laws.Made.{Makes, gives, refuses, either_way}
 use Rattle.hs_operands.specs.Laws.Numbers.{integer_number}
 use Rattle.hs_operands.specs.Laws.PointersTyped.{Steps, AreSpaced, spaced}
@@ -23,7 +24,7 @@ use Rattle.hs_tree.specs.Trees as tree
 use Rattle.hs_tree.specs.Trees.{RightValue, LeftValue, TypedFunction, TypedProgram, type_of, type_of_left, head_of_left}
 use Rattle.hs_types.specs.Members.{field_place}
 use Rattle.hs_types.specs.Rows.{integer_id}
-use Rattle.hs_types.specs.TypeTables.{TypeTable, row_of, layout_of, body_of, with_row, id_of, IsRight, Grows}
+use Rattle.hs_types.specs.TypeTables.{TypeTable, row_of, layout_of, is_complete, body_of, with_row, id_of, IsRight, Grows}
 use Rattle.hs_types.specs.declared.body.Body.{Body}
 use Rattle.hs_types.specs.declared.body.Field.{Field}
 use Rattle.hs_types.specs.declared.integer.Integer.TheVariants as kind
@@ -191,10 +192,14 @@ module _ (program : TypedProgram) (function : TypedFunction) (types : TypeTable)
       gives IsLoaded (tree.decay (head_at (head_of_left it).at (id_of (row.Pointer of) types)) it, with_row (row.Pointer of) types)
       (λ added. ((ap is_some stays, pointer_added of added ∙ sym stays, tt), typed))
   loaded_as-typed None it typed known =
-      either_way (Makes IsLoaded) (is_readable types (type_of_left it)) (Ok (tree.load (head_of_left it) it, types))
+      either_way (Makes IsLoaded) (is_accessible types (type_of_left it)) (Ok (tree.load (head_of_left it) it, types))
       (Err (Untyped (head_of_left it).at))
-      (λ readable. gives IsLoaded (tree.load (head_of_left it) it, types)
-      (λ same. ((is_readable-stays types program.types grows (type_of_left it) readable, refl, tt), typed))) (λ other. refuses IsLoaded (head_of_left it).at)
+      (λ accessible. gives IsLoaded (tree.load (head_of_left it) it, types)
+      (λ same.
+      let readable : is_readable types (type_of_left it) ≡ true
+      = first-of (is_readable types (type_of_left it)) (is_complete types (type_of_left it)) accessible in
+      ((is_readable-stays types program.types grows (type_of_left it) readable, refl, tt), typed)))
+      (λ other. refuses IsLoaded (head_of_left it).at)
 
   loaded_or_not : (it : TypedOperand) → IsTypedOperand program function it → Makes IsLoaded (loaded types it)
   loaded_or_not (operand.value e) typed = gives IsLoaded (e, types) (λ same. typed)
