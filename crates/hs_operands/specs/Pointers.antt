@@ -2,7 +2,7 @@
 --     plus_of types at a b               `a + b`
 --     minus_of types at a b              `a - b`
 --     compared types at op a b           `a < b`, `a == b` and the others
-use Rattle.std.specs.Prelude.{◌==◌, Bool, true, false, ◌&&◌, ◌||◌, Option, Some, None, Result, Ok, Err, if◌then◌else◌}
+use Rattle.std.specs.Prelude.{◌==◌, Bool, true, false, ◌&&◌, ◌||◌, not, Option, Some, None, Result, Ok, Err, if◌then◌else◌}
 use Rattle.hs_tokens.specs.declared.place.Place.{Place}
 use Rattle.hs_operand_types.specs.Constants.{is_null_constant}
 use Rattle.hs_operand_types.specs.Conversions.{head_at}
@@ -19,7 +19,7 @@ use Rattle.hs_tree.specs.declared.operators.Arithmetic.TheVariants as arithmetic
 use Rattle.hs_tree.specs.declared.operators.Comparison.{Comparison}
 use Rattle.hs_tree.specs.declared.operators.Comparison.TheVariants as comparison
 use Rattle.hs_types.specs.Rows.{integer_id}
-use Rattle.hs_types.specs.TypeTables.{TypeTable, layout_of}
+use Rattle.hs_types.specs.TypeTables.{TypeTable, layout_of, is_complete}
 use Rattle.hs_types.specs.declared.integer.Integer.TheVariants as kind
 use Rattle.hs_types.specs.declared.layout.Layout.{Layout}
 use Rattle.hs_types.specs.declared.row.TypeId.{TypeId}
@@ -79,12 +79,24 @@ is_equal comparison.GreaterEqual = false
 is_equal comparison.Equal = true
 is_equal comparison.NotEqual = false
 
--- 3.3.9: a pointer to void can be tested for equality with any pointer
+-- 3.3.9: pointers to compatible types can be tested for equality, and a pointer to void with any pointer
+abbrev pub may_be_equal : TypeTable → TypeId → TypeId → Bool
+may_be_equal types first second = are_compatible types first second || is_void types first || is_void types second
+
+-- 3.1.2.5: both types are complete, or both are incomplete
+abbrev pub are_equally_complete : TypeTable → TypeId → TypeId → Bool
+are_equally_complete types first second = if is_complete types first then is_complete types second else not (is_complete types second)
+
+-- 3.3.8: pointers have an order if they point to compatible object types, or to compatible incomplete types
+abbrev pub have_order : TypeTable → TypeId → TypeId → Bool
+have_order types first second = are_compatible types first second && are_equally_complete types first second
+
+-- two pointers, by what they point to
 abbrev pub may_be_compared : TypeTable → Bool → Option TypeId → Option TypeId → Bool
 may_be_compared types equality None second = false
 may_be_compared types equality (Some first) None = false
 may_be_compared types equality (Some first) (Some second) =
-    are_compatible types first second || (equality && (is_void types first || is_void types second))
+    if equality then may_be_equal types first second else have_order types first second
 
 -- two pointers
 abbrev pub pointers_compared : TypeTable → Place → Comparison → RightValue → RightValue → Result RightValue OperandEnd

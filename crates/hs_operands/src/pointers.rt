@@ -2,7 +2,7 @@
 
 ghost use Rattle.std.specs.Prelude.{◌≡◌};
 ghost use Rattle.hs_operand_types.specs.Answers.{Gives};
-ghost use Rattle.hs_operands.specs.Pointers.{are_numbers, plus_of, minus_of, difference_by, is_equality, is_equal, may_be_compared, is_nil_test, pointers_compared, compared, stepped};
+ghost use Rattle.hs_operands.specs.Pointers.{are_numbers, plus_of, minus_of, difference_by, is_equality, is_equal, may_be_equal, are_equally_complete, have_order, may_be_compared, is_nil_test, pointers_compared, compared, stepped};
 ghost use Rattle.hs_operands.specs.Objects.{spacing};
 ghost use Rattle.hs_tree.specs.Kinds.{pointed};
 ghost use Rattle.hs_tree.specs.Trees.{type_of};
@@ -11,7 +11,8 @@ ghost use Rattle.hs_tree.specs.Views.{view_right};
 use crate::operators::{arithmetic, comparison, int_head};
 use crate::spacing::spacing_of;
 use hs_operand_types::{
-    OperandEnd, are_compatible, is_null_constant, is_pointer, is_void, number_kind, pointed,
+    OperandEnd, are_compatible, is_complete, is_null_constant, is_pointer, is_void, number_kind,
+    pointed,
 };
 use hs_tokens::Place;
 use hs_tree::{Arithmetic, Comparison, Head, Rvalue, Stride};
@@ -164,6 +165,32 @@ fn is_equal(operator: Comparison) -> bool
     }
 }
 
+/// Whether pointers to these types can be tested for equality (3.3.9): the types are compatible, or one is `void`.
+fn may_be_equal(types: &Types, first: TypeId, second: TypeId) -> bool
+    ensures { result ≡ may_be_equal types.now first second }
+{
+    are_compatible(types, first, second) || is_void(types, first) || is_void(types, second)
+}
+
+/// Whether both types are complete, or both are incomplete.
+fn are_equally_complete(types: &Types, first: TypeId, second: TypeId) -> bool
+    ensures { result ≡ are_equally_complete types.now first second }
+{
+    let complete = is_complete(types, second);
+    if is_complete(types, first) {
+        complete
+    } else {
+        !complete
+    }
+}
+
+/// Whether pointers to these types have an order (3.3.8): the types are compatible, and both are object types or both incomplete.
+fn have_order(types: &Types, first: TypeId, second: TypeId) -> bool
+    ensures { result ≡ have_order types.now first second }
+{
+    are_compatible(types, first, second) && are_equally_complete(types, first, second)
+}
+
 /// Whether two pointers may be compared: in order, or for equality.
 fn may_be_compared(types: &Types, equality: bool, left: TypeId, right: TypeId) -> bool
     ensures { result ≡ may_be_compared types.now equality (pointed types.now left) (pointed types.now right) }
@@ -174,8 +201,11 @@ fn may_be_compared(types: &Types, equality: bool, left: TypeId, right: TypeId) -
     let Some(second) = pointed(types, right) else {
         return false;
     };
-    are_compatible(types, first, second)
-        || (equality && (is_void(types, first) || is_void(types, second)))
+    if equality {
+        may_be_equal(types, first, second)
+    } else {
+        have_order(types, first, second)
+    }
 }
 
 /// Whether a comparison is one of a pointer with a null pointer constant, which is the second.
@@ -213,7 +243,7 @@ fn pointers_compared(
 }
 
 /// `a < b`, `a == b` and the other comparisons (3.3.8 and 3.3.9): of two numbers, of a pointer and a null pointer constant on either
-/// side, or of two pointers.
+/// side, or of two pointers. An order asks for pointers to two object types or to two incomplete types.
 ///
 /// Example: `p == (void *)0` is a test whether `p` is the null pointer.
 pub fn compared(
