@@ -141,13 +141,27 @@ agree_by types o objects _ _ = objects
 abbrev pub agree : TypeTable → Origins → TypeId → TypeId → Bool
 agree types o a b = agree_by types o (objects_agree types o a b) (row_of types a) (row_of types b)
 
--- Two bodies at one brace have the same members: the same names, and compatible types.
+-- One type has an int where the other has an enumeration, down to so many types inside.
+abbrev pub mix_int_within : ℕ → TypeTable → TypeId → TypeId → Bool
+mix_int_within zero types a b = false
+mix_int_within (suc more) types a b =
+    are_int (row_of types a) (row_of types b) || both_are (mix_int_within more types) (inside_both (row_of types a) (row_of types b))
+
+-- anywhere inside
+abbrev pub mix_int : TypeTable → TypeId → TypeId → Bool
+mix_int types a b = mix_int_within a.number types a b
+
+-- Members of two bodies at one brace have compatible types, and an int is no enumeration there (own).
+abbrev pub members_agree : TypeTable → Origins → TypeId → TypeId → Bool
+members_agree types o a b = agree types o a b && not (mix_int types a b)
+
+-- Two bodies at one brace have the same members, in their order.
 abbrev pub fields_agree : TypeTable → Origins → List Field → List Field → Bool
 fields_agree types o [] [] = true
 fields_agree types o [] (b ∷ more) = false
 fields_agree types o (a ∷ fields) [] = false
 fields_agree types o (a ∷ fields) (b ∷ more) =
-    pointwise nat_eq a.name b.name && agree types o a.type_id b.type_id && fields_agree types o fields more
+    pointwise nat_eq a.name b.name && members_agree types o a.type_id b.type_id && fields_agree types o fields more
 
 -- both of which are there
 abbrev pub bodies_agree : TypeTable → Origins → Option Body → Option Body → Bool

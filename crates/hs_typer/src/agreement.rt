@@ -1,8 +1,8 @@
 //! Which types of several units are one (X3.159-1989 3.1.2.6).
 
 ghost use Rattle.std.specs.Prelude.{◌≡◌, ◌&&◌, IfSome, IfNone, option_copied, slice_get};
-ghost use Rattle.hs_operand_types.specs.Types.{is_int};
-ghost use Rattle.hs_typer.specs.Origins.{are_one_brace, are_one_tag, origins_agree, has_body, structs_agree, brace_in, enumerations_agree, leaves_agree, objects_agree, lists_agree, agree, fields_agree, enumerators_agree, tags_agree, first_field, first_enumerator, first_name};
+ghost use Rattle.hs_operand_types.specs.Types.{is_int, are_int};
+ghost use Rattle.hs_typer.specs.Origins.{are_one_brace, are_one_tag, origins_agree, has_body, structs_agree, brace_in, enumerations_agree, leaves_agree, objects_agree, lists_agree, agree, mix_int, members_agree, fields_agree, enumerators_agree, tags_agree, first_field, first_enumerator, first_name};
 ghost use Rattle.hs_typer.specs.Pairs.{IsInside, AreApart, both_end, both_more};
 
 use crate::{Brace, Origin, Origins, Tag};
@@ -289,6 +289,48 @@ pub fn agree(types: &Types, origins: &Origins, a: TypeId, b: TypeId) -> bool
     }
 }
 
+/// Whether one of two types is `int` and the other an enumeration.
+fn are_int(left: Option<Row>, right: Option<Row>) -> bool
+    ensures { result ≡ are_int left right }
+{
+    match (left, right) {
+        (Some(Row::Integer(kind)), Some(Row::Enumeration(_)))
+        | (Some(Row::Enumeration(_)), Some(Row::Integer(kind))) => is_int(kind),
+        _ => false,
+    }
+}
+
+/// Whether one type has an `int` where the other has an enumeration.
+fn mix_int(types: &Types, a: TypeId, b: TypeId) -> bool
+    ensures { result ≡ mix_int types.now a b }
+{
+    let mut more = a.number;
+    let mut inside = Pair { left: a, right: b };
+    'inside: loop {
+        if more == 0 {
+            return false;
+        }
+        more -= 1;
+        let left = types.row(inside.left);
+        let right = types.row(inside.right);
+        if are_int(left, right) {
+            return true;
+        }
+        let Some(next) = inside_both(left, right) else {
+            return false;
+        };
+        inside = next;
+    }
+}
+
+/// Whether members of two bodies at one brace have one type: their types are compatible, and where one has `int`, the other has no
+/// enumeration.
+fn members_agree(types: &Types, origins: &Origins, a: TypeId, b: TypeId) -> bool
+    ensures { result ≡ members_agree types.now origins.now a b }
+{
+    agree(types, origins, a, b) && !mix_int(types, a, b)
+}
+
 /// Whether two bodies have the same members.
 fn fields_agree(types: &Types, origins: &Origins, a: &[Field], b: &[Field]) -> bool
     ensures { result ≡ fields_agree types.now origins.now a.now b.now }
@@ -301,7 +343,7 @@ fn fields_agree(types: &Types, origins: &Origins, a: &[Field], b: &[Field]) -> b
         if field.name.items() != other.name.items() {
             return false;
         }
-        if !agree(types, origins, field.type_id, other.type_id) {
+        if !members_agree(types, origins, field.type_id, other.type_id) {
             return false;
         }
         rest = others;
