@@ -199,7 +199,8 @@ module _ (program : TypedProgram) (function : TypedFunction) (types : TypeTable)
       let is : IsOfType id converted = assigned-typed at id e typed converted given in
       gives (IsTyped program function) (tree.cast (head_at at id) converted) (
         (
-          λ some. subst (IsScalar program.types) (sym is.1) (is_scalar-stays types program.types grows id (first-of (is_scalar types id) (is_complete types id) both)),
+          λ some. subst (IsScalar program.types) (sym is.1)
+              (is_scalar-stays types program.types grows id (first-of (is_scalar types id) (is_complete types id) both)),
           λ some. sym is.1,
           tt,
         ),
