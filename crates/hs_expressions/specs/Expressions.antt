@@ -12,7 +12,7 @@ use Rattle.hs_typer.specs.Declarators.{formed, length_of, pointers_of, word_of, 
 use Rattle.hs_typer.specs.Declaring.{list_of, parameter}
 use Rattle.hs_expressions.specs.Operations.{as_value, as_object, value_of, binary_of, is_arrow, member_operand, takes_object, prefix_object, prefix_value, postfix_of, assignment_of, call_operand}
 use Rattle.hs_typer.specs.Primaries.{named, number_of, character_of, string_of}
-use Rattle.hs_typer.specs.Specifiers.{no_specifiers, with_basic, with_type, with_storage, type_from, typedef_of, struct_type, enumeration_type, tagged_struct, begun_struct, tagged_enumeration, begun_enumeration, with_member, completed_struct, completed_enumeration, int_of, next_bits, then_next, enumerator}
+use Rattle.hs_typer.specs.Specifiers.{no_specifiers, with_basic, with_type, with_storage, type_from, typedef_of, struct_type, enumeration_type, tagged_struct, opened_struct, tagged_enumeration, begun_enumeration, with_member, completed_struct, completed_enumeration, int_of, next_bits, then_next, enumerator}
 use Rattle.hs_typer.specs.declared.type_error.TypeError.{TypeError}
 use Rattle.hs_typer.specs.Steps.{Step, ◌>>=◌, ◌>>◌, give, look, of_types, on_types, mapped, unevaluated}
 use Rattle.hs_typer.specs.declared.declarators.Derivation.{Derivation}
@@ -164,7 +164,7 @@ abbrev mutual
     id ← struct_type number
     give (with_type id done)
   specifier stored first done (syntax.struct_body at word brace members) = do
-    number ← begun_struct word
+    number ← opened_struct word
     its ← members_of at [] members
     completed_struct first word brace number its
     id ← struct_type number

@@ -25,11 +25,10 @@ use hs_syntax::{
 use hs_tokens::Place;
 use hs_tree::Rvalue;
 use hs_typer::{
-    Derivation, Members, Specifiers, TypeError, Typer, begun_enumeration, begun_struct,
-    completed_enumeration, completed_struct, enumeration_type, enumerator, formed, int_of,
-    length_of, list_of, next_bits, next_of, next_place, parameter, place_of, pushed, pushed_copy,
-    struct_type, tagged_enumeration, tagged_struct, with_member, with_pointers, with_typedef,
-    word_of,
+    Derivation, Members, Specifiers, TypeError, Typer, begun_enumeration, completed_enumeration,
+    completed_struct, enumeration_type, enumerator, formed, int_of, length_of, list_of, next_bits,
+    next_of, next_place, opened_struct, parameter, place_of, pushed, pushed_copy, struct_type,
+    tagged_enumeration, tagged_struct, with_member, with_pointers, with_typedef, word_of,
 };
 use hs_types::{Constants, Enumerator, TypeId};
 use std::alloc::Global;
@@ -286,7 +285,7 @@ fn specifier(
             members,
             ..
         } => {
-            let number = begun_struct(alloc, typer, tag.as_ref())?;
+            let number = opened_struct(alloc, typer, tag.as_ref())?;
             let its = all_members(alloc, typer, *at, members)?;
             completed_struct(alloc, typer, first, tag.as_ref(), *brace, number, its)?;
             let id = struct_type(typer, number)?;

@@ -3,11 +3,11 @@
 --     string_notes, addressed_notes                  strings and addresses
 use Rattle.std.proofs.Common.{◌≡◌, ℕ, Bool, true, false, List, Option, Some, None, Result, Ok, Err, refl, sym, subst, ◌∙◌, if◌then◌else◌}
 use Rattle.std.specs.List.{AllByRecursion}
-use Rattle.std.specs.Prelude.{slice_get, length}
+use Rattle.std.specs.Prelude.{◌&&◌, not, slice_get, length}
 use Rattle.hs_expressions.specs.Laws.{IsConstant}
 use Rattle.hs_expressions.specs.Laws.Always.{Always}
 use Rattle.hs_expressions.specs.Laws.Grown.{Growing, GrowsTo, arrayed_grows, completed_grows, enumerated_grows}
-use Rattle.hs_expressions.specs.Laws.Leaves.{string_always, addressed_always, struct_type_always, enumeration_type_always, tagged_struct_always, begun_struct_always, begun_enumeration_always, completed_enumeration_always}
+use Rattle.hs_expressions.specs.Laws.Leaves.{string_always, addressed_always, struct_type_always, enumeration_type_always, tagged_struct_always, begun_struct_always, opened_struct_always, begun_enumeration_always, completed_enumeration_always}
 use Rattle.hs_expressions.specs.Operations.{address_as, addressed}
 use Rattle.hs_fitting.specs.Noting.{AllowsName, NamesAllow, IsOperandOf, AreCallsOf, Noting, Notes}
 use Rattle.hs_fitting.specs.Rightness.{AreRight, Righting, RightsTo, right_row, right_struct, right_enumeration, right_self, arrayed_rights, completed_rights, enumerated_rights}
@@ -19,7 +19,7 @@ use Rattle.hs_tokens.specs.declared.place.Place.{Place}
 use Rattle.hs_tree.specs.Trees.{LeftValue, type_of_left}
 use Rattle.hs_typer.specs.Origins.{brace_of, kept_for, times_at, first_name, is_plain, joined, met, closed, tags_agree}
 use Rattle.hs_typer.specs.Primaries.{string_bytes, string_in, string_as, string_of}
-use Rattle.hs_typer.specs.Specifiers.{struct_type, enumeration_type, tagged_struct_as, tagged_struct, begun_struct_as, begun_struct, begun_enumeration_as, begun_enumeration, with_body_in, struct_with_body, completed_struct, enumeration_with_body, completed_enumeration}
+use Rattle.hs_typer.specs.Specifiers.{struct_type, enumeration_type, tagged_struct_as, tagged_struct, has_open_body, begun_struct_as, begun_struct, body_opened, opened_struct, body_closed, begun_enumeration_as, begun_enumeration, with_body_in, struct_with_body, completed_struct, enumeration_with_body, completed_enumeration}
 use Rattle.hs_typer.specs.Steps.{Step, then_with, lifted}
 use Rattle.hs_typer.specs.declared.origins.Brace.{Brace}
 use Rattle.hs_typer.specs.declared.type_error.TypeError.{TypeError}
@@ -80,14 +80,20 @@ tagged_calm word (Some (tag.Enumeration number)) s = tt
 begun_calm : (word : Word) (o : Option Tag) (s : Typer) → Calm (λ it. Unit {0}) s (begun_struct_as word o s)
 begun_calm word None s = (refl, refl, refl, grows_struct s.types, right_struct s.types, tt)
 begun_calm word (Some (tag.Struct number)) s =
-    if_calm (λ it. Unit {0}) (awaits_body (slice_get s.types.structs number)) s (Ok (number, s)) (Err (Untyped word.place))
-    (refl, refl, refl, grows_self s.types, right_self s.types, tt) tt
+    if_calm (λ it. Unit {0}) (awaits_body (slice_get s.types.structs number) && not (has_open_body number s)) s (Ok (number, s))
+    (Err (Untyped word.place)) (refl, refl, refl, grows_self s.types, right_self s.types, tt) tt
 begun_calm word (Some (tag.Enumeration number)) s = tt
 
 -- with or without a tag
 begun_struct_calm : (o : Option Word) (s : Typer) → Calm (λ it. Unit {0}) s (begun_struct o s)
 begun_struct_calm None s = (refl, refl, refl, grows_struct s.types, right_struct s.types, tt)
 begun_struct_calm (Some word) s = begun_calm word (find_here word.text s.tags) s
+
+-- with its body open
+opened_struct_calm : (o : Option Word) (s : Typer) → Calm (λ it. Unit {0}) s (opened_struct o s)
+opened_struct_calm o s =
+    then_calm (λ it. Unit {0}) (λ it. Unit {0}) body_opened s (begun_struct o s) (begun_struct_calm o s)
+    (λ number mid. (refl, refl, refl, grows_self mid.types, right_self mid.types, tt))
 
 -- and an enumeration
 begun_constants_calm : (word : Word) (o : Option Tag) (s : Typer) → Calm (λ it. Unit {0}) s (begun_enumeration_as word o s)
@@ -120,13 +126,21 @@ closed_calm at it s =
     (joined_calm at it (brace_of at (times_at at s.origins)) (kept_for (brace_of at (times_at at s.origins)) s.origins.firsts) s)
     (refl, refl, refl, grows_self s.types, right_self s.types, tt)
 
+-- which is open no more
+closing_calm : {A : Type 0} → (s : Typer) (given : Result (A × Typer) TypeError) → Calm (λ it. Unit {0}) (body_closed s) given
+    → Calm (λ it. Unit {0}) s given
+closing_calm s (Ok p) is = is
+closing_calm s (Err why) is = tt
+
 -- of a struct
 completed_struct_calm : (first : Place) (word : Option Word) (brace : Place) (number : ℕ) (members : List Member) (s : Typer)
     → Calm (λ it. Unit {0}) s (completed_struct first word brace number members s)
 completed_struct_calm first word brace number members s =
-    then_calm (λ it. Unit {0}) (λ it. Unit {0}) (λ it. closed brace (tag.Struct number)) s (struct_with_body first word number members s)
-    (body_calm s first word (completed number members s.types) (completed_grows number members s.types) (completed_rights number members s.types))
-    (λ it mid. closed_calm brace (tag.Struct number) mid)
+    closing_calm s (completed_struct first word brace number members s)
+    (then_calm (λ it. Unit {0}) (λ it. Unit {0}) (λ it. closed brace (tag.Struct number)) (body_closed s)
+    (struct_with_body first word number members (body_closed s))
+    (body_calm (body_closed s) first word (completed number members s.types) (completed_grows number members s.types)
+    (completed_rights number members s.types)) (λ it mid. closed_calm brace (tag.Struct number) mid))
 
 -- and of an enumeration
 completed_enumeration_calm : (first : Place) (word : Option Word) (brace : Place) (number : ℕ) (its : List Enumerator) (s : Typer)
@@ -175,6 +189,10 @@ module _ (Q : ℕ → TypeId → Type 0) (final : TypeTable) where
   -- a struct whose body begins
   pub begun_struct_notes : (o : Option Word) → Notes Q final IsConstant (λ it. Unit {0}) (begun_struct o)
   begun_struct_notes o = calm_notes (λ it. Unit {0}) (begun_struct o) (begun_struct_always o) (begun_struct_calm o)
+
+  -- with its body open
+  pub opened_struct_notes : (o : Option Word) → Notes Q final IsConstant (λ it. Unit {0}) (opened_struct o)
+  opened_struct_notes o = calm_notes (λ it. Unit {0}) (opened_struct o) (opened_struct_always o) (opened_struct_calm o)
 
   -- and an enumeration
   pub begun_enumeration_notes : (o : Option Word) → Notes Q final IsConstant (λ it. Unit {0}) (begun_enumeration o)

@@ -10,7 +10,7 @@ use Rattle.hs_expressions.specs.Laws.Grown.{formed_grows, member_grows}
 use Rattle.hs_expressions.specs.Laws.Leaves.{call_operand_always}
 use Rattle.hs_expressions.specs.Operations.{value_of, binary_of, is_arrow, takes_object, prefix_value, operation_of_postfix, operation_of_assignment, assigned_by}
 use Rattle.hs_fitting.specs.Noting.{NamesAllow, IsOperandOf, AreCallsOf, Noting, Notes, same_noted, then_noting}
-use Rattle.hs_fitting.specs.NotingCalm.{struct_type_notes, enumeration_type_notes, tagged_struct_notes, begun_struct_notes, begun_enumeration_notes, completed_struct_noting, completed_enumeration_notes, string_notes}
+use Rattle.hs_fitting.specs.NotingCalm.{struct_type_notes, enumeration_type_notes, tagged_struct_notes, opened_struct_notes, begun_enumeration_notes, completed_struct_noting, completed_enumeration_notes, string_notes}
 use Rattle.hs_fitting.specs.NotingLeaves.{prefix_object_notes, prefix_met, named_met, number_of_met, character_of_met, call_operand_notes, list_of_notes, enumerator_notes, parameter_notes}
 use Rattle.hs_fitting.specs.NotingSteps.{gives_notes, looks_notes, of_types_notes, looks_met, of_types_met, values_notes, objects_notes, on_types_notes, then_notes, after_notes, and_notes, either_notes, value_notes, unevaluated_notes, prototype_notes, wider_notes}
 use Rattle.hs_fitting.specs.Rightness.{formed_rights, member_rights}
@@ -27,7 +27,7 @@ use Rattle.hs_tokens.specs.declared.place.Place.{Place}
 use Rattle.hs_tree.specs.Trees.{RightValue}
 use Rattle.hs_typer.specs.Declarators.{formed, length_of, pointers_of, word_of, place_of}
 use Rattle.hs_typer.specs.Primaries.{named, number_of, character_of}
-use Rattle.hs_typer.specs.Specifiers.{no_specifiers, with_basic, with_type, with_storage, type_from, typedef_of, struct_type, begun_struct, completed_struct, tagged_enumeration, with_member, int_of, next_bits, then_next}
+use Rattle.hs_typer.specs.Specifiers.{no_specifiers, with_basic, with_type, with_storage, type_from, typedef_of, struct_type, opened_struct, completed_struct, tagged_enumeration, with_member, int_of, next_bits, then_next}
 use Rattle.hs_typer.specs.Steps.{Step, ◌>>=◌, ◌>>◌, give, mapped}
 use Rattle.hs_typer.specs.declared.declarators.Derivation.TheVariants as derivation
 use Rattle.hs_typer.specs.declared.specifiers.Specifiers.{Specifiers}
@@ -146,7 +146,7 @@ module _ (Q : ℕ → TypeId → Type 0) (final : TypeTable) where
           gives = λ s names. then_noting Q final (λ it. Unit {0}) (λ it. Unit {0})
               (λ number. members_of at [] members
               >>= (λ its. completed_struct first word brace number its >> (struct_type number >>= (λ id. give (with_type id done)))))
-              s (begun_struct word s) ((begun_struct_notes Q final word).gives s names)
+              s (opened_struct word s) ((opened_struct_notes Q final word).gives s names)
               (λ number any mid around. then_noting Q final (λ it. Unit {0}) (λ it. Unit {0})
               (λ its. completed_struct first word brace number its >> (struct_type number >>= (λ id. give (with_type id done)))) mid
               (members_of at [] members mid) ((members_of_notes at [] members).gives mid around)

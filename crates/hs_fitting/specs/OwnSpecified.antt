@@ -6,7 +6,7 @@ use Rattle.std.specs.Cmp.Lexicographic.{pointwise}
 use Rattle.std.specs.List.{AllByRecursion}
 use Rattle.std.specs.Prelude.{nat_eq, is_some, not, ◌||◌}
 use Rattle.hs_base.specs.Options.{some_same}
-use Rattle.hs_expressions.specs.Laws.Bodies.{Owning as IsBegun, begun_owned}
+use Rattle.hs_expressions.specs.Laws.Bodies.{Owning as IsBegun, opened_owned}
 use Rattle.hs_expressions.specs.Laws.Traced.{IsOwnTag}
 use Rattle.hs_fitting.specs.Owned.{IsOwn, own_later, plain_type, struct_type}
 use Rattle.hs_names.specs.Scopes.{Declared, newest, entity_of, find}
@@ -114,9 +114,9 @@ module _ (base : ℕ) where
   pub struct_body_own : (word : Option Word) (first : Place) (brace : Place) (members : Step (List Member)) (done : Specifiers) (s : Typer)
       → OwnAt base s
       → Owning base OwnSpecifiers
-      ((specifying.begun_struct word >>= (λ number. members >>= (λ its. specifying.completed_struct first word brace number its
+      ((specifying.opened_struct word >>= (λ number. members >>= (λ its. specifying.completed_struct first word brace number its
       >> (specifying.struct_type number >>= (λ id. give (with_type id done)))))) s)
-  struct_body_own word first brace members done s own = begun (specifying.begun_struct word s) (begun_owned word s)
+  struct_body_own word first brace members done s own = begun (specifying.opened_struct word s) (opened_owned word s)
     where
       last : (number : ℕ) → base ≤ number → (given : Result (Unit {0} × Typer) TypeError)
           → Owning base OwnSpecifiers (then_with (λ it. specifying.struct_type number >>= (λ id. give (with_type id done))) given)

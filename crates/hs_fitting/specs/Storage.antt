@@ -13,7 +13,7 @@ use Rattle.hs_syntax.specs.Trees.{Specified, Specification}
 use Rattle.hs_syntax.specs.declared.operators.Storage.{Storage}
 use Rattle.hs_syntax.specs.declared.operators.Storage.TheVariants as storage
 use Rattle.hs_tokens.specs.declared.place.Place.{Place}
-use Rattle.hs_typer.specs.Specifiers.{no_specifiers, with_basic, with_type, with_storage, type_from, typedef_of, struct_type, enumeration_type, tagged_struct, begun_struct, tagged_enumeration, begun_enumeration, completed_struct, completed_enumeration}
+use Rattle.hs_typer.specs.Specifiers.{no_specifiers, with_basic, with_type, with_storage, type_from, typedef_of, struct_type, enumeration_type, tagged_struct, opened_struct, tagged_enumeration, begun_enumeration, completed_struct, completed_enumeration}
 use Rattle.hs_typer.specs.Steps.{Step, then_with, ◌>>=◌, kept, mapped, look, give}
 use Rattle.hs_typer.specs.declared.specifiers.Specifiers.{Specifiers}
 use Rattle.hs_typer.specs.declared.type_error.TypeError.{TypeError}
@@ -129,7 +129,7 @@ specifier_says stored first done (syntax.struct_tag at word) =
     (λ number. next_always (struct_type number)
     (λ id. gives (Says (is_static done.storage) false) (with_type id done) (type_says id done)))
 specifier_says stored first done (syntax.struct_body at word brace members) =
-    next_always (begun_struct word)
+    next_always (opened_struct word)
     (λ number. next_always (members_of at [] members)
     (λ its. next_always (completed_struct first word brace number its)
     (λ over. next_always (struct_type number)

@@ -1,15 +1,17 @@
 -- Declaration specifiers (X3.159-1989 3.5.1 to 3.5.3), tags and the bodies of structs and enumerations.
 --     with_basic, with_storage, with_type      a list of specifiers with one more
 --     type_from first its                      the type that a list of specifiers names
---     tag_of_struct, new_struct, ..            what a tag means, or comes to mean
+--     tagged_struct, begun_struct, ..          what a tag means, or comes to mean
+--     opened_struct, body_closed               a struct whose body begins, and the state after the body
 --     with_member, completed_struct            members of a struct (3.5.2.1)
 --     enumerator, completed_enumeration        constants of an enumeration (3.5.2.2)
-use Rattle.std.specs.Prelude.{ℕ, suc, nat_le, nat_eq, Bool, true, false, not, ◌&&◌, ◌||◌, List, [], ◌∷◌, ◌++◌, length, slice_get, Option, Some, None, is_some, Result, Ok, Err, if◌then◌else◌}
+use Rattle.std.specs.Prelude.{ℕ, suc, ◌-◌, nat_le, nat_eq, Bool, true, false, not, ◌&&◌, ◌||◌, List, [], ◌∷◌, ◌++◌, length, take, slice_get, Option, Some, None, is_some, Result, Ok, Err, if◌then◌else◌}
 use Rattle.std.specs.Cmp.Lexicographic.{pointwise}
+use Rattle.std.specs.List.{list_any}
 use Rattle.hs_constants.specs.declared.value.Value.{Value}
 use Rattle.hs_typer.specs.Declarators.{formed, constant_of, declare, place_in}
 use Rattle.hs_typer.specs.Origins.{with_struct_origin, with_enumeration_origin, closed}
-use Rattle.hs_typer.specs.Steps.{Step, ◌>>◌, give, refuse}
+use Rattle.hs_typer.specs.Steps.{Step, ◌>>=◌, ◌>>◌, give, refuse}
 use Rattle.hs_typer.specs.declared.declarators.Derivation.{Derivation}
 use Rattle.hs_typer.specs.declared.specifiers.Specifiers.{Specifiers}
 use Rattle.hs_typer.specs.declared.specifiers.Words.{Words}
@@ -149,17 +151,33 @@ tagged_struct_as word (Some (tag.Enumeration number)) = refuse (Untyped word.pla
 abbrev pub tagged_struct : Word → Step ℕ
 tagged_struct word s = tagged_struct_as word (find word.text s.tags) s
 
--- a struct whose body begins: one of this scope that has none yet, or a new one
+-- the body of the struct of that number has begun and is not complete
+abbrev pub has_open_body : ℕ → Typer → Bool
+has_open_body number s = list_any (nat_eq number) s.open_bodies
+
+-- A struct whose body can begin: one of this scope that has no body and whose body has not begun, or a new one (3.5.2.3).
 abbrev pub begun_struct_as : Word → Option Tag → Step ℕ
 begun_struct_as word None s = new_tagged_struct word s
 begun_struct_as word (Some (tag.Struct number)) s =
-    if awaits_body (slice_get s.types.structs number) then Ok (number, s) else Err (Untyped word.place)
+    if awaits_body (slice_get s.types.structs number) && not (has_open_body number s) then Ok (number, s) else Err (Untyped word.place)
 begun_struct_as word (Some (tag.Enumeration number)) s = Err (Untyped word.place)
 
 -- with or without a tag
 abbrev pub begun_struct : Option Word → Step ℕ
 begun_struct None s = new_struct s
 begun_struct (Some word) s = begun_struct_as word (find_here word.text s.tags) s
+
+-- the body of the struct of that number begins
+abbrev pub body_opened : ℕ → Step ℕ
+body_opened number s = Ok (number, record s { open_bodies = s.open_bodies ++ number ∷ [] })
+
+-- A struct at its opening brace.
+abbrev pub opened_struct : Option Word → Step ℕ
+opened_struct word = begun_struct word >>= body_opened
+
+-- the innermost body is at its closing brace
+abbrev pub body_closed : Typer → Typer
+body_closed s = record s { open_bodies = take (length s.open_bodies - 1) s.open_bodies }
 
 -- `enum tag` names an enumeration that is declared
 abbrev pub tagged_enumeration : Word → Option Tag → Result ℕ TypeError
@@ -232,9 +250,10 @@ with_body_in s first word (Err why) = Err (refused_body first word why)
 abbrev pub struct_with_body : Place → Option Word → ℕ → List Member → Step (Unit {0})
 struct_with_body first word number members s = with_body_in s first word (completed number members s.types)
 
--- which may be one with that of another unit
+-- A struct at its closing brace. It may be one with that of another unit.
 abbrev pub completed_struct : Place → Option Word → Place → ℕ → List Member → Step (Unit {0})
-completed_struct first word brace number members = struct_with_body first word number members >> closed brace (tag.Struct number)
+completed_struct first word brace number members s =
+    (struct_with_body first word number members >> closed brace (tag.Struct number)) (body_closed s)
 
 -- and of an enumeration
 abbrev pub enumeration_with_body : Place → Option Word → ℕ → List Enumerator → Step (Unit {0})

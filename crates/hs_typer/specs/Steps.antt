@@ -37,6 +37,7 @@ beginning table =
       taken = [];
       calls = [];
       origins = no_origins;
+      open_bodies = [];
       counts = true;
       keeps = false;
     }

@@ -3,7 +3,7 @@
 ghost use Rattle.std.specs.Prelude.{◌≡◌, option_copied};
 ghost use Rattle.hs_names.specs.Scopes.{find};
 ghost use Rattle.hs_tree.specs.Views.{view_right};
-ghost use Rattle.hs_typer.specs.Specifiers.{struct_type, enumeration_type, new_struct, new_tagged_struct, tagged_struct, begun_struct, tagged_enumeration, new_tagged_enumeration, begun_enumeration, with_member, completed_struct, completed_enumeration, struct_with_body, enumeration_with_body, refused_body, is_int, int_of, next_bits, then_next, enumerator};
+ghost use Rattle.hs_typer.specs.Specifiers.{struct_type, enumeration_type, new_struct, new_tagged_struct, tagged_struct, begun_struct, has_open_body, opened_struct, tagged_enumeration, new_tagged_enumeration, begun_enumeration, with_member, completed_struct, completed_enumeration, struct_with_body, enumeration_with_body, refused_body, is_int, int_of, next_bits, then_next, enumerator};
 ghost use Rattle.hs_typer.specs.Steps.{Gives, Steps, Changes};
 
 use crate::closing::closed;
@@ -71,7 +71,15 @@ pub fn tagged_struct(alloc: Global, typer: &mut Typer, word: &Word) -> Result<u3
     }
 }
 
-/// The struct whose body begins: one of the innermost scope that has none yet, or a new one. Refused at the tag if it has one.
+/// Whether the body of the struct of that number has begun and is not complete.
+fn has_open_body(typer: &Typer, number: u32) -> bool
+    ensures { result ≡ has_open_body number typer.now }
+{
+    typer.open_bodies.items().iter().any(|it| number == *it)
+}
+
+/// The struct whose body can begin: one of the innermost scope that has none yet, or a new one. Refused at the tag if it has one, or is
+/// inside its own body.
 ///
 /// Example: that of `struct S;` in `struct S { int a; }` after it.
 pub fn begun_struct(alloc: Global, typer: &mut Typer, tag: Option<&Word>) -> Result<u32, TypeError>
@@ -82,7 +90,7 @@ pub fn begun_struct(alloc: Global, typer: &mut Typer, tag: Option<&Word>) -> Res
     };
     match typer.tags.find_here(word.text.items()) {
         Some(Tag::Struct(number)) => {
-            if !typer.types.struct_awaits_body(number) {
+            if !typer.types.struct_awaits_body(number) || has_open_body(typer, number) {
                 return Err(TypeError::Untyped(word.place));
             }
             Ok(number)
@@ -90,6 +98,17 @@ pub fn begun_struct(alloc: Global, typer: &mut Typer, tag: Option<&Word>) -> Res
         Some(Tag::Enumeration(_)) => Err(TypeError::Untyped(word.place)),
         None => new_tagged_struct(alloc, typer, word),
     }
+}
+
+/// The struct whose body begins, which is open from now on. Refused as by `begun_struct`.
+///
+/// Example: the inner `struct S` of `struct S { struct S { int a; } b; }` is refused.
+pub fn opened_struct(alloc: Global, typer: &mut Typer, tag: Option<&Word>) -> Result<u32, TypeError>
+    ensures { Steps (λ it. it) typer.new (opened_struct (option_copied tag.entry) typer.old) result }
+{
+    let number = begun_struct(alloc, typer, tag)?;
+    typer.open_bodies.push(number)?;
+    Ok(number)
 }
 
 /// The enumeration that `enum tag` means. Refused at the tag if it is not declared.
@@ -161,7 +180,7 @@ pub fn with_member(
     Ok(done.with(alloc, word.text.items(), made)?)
 }
 
-/// Gives a struct its body, which begins at that brace. Refused at the first specifier if it is too large, at the tag if it got a body
+/// Gives a struct its body, which begins at that brace and is the innermost open one. Refused at the first specifier if it is too large, at the tag if it got a body
 /// meanwhile, and at the brace if the first body that began there has other members.
 ///
 /// Example: the body of a header that two units include makes one type of two structs.
@@ -176,6 +195,7 @@ pub fn completed_struct(
 ) -> Result<(), TypeError>
     ensures { Steps (λ it. it) typer.new (completed_struct first (option_copied tag.entry) brace number members typer.old) result }
 {
+    typer.open_bodies.drop_last();
     struct_with_body(alloc, typer, first, tag, number, members)?;
     closed(alloc, typer, brace, Tag::Struct(number))
 }

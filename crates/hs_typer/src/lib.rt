@@ -17,8 +17,8 @@ mod typer;
 pub use agreement::agree;
 pub use bodies::{
     begun_enumeration, begun_struct, completed_enumeration, completed_struct, enumeration_type,
-    enumerator, int_of, next_bits, next_of, struct_type, tagged_enumeration, tagged_struct,
-    with_member,
+    enumerator, int_of, next_bits, next_of, opened_struct, struct_type, tagged_enumeration,
+    tagged_struct, with_member,
 };
 pub use declarators::{
     Derivation, constant_of, declare, formed, length_of, list_of, next_place, parameter, place_of,

@@ -1,6 +1,6 @@
 //! Lists that grow at the end.
 
-ghost use Rattle.std.specs.Prelude.{◌≡◌, ◌++◌, ◌∷◌, [], OnOk, OnErr, option_copied, slice_get, slice_set};
+ghost use Rattle.std.specs.Prelude.{◌≡◌, ◌++◌, ◌∷◌, ◌-◌, [], OnOk, OnErr, length, option_copied, slice_get, slice_set, take};
 
 use crate::{Brace, Origin};
 use hs_base::NoMemory;
@@ -38,6 +38,13 @@ impl<T: Drop> Log<T> {
     {
         self.vec.push(item)?;
         Ok(())
+    }
+
+    /// Takes the last item away, if there is one.
+    pub(crate) fn drop_last(&mut self)
+        ensures { self.new ≡ take (length self.old - 1) self.old }
+    {
+        let _ = self.vec.pop();
     }
 
     /// Replaces the item at that place, if there is one.

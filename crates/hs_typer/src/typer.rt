@@ -63,6 +63,8 @@ pub struct Typer {
     pub calls: Log<RoutineCall>,
     /// Where structs and enumerations come from.
     pub origins: Origins,
+    /// The structs whose bodies have begun and are not complete, the innermost one last.
+    pub open_bodies: Log<u32>,
     /// Whether what is typed is evaluated: inside `sizeof` it is not, and no string, address and call counts.
     pub counts: bool,
     /// Whether the scope of the next list of parameters is kept: that of a function that is being defined goes on in its body.
@@ -85,6 +87,7 @@ impl Typer {
             taken: Log::new(alloc),
             calls: Log::new(alloc),
             origins: Origins::new(alloc),
+            open_bodies: Log::new(alloc),
             counts: true,
             keeps: false,
         })

@@ -1,24 +1,24 @@
 -- The body of a struct: it begins, its members come, and then the struct is complete, at its brace.
---     begun_owned                  a struct whose body begins is of this unit
+--     opened_owned                 a struct whose body begins is of this unit
 --     completed_reaches            it gets its body, after what was reached from where it began
 --     body_always                  all of it
 use Rattle.std.proofs.Common.{◌≡◌, ◌≤◌, ℕ, Bool, true, false, List, [], ◌∷◌, Option, Some, None, Result, Ok, Err, refl, subst, if◌then◌else◌}
 use Rattle.std.specs.Cmp.Lexicographic.{pointwise}
 use Rattle.std.specs.List.{AllByRecursion}
-use Rattle.std.specs.Prelude.{◌==◌, nat_eq, slice_get}
+use Rattle.std.specs.Prelude.{◌==◌, ◌-◌, ◌&&◌, not, nat_eq, length, take, slice_get}
 use Rattle.hs_expressions.specs.Laws.{IsScoped}
 use Rattle.hs_expressions.specs.Laws.Always.{Reaching, Always, reaching_then}
 use Rattle.hs_expressions.specs.Laws.Grown.{GrowsTo, completed_grows}
-use Rattle.hs_expressions.specs.Laws.Leaves.{begun_struct_always, met_unit}
+use Rattle.hs_expressions.specs.Laws.Leaves.{opened_struct_always, met_unit}
 use Rattle.hs_expressions.specs.Laws.Braces.{struct_first, struct_later}
 use Rattle.hs_expressions.specs.Laws.Origins.{HasNoBrace, traced_body}
-use Rattle.hs_expressions.specs.Laws.Reached.{Reaches, reaches_further, scoped_after}
+use Rattle.hs_expressions.specs.Laws.Reached.{Reaches, reaches_bodies, reaches_further, scoped_after}
 use Rattle.hs_expressions.specs.Laws.Traced.{HasBodyIn, IsOwnTag, IsTraced, IsTracedAt, Traces, TracesTo, traces_then}
 use Rattle.hs_names.specs.Scopes.{Declared, newest, entity_at, find_here}
 use Rattle.hs_syntax.specs.declared.word.Word.{Word}
 use Rattle.hs_tokens.specs.declared.place.Place.{Place}
 use Rattle.hs_typer.specs.Origins.{brace_of, kept_for, times_at, first_at, first_name, is_plain, joined, met, closed, tags_agree}
-use Rattle.hs_typer.specs.Specifiers.{begun_struct_as, begun_struct, with_body_in, completed_struct}
+use Rattle.hs_typer.specs.Specifiers.{has_open_body, begun_struct_as, begun_struct, body_opened, opened_struct, body_closed, with_body_in, struct_with_body, completed_struct}
 use Rattle.hs_typer.specs.Steps.{Step, then_with, ◌>>=◌, ◌>>◌}
 use Rattle.hs_typer.specs.declared.origins.Brace.{Brace}
 use Rattle.hs_typer.specs.declared.origins.Origins.{Origins}
@@ -75,20 +75,28 @@ newest_owned base name (first ∷ older) own it found =
 -- by what the tag means in this scope
 begun_by : (word : Word) (o : Option Tag) (s : Typer) → ((base : ℕ) → IsTracedAt base s → IsOwnIf base o) → Owning s (begun_struct_as word o s)
 begun_by word None s own = λ base is. is.there
-begun_by word (Some (tag.Struct number)) s own = by_test (awaits_body (slice_get s.types.structs number))
+begun_by word (Some (tag.Struct number)) s own = by_test (awaits_body (slice_get s.types.structs number) && not (has_open_body number s))
   where
     by_test : (b : Bool) → Owning s (if b then Ok (number, s) else Err (Untyped word.place))
     by_test true = own
     by_test false = tt
 begun_by word (Some (tag.Enumeration number)) s own = tt
 
--- A struct whose body begins is of this unit.
+-- A struct whose body can begin is of this unit.
 pub begun_owned : (o : Option Word) (s : Typer) → Owning s (begun_struct o s)
 begun_owned None s = λ base is. is.there
 begun_owned (Some word) s =
     begun_by word (find_here word.text s.tags) s
     (λ base is. owned_at base s.tags.level (newest word.text s.tags.declarations)
     (λ it found. newest_owned base word.text s.tags.declarations is.owned it found))
+
+-- and so is one whose body begins
+opened_then : (s : Typer) (given : Result (ℕ × Typer) TypeError) → Owning s given → Owning s (then_with body_opened given)
+opened_then s (Ok p) own = own
+opened_then s (Err why) own = tt
+
+pub opened_owned : (o : Option Word) (s : Typer) → Owning s (opened_struct o s)
+opened_owned o s = opened_then s (begun_struct o s) (begun_owned o s)
 
 -- ---- its body
 
@@ -171,9 +179,10 @@ module _ (allowed : Entity → Type 0) (old s : Typer) (reached : Reaches allowe
       by_test false = plain_whole
 
 -- It gets its body, if it waits for it.
-completed_reaches : (allowed : Entity → Type 0) (old s : Typer) → Reaches allowed old s → (first : Place) (word : Option Word) (brace : Place)
-    (number : ℕ) → IsOwned old number → (members : List Member) → Reaching allowed old (completed_struct first word brace number members s)
-completed_reaches allowed old s reached first word brace number owned members =
+body_reaches : (allowed : Entity → Type 0) (old s : Typer) → Reaches allowed old s → (first : Place) (word : Option Word) (brace : Place)
+    (number : ℕ) → IsOwned old number → (members : List Member)
+    → Reaching allowed old ((struct_with_body first word number members >> closed brace (tag.Struct number)) s)
+body_reaches allowed old s reached first word brace number owned members =
     by_test (awaits_body (slice_get s.types.structs number)) refl (completed_grows number members s.types)
   where
     by_body : (given : Result Body TypeEnd) → slice_get s.types.structs number ≡ Some None → GrowsTo s.types (with_laid number s.types given)
@@ -188,6 +197,12 @@ completed_reaches allowed old s reached first word brace number owned members =
         (with_body_in s first word (if b then with_laid number s.types (laid_if (measured s.types members)) else Err end.Redefined)))
     by_test true awaits grows = by_body (laid_if (measured s.types members)) (awaits_it (slice_get s.types.structs number) awaits) grows
     by_test false awaits grows = tt
+
+-- and its body is open no more
+completed_reaches : (allowed : Entity → Type 0) (old s : Typer) → Reaches allowed old s → (first : Place) (word : Option Word) (brace : Place)
+    (number : ℕ) → IsOwned old number → (members : List Member) → Reaching allowed old (completed_struct first word brace number members s)
+completed_reaches allowed old s reached =
+    body_reaches allowed old (body_closed s) (reaches_bodies allowed old s (take (length s.open_bodies - 1) s.open_bodies) reached)
 
 -- ---- all of it
 
@@ -211,16 +226,17 @@ module _ {allowed : Entity → Type 0} where
   -- A struct with its body, and what comes after it.
   pub body_always : {A : Type 0} → (first : Place) (word : Option Word) (brace : Place) (members : Step (List Member)) (next : ℕ → Step A)
       → Always allowed members → ((number : ℕ) → Always allowed (next number))
-      → Always allowed (begun_struct word >>= (λ number. members >>= (λ its. completed_struct first word brace number its >> next number)))
+      → Always allowed (opened_struct word >>= (λ number. members >>= (λ its. completed_struct first word brace number its >> next number)))
   body_always first word brace members next are after =
       record {
-        from = λ s scoped. begun s scoped (begun_struct word s) ((begun_struct_always {allowed = allowed} word).from s scoped) (begun_owned word s);
+        from = λ s scoped.
+            opened s scoped (opened_struct word s) ((opened_struct_always {allowed = allowed} word).from s scoped) (opened_owned word s);
       }
     where
-      begun : (s : Typer) → IsScoped s → (given : Result (ℕ × Typer) TypeError) → Reaching allowed s given → Owning s given
+      opened : (s : Typer) → IsScoped s → (given : Result (ℕ × Typer) TypeError) → Reaching allowed s given → Owning s given
           → Reaching allowed s
           (then_with (λ number. members >>= (λ its. completed_struct first word brace number its >> next number)) given)
-      begun s scoped (Ok p) before owned =
+      opened s scoped (Ok p) before owned =
           members_reach s first word brace p.0 (next p.0) (members p.1) scoped owned
           (reaching_then allowed s p.1 (members p.1) before (are.from p.1 (scoped_after allowed s p.1 before scoped))) (after p.0)
-      begun s scoped (Err why) before owned = tt
+      opened s scoped (Err why) before owned = tt

@@ -1,6 +1,6 @@
 -- The steps that change what is known: strings, addresses, calls, tags, bodies, constants and parameters.
 use Rattle.std.proofs.Common.{◌≡◌, ℕ, Bool, true, false, List, [], ◌∷◌, ◌++◌, Option, Some, None, Result, Ok, Err, refl, if◌then◌else◌}
-use Rattle.std.specs.Prelude.{slice_get, length, is_some, ◌||◌}
+use Rattle.std.specs.Prelude.{slice_get, length, is_some, ◌||◌, ◌&&◌, not}
 use Rattle.hs_typer.specs.Declarators.{parameter_type, listed, word_of, place_of, is_typedef, declare}
 use Rattle.hs_typer.specs.Declaring.{list_of, declare_parameter, parameter}
 use Rattle.hs_expressions.specs.Laws.{IsConstant, IsTagAt}
@@ -8,13 +8,13 @@ use Rattle.hs_expressions.specs.Laws.Always.{Reaching, Always, Anything, gives_a
 use Rattle.hs_expressions.specs.Laws.Grown.{Growing, GrowsTo, plain_self, plain_row, arrayed_grows, enumerated_grows, listed_grows, parameter_type_grows}
 use Rattle.hs_expressions.specs.Laws.Braces.{firsts_traced, enumeration_first, enumeration_later}
 use Rattle.hs_expressions.specs.Laws.Origins.{traced_struct}
-use Rattle.hs_expressions.specs.Laws.Reached.{IsAllowedAt, prefix_self, prefix_if, more_self, more_one, reaches_self, reaches_types, reaches_named, reaches_names, reaches_noted, reaches_further}
+use Rattle.hs_expressions.specs.Laws.Reached.{IsAllowedAt, prefix_self, prefix_if, more_self, more_one, reaches_self, reaches_bodies, reaches_types, reaches_named, reaches_names, reaches_noted, reaches_further}
 use Rattle.hs_expressions.specs.Laws.Traced.{traced_tags}
 use Rattle.hs_expressions.specs.Operations.{taken_by, address_as, addressed, prefix_object, stepped, bound_call, call_with, call_operand}
 use Rattle.hs_typer.specs.Origins.{with_struct_origin, with_enumeration_origin, brace_of, kept_for, times_at, first_at, first_name, is_plain, joined, met, closed, tags_agree}
 use Rattle.hs_typer.specs.Primaries.{string_bytes, string_in, string_as, string_of}
 use Rattle.hs_expressions.specs.Roles.{fits_role}
-use Rattle.hs_typer.specs.Specifiers.{struct_type, enumeration_type, new_struct, new_tagged_struct, tagged_struct_as, tagged_struct, begun_struct_as, begun_struct, new_enumeration, new_tagged_enumeration, begun_enumeration_as, begun_enumeration, with_body_in, enumeration_with_body, completed_enumeration, enumerator}
+use Rattle.hs_typer.specs.Specifiers.{struct_type, enumeration_type, new_struct, new_tagged_struct, tagged_struct_as, tagged_struct, has_open_body, begun_struct_as, begun_struct, body_opened, opened_struct, new_enumeration, new_tagged_enumeration, begun_enumeration_as, begun_enumeration, with_body_in, enumeration_with_body, completed_enumeration, enumerator}
 use Rattle.hs_typer.specs.Steps.{lifted}
 use Rattle.hs_typer.specs.declared.declarators.Derivation.{Derivation}
 use Rattle.hs_typer.specs.declared.origins.Brace.{Brace}
@@ -149,7 +149,8 @@ module _ (allowed : Entity → Type 0) where
   begun_reaches : (word : Word) (o : Option Tag) (s : Typer) → Reaching allowed s (begun_struct_as word o s)
   begun_reaches word None s = tagged_struct_reaches word s
   begun_reaches word (Some (tag.Struct number)) s =
-      if_reaches (awaits_body (slice_get s.types.structs number)) s (Ok (number, s)) (Err (Untyped word.place)) (reaches_self allowed s) tt
+      if_reaches (awaits_body (slice_get s.types.structs number) && not (has_open_body number s)) s (Ok (number, s)) (Err (Untyped word.place))
+      (reaches_self allowed s) tt
   begun_reaches word (Some (tag.Enumeration number)) s = tt
 
   -- an enumeration whose body begins
@@ -261,6 +262,12 @@ module _ {allowed : Entity → Type 0} where
   pub begun_struct_always : (o : Option Word) → Always allowed (begun_struct o)
   begun_struct_always None = new_struct_always
   begun_struct_always (Some word) = record { from = λ s scoped. begun_reaches allowed word (find_here word.text s.tags) s }
+
+  pub opened_struct_always : (o : Option Word) → Always allowed (opened_struct o)
+  opened_struct_always o = then_always (begun_struct_always o) (λ number. opens number)
+    where
+      opens : (number : ℕ) → Always allowed (body_opened number)
+      opens number = record { from = λ s scoped. reaches_bodies allowed s s (s.open_bodies ++ number ∷ []) (reaches_self allowed s) }
 
   pub begun_enumeration_always : (o : Option Word) → Always allowed (begun_enumeration o)
   begun_enumeration_always None = new_enumeration_always

@@ -166,6 +166,23 @@ module _ (allowed : Entity → Type 0) where
         traced = traced_then first second third before.traced after.traced;
       }
 
+  -- with other bodies that are open
+  pub reaches_bodies : (old new : Typer) (its : List ℕ) → Reaches allowed old new → Reaches allowed old (record new { open_bodies = its })
+  reaches_bodies old new its reached =
+      record {
+        types = reached.types;
+        names = reached.names;
+        tags = reached.tags;
+        literals = reached.literals;
+        taken = reached.taken;
+        calls = reached.calls;
+        table = reached.table;
+        counts = reached.counts;
+        keeps = reached.keeps;
+        unit = reached.unit;
+        traced = reached.traced;
+      }
+
   -- with more types, names and tags, and with other origins
   pub reaches_named : (s : Typer) (types : TypeTable) (names : Scoped Entity) (tags : Scoped Tag) (origins : Origins) → Grows s.types types
       → HasMore (IsAllowedAt allowed s.names.level) s.names names → HasMore (IsTagAt s.tags.level) s.tags tags → origins.unit ≡ s.origins.unit
