@@ -3,9 +3,11 @@
 --     next_in types it                the next member or element of an aggregate, if there is one more
 --     unfilled types begun            the aggregates that have begun and are not full; the innermost one is the first
 --     reached types text begun        what an expression in the list initialises, and the aggregates that have begun then
+--     is_growing types begun          the outermost one is an array whose length the list gives
 use Rattle.std.specs.Prelude.{ℕ, zero, suc, ◌+◌, ◌*◌, ◌==◌, nat_lt, nat_le, Bool, true, false, ◌&&◌, ◌||◌, List, [], ◌∷◌, Option, Some, None, is_some, if◌then◌else◌}
 use Rattle.hs_aggregates.specs.declared.aggregates.Aggregate.{Aggregate}
 use Rattle.hs_aggregates.specs.declared.aggregates.Subobject.{Subobject}
+use Rattle.hs_operand_types.specs.Types.{is_open}
 use Rattle.hs_tree.specs.Kinds.{element, is_scalar}
 use Rattle.hs_tree.specs.Objects.{field_of}
 use Rattle.hs_types.specs.Layouts.{most_bytes}
@@ -141,6 +143,12 @@ whole_in types (it ∷ outer) = if is_scalar types it.type_id then None else who
 -- in a list with these aggregates
 abbrev pub whole : TypeTable → List Aggregate → Option Reached
 whole types begun = whole_in types (unfilled types begun)
+
+-- The outermost aggregate is an array of unknown length, which gets its length from the list.
+abbrev pub is_growing : TypeTable → List Aggregate → Bool
+is_growing types [] = false
+is_growing types (it ∷ []) = is_open types it.type_id
+is_growing types (it ∷ next ∷ outer) = is_growing types (next ∷ outer)
 
 -- how many elements of the outermost aggregate have begun
 abbrev pub count_begun : List Aggregate → ℕ

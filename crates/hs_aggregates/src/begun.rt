@@ -1,10 +1,12 @@
 //! The aggregates that have begun, as a list whose innermost one is the first.
 
 ghost use Rattle.std.specs.Prelude.{◌≡◌, ◌∷◌, [], IfOk, IfSome, IfNone};
-ghost use Rattle.hs_aggregates.specs.Aggregates.{count_begun};
+ghost use Rattle.hs_aggregates.specs.Aggregates.{count_begun, is_growing};
 
 use crate::aggregates::Aggregate;
 use hs_base::NoMemory;
+use hs_operand_types::is_open;
+use hs_types::Types;
 use std::alloc::Global;
 use std::marker::Model;
 
@@ -67,6 +69,19 @@ impl Begun {
         match self.vec.as_slice().split_first() {
             Some((first, _)) => first.begun,
             None => 0,
+        }
+    }
+
+    /// Whether the outermost one is an array of unknown length, which gets its length from the list.
+    ///
+    /// Example: `true` for `int a[]` in the list of `int a[] = { 1, 2 };`.
+    #[tactic(auto, using(crate::proofs::Counted::growing_reversed))]
+    pub fn is_growing(&self, types: &Types) -> bool
+        ensures { result ≡ is_growing types.now self.now }
+    {
+        match self.vec.as_slice().split_first() {
+            Some((first, _)) => is_open(types, first.type_id),
+            None => false,
         }
     }
 }

@@ -135,8 +135,8 @@ initialised_by start at id (syntax.value e) =
     then_alike start id (alone id e) (λ its. on_types (sized at id (length its)) >>= (λ made. give (made, its))) (alone_always id e)
     (λ its. sized_then start at id (length its) its)
 initialised_by start at id (syntax.list brace its comma) =
-    then_alike start id (braced (all_of id) [] its) (λ filled. on_types (sized at id (count_begun filled.1)) >>= (λ made. give (made, filled.0)))
-    (braced_always (all_of id) [] its) (λ filled. sized_then start at id (count_begun filled.1) filled.0)
+    then_alike start id (braced at (all_of id) [] its) (λ filled. on_types (sized at id (count_begun filled.1)) >>= (λ made. give (made, filled.0)))
+    (braced_always at (all_of id) [] its) (λ filled. sized_then start at id (count_begun filled.1) filled.0)
 
 -- with constants
 given_constant : (start : TypeTable) (id : TypeId) (given : Result ((TypeId × List Part) × Typer) TypeError) → AlikeGiven start id given

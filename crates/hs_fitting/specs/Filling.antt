@@ -107,10 +107,10 @@ module _ (program : TypedProgram) (function : TypedFunction) (sound : IsRight pr
       (λ part. gives_always (part ∷ [])) (λ part are. gives_started (part ∷ []) are))
 
   -- nothing is left to initialise
-  pub excess_started : (e : Expression) → Started program function types (λ its. ⊥) (excess e)
-  excess_started e =
-      then_started (value_always (typed_always e)) (value_started sound e) (λ its. refuses_always (Untyped (position_of e)))
-      (λ its is. refuses_started (Untyped (position_of e)))
+  pub excess_started : (at : Place) (e : Expression) → Started program function types (λ its. ⊥) (excess at e)
+  excess_started at e =
+      then_started (value_always (typed_always e)) (value_started sound e) (λ its. refuses_always (Untyped at))
+      (λ its is. refuses_started (Untyped at))
 
   -- a scalar is no array
   scalar_simple : (it : Subobject) (its : List Part) → is_scalar types it.type_id ≡ true

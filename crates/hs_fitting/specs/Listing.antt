@@ -6,7 +6,7 @@ use Rattle.std.proofs.Common.{◌≡◌, ◌≤◌, ◌+◌, ◌*◌, ℕ, Bool,
 use Rattle.hs_expressions.specs.Laws.Always.{gives_always, looks_always, of_types_always, then_always}
 use Rattle.hs_fitting.specs.Answers.{accepted}
 use Rattle.hs_fitting.specs.Filling.{Simple, simple_started, excess_started}
-use Rattle.hs_fitting.specs.Initialising.{excess_always, simple_always, placed_value_always, text_or_always, placed_always, all_placed_always}
+use Rattle.hs_fitting.specs.Initialising.{excess_always, simple_always, placed_value_always, value_reached_always, text_or_always, placed_always, all_placed_always}
 use Rattle.hs_fitting.specs.Moves.{IsWhole}
 use Rattle.hs_fitting.specs.PartLists.{AreParts, no_parts, parts_then, parts_until}
 use Rattle.hs_fitting.specs.Readying.{Started, gives_started, looks_started, of_types_started, then_started, so_started, tested_started}
@@ -15,7 +15,8 @@ use Rattle.hs_fitting.specs.Staying.{takes_stays, text_kind_stays}
 use Rattle.hs_fitting.specs.Texts.{TextParts, text_parts}
 use Rattle.hs_fitting.specs.Walking.{Nested, Target, reached_target, whole_target, inside_nested, nested_end, nested_count}
 use Rattle.hs_aggregates.specs.Aggregates.{text_kind, fresh, takes, reached, Reached, whole, count_begun}
-use Rattle.hs_initialisers.specs.Initialisers.{Filled, text_of, is_string, lone_string, placed_value, whole_at as whole_reached, text_filled, text_or, placed, all_placed, braced, all_of, alone}
+use Rattle.hs_initialisers.specs.Initialisers.{Filled, text_of, is_string, lone_string, placed_value, place_beyond, whole_at as whole_reached, text_filled, text_or, placed, all_placed, braced, all_of, alone}
+use Rattle.hs_syntax.specs.Positions.{position_of}
 use Rattle.hs_syntax.specs.Trees as syntax
 use Rattle.hs_syntax.specs.Trees.{Expression, Initialising, Initialisers}
 use Rattle.hs_tokens.specs.declared.place.Place.{Place}
@@ -54,13 +55,13 @@ module _ (program : TypedProgram) (function : TypedFunction) (sound : IsRight pr
       reached_target types right holds root later grows text from done.1 to nested same
 
   -- an expression in a list
-  placed_value_started : (root : Subobject) (done : List Part) (from : ℕ) (e : Expression) (to : Option Reached)
+  placed_value_started : (at : Place) (root : Subobject) (done : List Part) (from : ℕ) (e : Expression) (to : Option Reached)
       → AreParts program holds 0 from done → Reaching root from (is_string e) to
-      → Started program function types (IsFilled program types holds root) (placed_value done e to)
-  placed_value_started root done from e None are reaching =
-      then_started (excess_always e) (excess_started program function sound types right holds e) (λ its. gives_always (done ++ its, []))
+      → Started program function types (IsFilled program types holds root) (placed_value at done e to)
+  placed_value_started at root done from e None are reaching =
+      then_started (excess_always at e) (excess_started program function sound types right holds at e) (λ its. gives_always (done ++ its, []))
       (λ its none'. absurd none')
-  placed_value_started root done from e (Some to) are reaching =
+  placed_value_started at root done from e (Some to) are reaching =
       let target = reaching.0 in
       let before = target.after in
       let there = whole_at types holds to.0.offset to.0.type_id to.0.field target.whole target.within in
@@ -127,27 +128,31 @@ module _ (program : TypedProgram) (function : TypedFunction) (sound : IsRight pr
 
   mutual
     -- one initialiser of a list
-    placed_started : (root : Subobject) (done : Filled) (it : Initialising) → IsFilled program types holds root done
-        → Started program function types (IsFilled program types holds root) (placed done it)
-    placed_started root done (syntax.value e) is =
-        then_started (looks_always (λ s. Ok (reached s.types (is_string e) done.1)))
+    placed_started : (name : Place) (root : Subobject) (done : Filled) (it : Initialising) → IsFilled program types holds root done
+        → Started program function types (IsFilled program types holds root) (placed name done it)
+    placed_started name root done (syntax.value e) is =
+        then_started (looks_always (λ s. Ok (place_beyond s.types name done.1 (position_of e))))
+        (looks_started {holds = λ at. Unit {0}} (λ s. Ok (place_beyond s.types name done.1 (position_of e))) (λ s grows after at given. tt))
+        (λ at. value_reached_always at done e)
+        (λ at any. then_started (looks_always (λ s. Ok (reached s.types (is_string e) done.1)))
         (looks_started {holds = Reaching root is.from (is_string e)} (λ s. Ok (reached s.types (is_string e) done.1))
         (λ s grows after to given.
         reaching_by s.types grows root is.from (is_string e) done is.nested to (accepted (reached s.types (is_string e) done.1) to given)))
-        (λ to. placed_value_always done.0 e to) (λ to reaching. placed_value_started root done.0 is.from e to is.parts reaching)
-    placed_started root done (syntax.list at its comma) is =
-        then_started (looks_always (λ s. whole_reached at (whole s.types done.1)))
-        (looks_started {holds = Target types holds root is.from} (λ s. whole_reached at (whole s.types done.1))
-        (λ s grows after to given. whole_given s.types grows root is.from at done is.nested (whole s.types done.1) to refl given))
+        (λ to. placed_value_always at done.0 e to) (λ to reaching. placed_value_started at root done.0 is.from e to is.parts reaching))
+    placed_started name root done (syntax.list at its comma) is =
+        then_started (looks_always (λ s. whole_reached (place_beyond s.types name done.1 at) (whole s.types done.1)))
+        (looks_started {holds = Target types holds root is.from} (λ s. whole_reached (place_beyond s.types name done.1 at) (whole s.types done.1))
+        (λ s grows after to given.
+        whole_given s.types grows root is.from (place_beyond s.types name done.1 at) done is.nested (whole s.types done.1) to refl given))
         (λ to. then_always
-        (text_or_always (lone_string its) to.0 done.0 (all_placed (done.0, fresh to.0 ∷ []) its) (all_placed_always (done.0, fresh to.0 ∷ []) its))
+        (text_or_always (lone_string its) to.0 done.0 (all_placed name (done.0, fresh to.0 ∷ []) its) (all_placed_always name (done.0, fresh to.0 ∷ []) its))
         (λ inner. gives_always (inner.0, to.1)))
         (λ to target. then_started
-        (text_or_always (lone_string its) to.0 done.0 (all_placed (done.0, fresh to.0 ∷ []) its) (all_placed_always (done.0, fresh to.0 ∷ []) its))
-        (text_or_started (lone_string its) to.0 is.from done.0 (all_placed (done.0, fresh to.0 ∷ []) its) is.parts target.after
+        (text_or_always (lone_string its) to.0 done.0 (all_placed name (done.0, fresh to.0 ∷ []) its) (all_placed_always name (done.0, fresh to.0 ∷ []) its))
+        (text_or_started (lone_string its) to.0 is.from done.0 (all_placed name (done.0, fresh to.0 ∷ []) its) is.parts target.after
         (whole_solid types to.0.type_id target.whole) (whole_at types holds to.0.offset to.0.type_id to.0.field target.whole target.within)
         (so_started (filled_braced to.0)
-        (all_placed_started to.0 (done.0, fresh to.0 ∷ []) its
+        (all_placed_started name to.0 (done.0, fresh to.0 ∷ []) its
         (record {
           from = is.from;
           parts = is.parts;
@@ -162,21 +167,21 @@ module _ (program : TypedProgram) (function : TypedFunction) (sound : IsRight pr
         })))
 
     -- those of a list
-    all_placed_started : (root : Subobject) (done : Filled) (its : Initialisers) → IsFilled program types holds root done
-        → Started program function types (IsFilled program types holds root) (all_placed done its)
-    all_placed_started root done syntax.no_initialisers is = gives_started done is
-    all_placed_started root done (syntax.more_initialisers first rest) is =
-        then_started (placed_always done first) (placed_started root done first is) (λ next. all_placed_always next rest)
-        (λ next is'. all_placed_started root next rest is')
+    all_placed_started : (name : Place) (root : Subobject) (done : Filled) (its : Initialisers) → IsFilled program types holds root done
+        → Started program function types (IsFilled program types holds root) (all_placed name done its)
+    all_placed_started name root done syntax.no_initialisers is = gives_started done is
+    all_placed_started name root done (syntax.more_initialisers first rest) is =
+        then_started (placed_always name done first) (placed_started name root done first is) (λ next. all_placed_always name next rest)
+        (λ next is'. all_placed_started name root next rest is')
 
   -- a list in braces for the whole object
-  pub braced_started : (id : TypeId) (its : Initialisers) → IsSolid types id → IsAt types holds 0 id None
-      → Started program function types (Braced program types holds (all_of id)) (braced (all_of id) [] its)
-  braced_started id its solid there =
-      text_or_started (lone_string its) (all_of id) 0 [] (all_placed ([], fresh (all_of id) ∷ []) its) (no_parts program holds 0 0) (omega arith) solid
+  pub braced_started : (name : Place) (id : TypeId) (its : Initialisers) → IsSolid types id → IsAt types holds 0 id None
+      → Started program function types (Braced program types holds (all_of id)) (braced name (all_of id) [] its)
+  braced_started name id its solid there =
+      text_or_started (lone_string its) (all_of id) 0 [] (all_placed name ([], fresh (all_of id) ∷ []) its) (no_parts program holds 0 0) (omega arith) solid
       there
       (so_started (filled_braced (all_of id))
-      (all_placed_started (all_of id) ([], fresh (all_of id) ∷ []) its
+      (all_placed_started name (all_of id) ([], fresh (all_of id) ∷ []) its
       (record {
         from = 0;
         parts = no_parts program holds 0 0;
@@ -198,4 +203,4 @@ module _ (program : TypedProgram) (function : TypedFunction) (sound : IsRight pr
       tested_started (λ s. takes s.types (is_string e) (all_of id)) (takes types (is_string e) (all_of id))
       (λ s grows. takes_stays types right s.types grows (is_string e) (all_of id) solid)
       (λ taken. simple_started program function sound types right holds (all_of id) e solid there taken)
-      (λ other. so_started (λ its none'. absurd none') (excess_started program function sound types right holds e))
+      (λ other. so_started (λ its none'. absurd none') (excess_started program function sound types right holds (position_of e) e))

@@ -8,7 +8,7 @@ use Rattle.hs_fitting.specs.NotingSteps.{gives_notes, refuses_notes, looks_notes
 use Rattle.hs_fitting.specs.NotingTyping.{valued_notes}
 use Rattle.hs_fitting.specs.Rightness.{Righting, right_self, arrayed_rights, end_rights}
 use Rattle.hs_aggregates.specs.Aggregates.{text_kind, fresh, reached, Reached, whole, count_begun, takes}
-use Rattle.hs_initialisers.specs.Initialisers.{Filled, part_of, text_of, is_string, lone_string, scalar, excess, simple, placed_value, whole_at, text_filled, text_or, placed, all_placed, braced, all_of, sized_by, sized, alone, listed, initialised, assigned_start, constant_start, starting, with_parts}
+use Rattle.hs_initialisers.specs.Initialisers.{Filled, part_of, text_of, is_string, lone_string, scalar, excess, simple, place_beyond, placed_value, whole_at, text_filled, text_or, placed, all_placed, braced, all_of, sized_by, sized, alone, listed, initialised, assigned_start, constant_start, starting, with_parts}
 use Rattle.hs_initialisers.specs.InlineWords.{inline_word, inline_in_list, inline_list, inline_words}
 use Rattle.hs_operands.specs.Assignments.{assigned}
 use Rattle.hs_syntax.specs.Positions.{position_of}
@@ -60,8 +60,8 @@ module _ (Q : ℕ → TypeId → Type 0) (final : TypeTable) where
       (λ its. after_notes (of_types_notes (part_of it (position_of e) its)) (λ part. gives_notes (part ∷ [])))
 
   -- an expression with nothing left to initialise
-  excess_notes : (e : Expression) → Notes Q final IsConstant (λ it. Unit {0}) (excess e)
-  excess_notes e = after_notes (valued_notes Q final e) (λ its. refuses_notes (Untyped (position_of e)))
+  excess_notes : (at : Place) (e : Expression) → Notes Q final IsConstant (λ it. Unit {0}) (excess at e)
+  excess_notes at e = after_notes (valued_notes Q final e) (λ its. refuses_notes (Untyped at))
 
   -- a scalar, or an array of characters
   simple_notes : (it : _) (e : Expression) → Notes Q final IsConstant (λ it. Unit {0}) (simple it e)
@@ -70,10 +70,10 @@ module _ (Q : ℕ → TypeId → Type 0) (final : TypeTable) where
       (of_types_notes (text_of it e)) (scalar_notes it e)
 
   -- an expression in a list
-  placed_value_notes : (done : List Part) (e : Expression) (to : Option Reached)
-      → Notes Q final IsConstant (λ it. Unit {0}) (placed_value done e to)
-  placed_value_notes done e None = after_notes (excess_notes e) (λ its. gives_notes (done ++ its, []))
-  placed_value_notes done e (Some to) = after_notes (simple_notes to.0 e) (λ its. gives_notes (done ++ its, to.1))
+  placed_value_notes : (at : Place) (done : List Part) (e : Expression) (to : Option Reached)
+      → Notes Q final IsConstant (λ it. Unit {0}) (placed_value at done e to)
+  placed_value_notes at done e None = after_notes (excess_notes at e) (λ its. gives_notes (done ++ its, []))
+  placed_value_notes at done e (Some to) = after_notes (simple_notes to.0 e) (λ its. gives_notes (done ++ its, to.1))
 
   -- a string in braces, or what the others are
   text_or_notes : (e : Option Expression) (it : _) (done : List Part) (others : Step Filled) → Notes Q final IsConstant (λ it. Unit {0}) others
@@ -85,24 +85,27 @@ module _ (Q : ℕ → TypeId → Type 0) (final : TypeTable) where
 
   mutual
     -- one initialiser of a list
-    placed_notes : (done : Filled) (it : Initialising) → Notes Q final IsConstant (λ it. Unit {0}) (placed done it)
-    placed_notes done (syntax.value e) =
-        after_notes (looks_notes (λ s. Ok (reached s.types (is_string e) done.1))) (λ to. placed_value_notes done.0 e to)
-    placed_notes done (syntax.list at its comma) =
-        after_notes (looks_notes (λ s. whole_at at (whole s.types done.1)))
+    placed_notes : (name : Place) (done : Filled) (it : Initialising) → Notes Q final IsConstant (λ it. Unit {0}) (placed name done it)
+    placed_notes name done (syntax.value e) =
+        after_notes (looks_notes (λ s. Ok (place_beyond s.types name done.1 (position_of e))))
+        (λ at. after_notes (looks_notes (λ s. Ok (reached s.types (is_string e) done.1))) (λ to. placed_value_notes at done.0 e to))
+    placed_notes name done (syntax.list at its comma) =
+        after_notes (looks_notes (λ s. whole_at (place_beyond s.types name done.1 at) (whole s.types done.1)))
         (λ to. after_notes
-        (text_or_notes (lone_string its) to.0 done.0 (all_placed (done.0, fresh to.0 ∷ []) its) (all_placed_notes (done.0, fresh to.0 ∷ []) its))
-        (λ inner. gives_notes (inner.0, to.1)))
+        (text_or_notes (lone_string its) to.0 done.0 (all_placed name (done.0, fresh to.0 ∷ []) its)
+        (all_placed_notes name (done.0, fresh to.0 ∷ []) its)) (λ inner. gives_notes (inner.0, to.1)))
 
     -- those of a list
-    all_placed_notes : (done : Filled) (its : Initialisers) → Notes Q final IsConstant (λ it. Unit {0}) (all_placed done its)
-    all_placed_notes done syntax.no_initialisers = gives_notes done
-    all_placed_notes done (syntax.more_initialisers first rest) = after_notes (placed_notes done first) (λ next. all_placed_notes next rest)
+    all_placed_notes : (name : Place) (done : Filled) (its : Initialisers) → Notes Q final IsConstant (λ it. Unit {0}) (all_placed name done its)
+    all_placed_notes name done syntax.no_initialisers = gives_notes done
+    all_placed_notes name done (syntax.more_initialisers first rest) =
+        after_notes (placed_notes name done first) (λ next. all_placed_notes name next rest)
 
   -- a list in braces
-  pub braced_notes : (it : _) (done : List Part) (its : Initialisers) → Notes Q final IsConstant (λ it. Unit {0}) (braced it done its)
-  braced_notes it done its =
-      text_or_notes (lone_string its) it done (all_placed (done, fresh it ∷ []) its) (all_placed_notes (done, fresh it ∷ []) its)
+  pub braced_notes : (name : Place) (it : _) (done : List Part) (its : Initialisers)
+      → Notes Q final IsConstant (λ it. Unit {0}) (braced name it done its)
+  braced_notes name it done its =
+      text_or_notes (lone_string its) it done (all_placed name (done, fresh it ∷ []) its) (all_placed_notes name (done, fresh it ∷ []) its)
 
   -- the type of the object
   sized_notes : (at : Place) (id : TypeId) (count : ℕ) → Notes Q final IsConstant (λ it. Unit {0}) (on_types (sized at id count))
@@ -113,12 +116,13 @@ module _ (Q : ℕ → TypeId → Type 0) (final : TypeTable) where
   -- an expression alone, and a list
   pub alone_notes : (id : TypeId) (e : Expression) → Notes Q final IsConstant (λ it. Unit {0}) (alone id e)
   alone_notes id e =
-      tested_notes (λ s. takes s.types (is_string e) (all_of id)) (simple (all_of id) e) (excess e) (simple_notes (all_of id) e) (excess_notes e)
+      tested_notes (λ s. takes s.types (is_string e) (all_of id)) (simple (all_of id) e) (excess (position_of e) e)
+      (simple_notes (all_of id) e) (excess_notes (position_of e) e)
 
   -- a list for the whole object
   listed_notes : (at : Place) (id : TypeId) (its : Initialisers) → Notes Q final IsConstant (λ it. Unit {0}) (listed at id its)
   listed_notes at id its =
-      after_notes (braced_notes (all_of id) [] its)
+      after_notes (braced_notes at (all_of id) [] its)
       (λ filled. after_notes (sized_notes at id (count_begun filled.1)) (λ made. gives_notes (made, filled.0)))
 
   -- an object of static storage duration

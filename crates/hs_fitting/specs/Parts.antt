@@ -139,8 +139,8 @@ module _ (program : TypedProgram) (function : TypedFunction) (sound : IsRight pr
       (λ its is made sized'. complete_given id whole made its (sized'.same whole) (is.whole whole))
   complete_started at id (syntax.list brace its comma) solid whole =
       sized_then at id (λ (filled : Filled). count_begun filled.1) (λ filled. filled.0) (Braced program types (IsScalarAt types id) (all_of id))
-      (braced (all_of id) [] its) solid (braced_always (all_of id) [] its)
-      (braced_started program function sound types right (IsScalarAt types id) id its solid (complete_at types id whole))
+      (braced at (all_of id) [] its) solid (braced_always at (all_of id) [] its)
+      (braced_started program function sound types right (IsScalarAt types id) at id its solid (complete_at types id whole))
       (λ filled is made sized'. complete_given id whole made filled.0 (sized'.same whole) (is.whole whole))
 
   -- of an array whose length is not known
@@ -152,8 +152,8 @@ module _ (program : TypedProgram) (function : TypedFunction) (sound : IsRight pr
       (λ its is made sized'. counted_given of (length its) made its whole (sized'.row of same) (is.opens of same))
   open_started at id of (syntax.list brace its comma) solid same whole =
       sized_then at id (λ (filled : Filled). count_begun filled.1) (λ filled. filled.0) (Braced program types (InElements types of) (all_of id))
-      (braced (all_of id) [] its) solid (braced_always (all_of id) [] its)
-      (braced_started program function sound types right (InElements types of) id its solid (elements_at types id of same))
+      (braced at (all_of id) [] its) solid (braced_always at (all_of id) [] its)
+      (braced_started program function sound types right (InElements types of) at id its solid (elements_at types id of same))
       (λ filled is made sized'. counted_given of (count_begun filled.1) made filled.0 whole (sized'.row of same) (is.opens of same))
 
   started_by : (at : Place) (id : TypeId) (it : Initialising) (o : Option Row) → row_of types id ≡ o → IsSolid types id → IsSolidRow types id o

@@ -155,8 +155,8 @@ initialised_whole at id (syntax.value e) =
     then_whole id (alone id e) (λ its. on_types (sized at id (length its)) >>= (λ made. give (made, its))) (alone_always id e)
     (λ its. sized_then at id (length its) its)
 initialised_whole at id (syntax.list brace its comma) =
-    then_whole id (braced (all_of id) [] its) (λ filled. on_types (sized at id (count_begun filled.1)) >>= (λ made. give (made, filled.0)))
-    (braced_always (all_of id) [] its) (λ filled. sized_then at id (count_begun filled.1) filled.0)
+    then_whole id (braced at (all_of id) [] its) (λ filled. on_types (sized at id (count_begun filled.1)) >>= (λ made. give (made, filled.0)))
+    (braced_always at (all_of id) [] its) (λ filled. sized_then at id (count_begun filled.1) filled.0)
 
 -- with constants
 given_constant : (given : Result ((TypeId × List Part) × Typer) TypeError) → WholeGiven given → WholeGiven (then_with (λ p. give (with_parts p)) given)

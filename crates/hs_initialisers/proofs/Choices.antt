@@ -6,8 +6,9 @@ use Rattle.hs_typer.specs.declared.type_error.TypeError.{TypeError}
 use Rattle.hs_typer.specs.declared.type_error.TypeError.TheVariants.{Untyped, Undeclared, UnknownRoutine, Clash, NoMemory}
 use Rattle.hs_typer.specs.declared.typer.Typer.{Typer}
 use Rattle.hs_aggregates.specs.Aggregates.{Reached, fresh, takes, reached, whole, text_kind}
-use Rattle.hs_initialisers.specs.Initialisers.{Filled, all_of, alone, simple, excess, is_string, lone_string, text_or, text_of, text_filled, whole_at, placed, placed_value, all_placed, braced}
+use Rattle.hs_initialisers.specs.Initialisers.{Filled, all_of, alone, simple, excess, is_string, lone_string, text_or, text_of, text_filled, whole_at, place_beyond, placed, placed_value, all_placed, braced}
 use Rattle.hs_aggregates.specs.declared.aggregates.Subobject.{Subobject}
+use Rattle.hs_syntax.specs.Positions.{position_of}
 use Rattle.hs_syntax.specs.Trees as syntax
 use Rattle.hs_syntax.specs.Trees.{Expression, Initialisers}
 use Rattle.hs_tokens.specs.declared.place.Place.{Place}
@@ -27,40 +28,45 @@ refused_then next given (Clash at name) refuses = ap (then_with next) refuses
 pub alone_taken : {B : Type 0} (view : B → List Part) (new s : Typer) (id : TypeId) (it : Subobject) (e : Expression) (result : Result B TypeError)
     → it ≡ all_of id → takes s.types (is_string e) (all_of id) ≡ true → Steps view new (simple it e s) result → Steps view new (alone id e s) result
 alone_taken view new s id it e result whole is steps =
-    subst (λ (test : Bool). Steps view new (if test then simple (all_of id) e s else excess e s) result) (sym is)
+    subst (λ (test : Bool). Steps view new (if test then simple (all_of id) e s else excess (position_of e) e s) result) (sym is)
     (subst (λ (its : Subobject). Steps view new (simple its e s) result) whole steps)
 
 -- or it cannot
 pub alone_refused : (s : Typer) (id : TypeId) (e : Expression) (why : TypeError) → takes s.types (is_string e) (all_of id) ≡ false
-    → Refuses (excess e s) why → Refuses (alone id e s) why
+    → Refuses (excess (position_of e) e s) why → Refuses (alone id e s) why
 alone_refused s id e why is refuses =
-    subst (λ (test : Bool). Refuses (if test then simple (all_of id) e s else excess e s) why) (sym is) refuses
+    subst (λ (test : Bool). Refuses (if test then simple (all_of id) e s else excess (position_of e) e s) why) (sym is) refuses
 
 -- a list of one string literal is a list if the object is no array of characters
-pub braced_listed : {B : Type 0} (view : B → Filled) (new s : Typer) (it : Subobject) (done : List Part) (its : Initialisers) (e : Expression)
+pub braced_listed : {B : Type 0} (view : B → Filled) (new s : Typer) (name : Place) (it : Subobject) (done : List Part) (its : Initialisers) (e : Expression)
     (result : Result B TypeError) → lone_string its ≡ Some e → is_some (text_kind s.types it.type_id) ≡ false
-    → Steps view new (all_placed (done, fresh it ∷ []) its s) result → Steps view new (braced it done its s) result
-braced_listed view new s it done its e result lone other steps =
-    subst (λ (found : Option Expression). Steps view new (text_or found it done (all_placed (done, fresh it ∷ []) its) s) result) (sym lone)
+    → Steps view new (all_placed name (done, fresh it ∷ []) its s) result → Steps view new (braced name it done its s) result
+braced_listed view new s name it done its e result lone other steps =
+    subst (λ (found : Option Expression). Steps view new (text_or found it done (all_placed name (done, fresh it ∷ []) its) s) result) (sym lone)
     (subst
     (λ (test : Bool). Steps view new
-    ((if test then (of_types (text_of it e) >>= (λ parts. give (text_filled it.type_id done parts))) s else all_placed (done, fresh it ∷ []) its s)) result)
+    (if test
+    then (of_types (text_of it e) >>= (λ parts. give (text_filled it.type_id done parts))) s
+    else all_placed name (done, fresh it ∷ []) its s) result)
     (sym other) steps)
 
 -- an expression in a list is for what is reached
-pub value_placed : {B : Type 0} (view : B → Filled) (new s : Typer) (done : Filled) (e : Expression) (to : Option Reached) (result : Result B TypeError)
-    → to ≡ reached s.types (is_string e) done.1 → Steps view new (placed_value done.0 e to s) result → Steps view new (placed done (syntax.value e) s) result
-value_placed view new s done e to result is steps =
-    subst (λ (found : Option Reached). Steps view new (placed_value done.0 e found s) result) is steps
+pub value_placed : {B : Type 0} (view : B → Filled) (new s : Typer) (name at : Place) (done : Filled) (e : Expression) (to : Option Reached)
+    (result : Result B TypeError) → at ≡ place_beyond s.types name done.1 (position_of e) → to ≡ reached s.types (is_string e) done.1
+    → Steps view new (placed_value at done.0 e to s) result → Steps view new (placed name done (syntax.value e) s) result
+value_placed view new s name at done e to result place is steps =
+    subst (λ (found : Option Reached). Steps view new (placed_value (place_beyond s.types name done.1 (position_of e)) done.0 e found s) result) is
+    (subst (λ (place : Place). Steps view new (placed_value place done.0 e to s) result) place steps)
 
 -- what is refused inside a list in a list is refused
-pub list_refused : {B : Type 0} (view : B → Filled) (new s : Typer) (at : Place) (its : Initialisers) (comma : Bool) (done : Filled) (to : Reached)
-    (given result : Result B TypeError) (why : TypeError) → whole_at at (whole s.types done.1) ≡ Ok to → given ≡ Err why → result ≡ Err why
-    → Steps view new (braced to.0 done.0 its s) given → Steps view new (placed done (syntax.list at its comma) s) result
-list_refused view new s at its comma done to given result why is_at is same steps =
+pub list_refused : {B : Type 0} (view : B → Filled) (new s : Typer) (name at : Place) (its : Initialisers) (comma : Bool) (done : Filled) (to : Reached)
+    (given result : Result B TypeError) (why : TypeError) → whole_at (place_beyond s.types name done.1 at) (whole s.types done.1) ≡ Ok to
+    → given ≡ Err why → result ≡ Err why
+    → Steps view new (braced name to.0 done.0 its s) given → Steps view new (placed name done (syntax.list at its comma) s) result
+list_refused view new s name at its comma done to given result why is_at is same steps =
     let next : Filled → Step Filled = λ inner. give (inner.0, to.1) in
-    subst (Steps view new (placed done (syntax.list at its comma) s)) (sym same)
+    subst (Steps view new (placed name done (syntax.list at its comma) s)) (sym same)
     (subst
     (λ (found : Result Reached TypeError).
-    Refuses (then_with {B = Filled} (λ outer. braced outer.0 done.0 its >>= (λ inner. give (inner.0, outer.1))) (kept s found)) why)
-    (sym is_at) (refused_then next (braced to.0 done.0 its s) why (subst (Steps view new (braced to.0 done.0 its s)) is steps)))
+    Refuses (then_with {B = Filled} (λ outer. braced name outer.0 done.0 its >>= (λ inner. give (inner.0, outer.1))) (kept s found)) why)
+    (sym is_at) (refused_then next (braced name to.0 done.0 its s) why (subst (Steps view new (braced name to.0 done.0 its s)) is steps)))

@@ -5,7 +5,7 @@ use Rattle.std.specs.Prelude.{ℕ, suc, ◌==◌, nat_le, Bool, true, false, ◌
 use Rattle.hs_expressions.specs.Expressions.{typed}
 use Rattle.hs_expressions.specs.Operations.{value_of}
 use Rattle.hs_aggregates.specs.Addresses.{constant_in}
-use Rattle.hs_aggregates.specs.Aggregates.{Reached, fresh, takes, reached, whole, text_kind, count_begun}
+use Rattle.hs_aggregates.specs.Aggregates.{Reached, fresh, takes, reached, whole, text_kind, is_growing, count_begun}
 use Rattle.hs_aggregates.specs.declared.aggregates.Aggregate.{Aggregate}
 use Rattle.hs_aggregates.specs.declared.aggregates.Subobject.{Subobject}
 use Rattle.hs_operands.specs.Assignments.{assigned}
@@ -131,9 +131,9 @@ scalar it e = do
   part ← of_types (part_of it (position_of e) its)
   give (part ∷ [])
 
--- an expression with nothing left to initialise
-abbrev pub excess : Expression → Step (List Part)
-excess e = value_of (typed e) >>= (λ its. refuse (Untyped (position_of e)))
+-- an expression with nothing left to initialise, which is refused at that place
+abbrev pub excess : Place → Expression → Step (List Part)
+excess at e = value_of (typed e) >>= (λ its. refuse (Untyped at))
 
 -- a scalar, or an array of characters and a string
 abbrev pub simple : Subobject → Expression → Step (List Part)
@@ -143,12 +143,17 @@ simple it e s = if is_string e && is_some (text_kind s.types it.type_id) then of
 abbrev pub Filled : Type 0
 Filled = List Part × List Aggregate
 
--- what an expression in a list initialises
-abbrev pub placed_value : List Part → Expression → Option Reached → Step Filled
-placed_value done e None = excess e >>= (λ its. give (done ++ its, []))
-placed_value done e (Some to) = simple to.0 e >>= (λ its. give (done ++ its, to.1))
+-- Where an item that nothing is left for is refused. If the object is an array of unknown length, the item would make it too large, which is
+-- refused at the name of the object (own); otherwise the item itself is refused.
+abbrev pub place_beyond : TypeTable → Place → List Aggregate → Place → Place
+place_beyond types name begun at = if is_growing types begun then name else at
 
--- what a list inside a list initialises; if nothing is left, it is refused at its `{`
+-- what an expression in a list initialises; if nothing is left, it is refused at `at`
+abbrev pub placed_value : Place → List Part → Expression → Option Reached → Step Filled
+placed_value at done e None = excess at e >>= (λ its. give (done ++ its, []))
+placed_value at done e (Some to) = simple to.0 e >>= (λ its. give (done ++ its, to.1))
+
+-- what a list inside a list initialises; if nothing is left, it is refused at `at`
 abbrev pub whole_at : Place → Option Reached → Result Reached TypeError
 whole_at at None = Err (Untyped at)
 whole_at at (Some to) = Ok to
@@ -164,22 +169,25 @@ text_or (Some e) it done others s =
     if is_some (text_kind s.types it.type_id) then (of_types (text_of it e) >>= (λ its. give (text_filled it.type_id done its))) s else others s
 
 abbrev mutual
-  -- one initialiser of a list
-  pub placed : Filled → Initialising → Step Filled
-  placed done (syntax.value e) = look (λ s. Ok (reached s.types (is_string e) done.1)) >>= placed_value done.0 e
-  placed done (syntax.list at its comma) = do
-    to ← look (λ s. whole_at at (whole s.types done.1))
-    inner ← text_or (lone_string its) to.0 done.0 (all_placed (done.0, fresh to.0 ∷ []) its)
+  -- one initialiser of a list; `name` is the place of the object's name
+  pub placed : Place → Filled → Initialising → Step Filled
+  placed name done (syntax.value e) = do
+    at ← look (λ s. Ok (place_beyond s.types name done.1 (position_of e)))
+    to ← look (λ s. Ok (reached s.types (is_string e) done.1))
+    placed_value at done.0 e to
+  placed name done (syntax.list at its comma) = do
+    to ← look (λ s. whole_at (place_beyond s.types name done.1 at) (whole s.types done.1))
+    inner ← text_or (lone_string its) to.0 done.0 (all_placed name (done.0, fresh to.0 ∷ []) its)
     give (inner.0, to.1)
 
   -- those of a list, in their order
-  pub all_placed : Filled → Initialisers → Step Filled
-  all_placed done syntax.no_initialisers = give done
-  all_placed done (syntax.more_initialisers first rest) = placed done first >>= (λ next. all_placed next rest)
+  pub all_placed : Place → Filled → Initialisers → Step Filled
+  all_placed name done syntax.no_initialisers = give done
+  all_placed name done (syntax.more_initialisers first rest) = placed name done first >>= (λ next. all_placed name next rest)
 
 -- a list in braces, for that object, as it is in a list
-abbrev pub braced : Subobject → List Part → Initialisers → Step Filled
-braced it done its = text_or (lone_string its) it done (all_placed (done, fresh it ∷ []) its)
+abbrev pub braced : Place → Subobject → List Part → Initialisers → Step Filled
+braced name it done its = text_or (lone_string its) it done (all_placed name (done, fresh it ∷ []) its)
 
 -- the whole object
 abbrev pub all_of : TypeId → Subobject
@@ -203,12 +211,12 @@ sized at id count types = sized_by at id count (row_of types id) types
 
 -- an expression alone initialises a scalar, or a string literal an array of characters
 abbrev pub alone : TypeId → Expression → Step (List Part)
-alone id e s = if takes s.types (is_string e) (all_of id) then simple (all_of id) e s else excess e s
+alone id e s = if takes s.types (is_string e) (all_of id) then simple (all_of id) e s else excess (position_of e) e s
 
 -- a list in braces for the whole object
 abbrev pub listed : Place → TypeId → Initialisers → Step (TypeId × List Part)
 listed at id its = do
-  filled ← braced (all_of id) [] its
+  filled ← braced at (all_of id) [] its
   made ← on_types (sized at id (count_begun filled.1))
   give (made, filled.0)
 

@@ -73,7 +73,7 @@ fn alone(alloc: Global, typer: &mut Typer, id: TypeId, e: &Expr) -> Result<Vec<P
     if takes(&typer.types, is_string(e), it) {
         simple(alloc, typer, it, e)
     } else {
-        Err(excess(alloc, typer, e))
+        Err(excess(alloc, typer, e.position(), e))
     }
 }
 
@@ -87,7 +87,7 @@ fn listed(
 ) -> Result<(TypeId, Vec<Part>), TypeError>
     ensures { Steps (λ p. (p.0, p.1.items)) typer.new (listed at id (initialisers_from (map view_initialiser its.now)) typer.old) result }
 {
-    let filled = braced(alloc, typer, all_of(id), Vec::new(alloc), its)?;
+    let filled = braced(alloc, typer, at, all_of(id), Vec::new(alloc), its)?;
     let Filled { parts, begun } = filled;
     let made = sized(&mut typer.types, at, id, begun.count())?;
     Ok((made, parts))

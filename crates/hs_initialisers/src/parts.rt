@@ -58,12 +58,12 @@ fn alone(alloc: Global, part: Part) -> Result<Vec<Part>, NoMemory>
     Ok(its)
 }
 
-/// The refusal of an expression that has nothing left to initialise: at its position, unless the expression itself is refused.
-pub(crate) fn excess(alloc: Global, typer: &mut Typer, e: &Expr) -> TypeError
-    ensures { Refuses (excess (view e.now) typer.old) result }
+/// The refusal of an expression that has nothing left to initialise: at that place, unless the expression itself is refused.
+pub(crate) fn excess(alloc: Global, typer: &mut Typer, at: Place, e: &Expr) -> TypeError
+    ensures { Refuses (excess at (view e.now) typer.old) result }
 {
     match value(alloc, typer, e) {
-        Ok(_) => TypeError::Untyped(e.position()),
+        Ok(_) => TypeError::Untyped(at),
         Err(why) => why,
     }
 }

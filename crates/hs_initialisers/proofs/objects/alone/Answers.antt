@@ -1,5 +1,8 @@
-use Rattle.std.proofs.Common.{rules}
+use Rattle.std.proofs.Common.{◌≡◌, rules, subst}
+use Rattle.hs_initialisers.specs.Initialisers.{excess}
+use Rattle.hs_syntax.specs.Positions.{position_of}
 use Rattle.hs_syntax.specs.Views.{view}
+use Rattle.hs_typer.specs.Steps.{Refuses}
 use Rattle.hs_initialisers.proofs.Choices.{alone_taken, alone_refused}
 use Rattle.hs_initialisers.proofs.objects.alone.Goals as goal
 
@@ -11,4 +14,7 @@ returns-then-takes c =
 
 -- it cannot
 pub returns-else-takes : goal.returns-else-takes
-returns-else-takes c = alone_refused c.args.typer.now c.args.id (view c.args.e.now) c.excess.result (search rules) (search rules)
+returns-else-takes c =
+    let place : c.position.result ≡ position_of (view c.args.e.now) = search rules in
+    alone_refused c.args.typer.now c.args.id (view c.args.e.now) c.excess.result (search rules)
+    (subst (λ at. Refuses (excess at (view c.args.e.now) c.args.typer.now) c.excess.result) place c.excess.ensures)
