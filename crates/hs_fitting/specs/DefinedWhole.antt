@@ -1,6 +1,6 @@
 -- A function definition, in the program that it goes on to (X3.159-1989 3.7.1).
 --     definition_right       each function is as the program keeps it, and all names refer to what was claimed
-use Rattle.std.proofs.Common.{◌≡◌, ℕ, Bool, true, false, not, ◌||◌, List, [], length, slice_get, Option, Some, None, Result, Ok, Err, refl, sym, ap, subst, ◌∙◌, if◌then◌else◌}
+use Rattle.std.proofs.Common.{◌≡◌, ℕ, Bool, true, false, List, [], length, slice_get, Option, Some, None, Result, Ok, Err, refl, sym, ap, subst, ◌∙◌, if◌then◌else◌}
 use Rattle.std.specs.Prelude.{◌==◌}
 use Rattle.std.specs.List.{AllByRecursion}
 use Rattle.hs_declarations.specs.Declarations.{block_declared, is_static, is_typedef_word}
@@ -35,12 +35,11 @@ use Rattle.hs_linkage.specs.Linkage.{is_barred}
 use Rattle.hs_linkage.specs.Works.{work_with, ◌>>=◌, typing, with_typer}
 use Rattle.hs_linkage.specs.declared.definitions.Definition.{Definition}
 use Rattle.hs_linkage.specs.declared.translator.Translator.{Translator}
-use Rattle.hs_names.specs.Scopes.{find, find_here}
 use Rattle.hs_syntax.specs.Trees.{Declaration, Declared, Compound, Parameters, Specification}
 use Rattle.hs_syntax.specs.declared.word.Word.{Word}
 use Rattle.hs_tokens.specs.declared.place.Place.{Place}
 use Rattle.hs_tree.specs.Trees.{TypedFunction, TypedProgram}
-use Rattle.hs_typer.specs.Declarators.{is_typedef, word_of}
+use Rattle.hs_typer.specs.Declarators.{word_of}
 use Rattle.hs_typer.specs.declared.type_error.TypeError.{TypeError}
 use Rattle.hs_typer.specs.declared.type_error.TypeError.TheVariants.{Untyped}
 use Rattle.hs_typer.specs.declared.typer.Typer.{Typer}

@@ -27,7 +27,6 @@ use Rattle.hs_linkage.specs.Linkage.{clash_of, is_barred, link}
 use Rattle.hs_linkage.specs.Objects.{marked}
 use Rattle.hs_linkage.specs.Works.{work_with, ◌>>=◌, ◌>>◌, pass, typing, with_typer}
 use Rattle.hs_linkage.specs.declared.translator.Translator.{Translator}
-use Rattle.hs_names.specs.Scopes.{find, find_here}
 use Rattle.hs_operands.specs.Laws.Stays.{is_void-stays, is_readable-stays}
 use Rattle.hs_statements.specs.Statements.{body_of}
 use Rattle.hs_syntax.specs.Trees as syntax
@@ -37,7 +36,7 @@ use Rattle.hs_tokens.specs.declared.place.Place.{Place}
 use Rattle.hs_tree.specs.Fitting.{FitsDefinition, count_types}
 use Rattle.hs_tree.specs.Kinds.{is_void, is_readable}
 use Rattle.hs_tree.specs.Trees.{TypedBlock, TypedFunction}
-use Rattle.hs_typer.specs.Declarators.{is_typedef, word_of}
+use Rattle.hs_typer.specs.Declarators.{word_of}
 use Rattle.hs_typer.specs.declared.type_error.TypeError.TheVariants.{Untyped}
 use Rattle.hs_typer.specs.declared.type_error.TypeError.{TypeError}
 use Rattle.hs_typer.specs.declared.typer.Entity.{Entity}

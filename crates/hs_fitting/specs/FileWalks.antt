@@ -13,7 +13,7 @@ use Rattle.hs_declarations.specs.declared.fronts.Front.{Front}
 use Rattle.hs_expressions.specs.Expressions.{first_place}
 use Rattle.hs_expressions.specs.Laws.{IsConstant}
 use Rattle.hs_fitting.specs.BlockWalks.{either_known_walks, nothing_named_walks, function_declared_walks, object_walks}
-use Rattle.hs_fitting.specs.Claims.{Claims, RefersTo, Endures, Proceeds, category_at}
+use Rattle.hs_fitting.specs.Claims.{Claims, Endures, Proceeds, category_at}
 use Rattle.hs_fitting.specs.Initialised.{initialised_walks}
 use Rattle.hs_fitting.specs.Known.{own_here, typing_fully, typing_walks}
 use Rattle.hs_fitting.specs.Lasting.{endures_moves}

@@ -1,5 +1,5 @@
-//! Laws of typed programs, proved and without code: what declarations, statements and functions keep. `hs_tree/specs/Fitting.antt` says what
-//! a typed program keeps; these are the steps towards it that are proved so far.
+//! Laws of typed programs, proved and without code: what expressions, declarations, statements and functions keep, so that their program keeps
+//! what `hs_tree/specs/Fitting.antt` says.
 #![tactic(auto)]
 
 mod laws;

@@ -180,8 +180,8 @@ pub fn with_member(
     Ok(done.with(alloc, word.text.items(), made)?)
 }
 
-/// Gives a struct its body, which begins at that brace and is the innermost open one. Refused at the first specifier if it is too large, at the tag if it got a body
-/// meanwhile, and at the brace if the first body that began there has other members.
+/// Gives a struct its body, which begins at that brace and is the innermost open one. Refused at the first specifier if it is too large, at
+/// the tag if it got a body meanwhile, and at the brace if the first body that began there has other members.
 ///
 /// Example: the body of a header that two units include makes one type of two structs.
 pub fn completed_struct(
