@@ -94,14 +94,18 @@ is_internal_link (Some it) = it.internal
 abbrev pub keeps_linkage : Option Storage → Word → Work (Unit {0})
 keeps_linkage storage word = unless (Untyped word.place) (λ m. is_none storage && is_internal_link (find word.text m.links))
 
--- an object of file scope
-abbrev pub file_object : Option Storage → Word → TypeId → Option Initialising → Work (Unit {0})
-file_object storage word id it = do
+-- an object of file scope; `static` is whether that is the storage word
+abbrev pub file_object_as : Bool → Option Storage → Word → TypeId → Option Initialising → Work (Unit {0})
+file_object_as static storage word id it = do
   is_object word id
-  may_be_tentative (is_static storage) word id it
+  may_be_tentative static word id it
   keeps_linkage storage word
-  its ← linked (is_static storage) word id
-  object_with_start (is_static storage) word it its
+  its ← linked static word id
+  object_with_start static word it its
+
+-- by its storage word
+abbrev pub file_object : Option Storage → Word → TypeId → Option Initialising → Work (Unit {0})
+file_object storage word id it = file_object_as (is_static storage) storage word id it
 
 -- the words of an inline trap, if there are some
 abbrev pub with_inline_words : Option Initialising → Work (Unit {0})

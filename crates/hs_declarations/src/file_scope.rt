@@ -1,7 +1,7 @@
 //! Declarations of file scope (X3.159-1989 3.5 and 3.7.2).
 
 ghost use Rattle.std.specs.Prelude.{◌≡◌, map, option_map, option_copied};
-ghost use Rattle.hs_declarations.specs.Declarations.{may_be_tentative, is_internal_link, keeps_linkage, file_object, with_inline_words, function_declared, file_entity, is_static, is_typedef_word, file_item_as, file_item, file_items, declared_alone, nothing_named, file_items_as, file_declared_at, file_declared};
+ghost use Rattle.hs_declarations.specs.Declarations.{may_be_tentative, is_internal_link, keeps_linkage, file_object_as, file_object, with_inline_words, function_declared, file_entity, is_static, is_typedef_word, file_item_as, file_item, file_items, declared_alone, nothing_named, file_items_as, file_declared_at, file_declared};
 ghost use Rattle.hs_declarations.specs.Fronts.{lone_tag};
 ghost use Rattle.hs_linkage.specs.Works.{Works};
 ghost use Rattle.hs_syntax.specs.Views.{view_declaration, view_item, view_initialiser, specification_of};
@@ -55,7 +55,27 @@ fn keeps_linkage(m: &Translator, storage: Option<Storage>, word: &Word) -> Resul
     Ok(())
 }
 
-/// An object of file scope.
+/// An object of file scope. `internal` is whether the storage word is `static`.
+fn file_object_as(
+    alloc: Global,
+    m: &mut Translator,
+    internal: bool,
+    storage: Option<Storage>,
+    word: &Word,
+    id: TypeId,
+    it: Option<&Initialiser>,
+) -> Result<(), TypeError>
+    ensures { Works (λ it. it) m.new
+        (file_object_as internal storage word.now id (option_map view_initialiser (option_copied it.entry)) m.old) result }
+{
+    must_be_object(m, word, id)?;
+    may_be_tentative(m, internal, word, id, it)?;
+    keeps_linkage(m, storage, word)?;
+    let its = linked(alloc, m, internal, word, id)?;
+    object_with_start(alloc, m, internal, word, it, its)
+}
+
+/// An object of file scope, by its storage word.
 fn file_object(
     alloc: Global,
     m: &mut Translator,
@@ -66,12 +86,7 @@ fn file_object(
 ) -> Result<(), TypeError>
     ensures { Works (λ it. it) m.new (file_object storage word.now id (option_map view_initialiser (option_copied it.entry)) m.old) result }
 {
-    let internal = is_static(storage);
-    must_be_object(m, word, id)?;
-    may_be_tentative(m, internal, word, id, it)?;
-    keeps_linkage(m, storage, word)?;
-    let its = linked(alloc, m, internal, word, id)?;
-    object_with_start(alloc, m, internal, word, it, its)
+    file_object_as(alloc, m, is_static(storage), storage, word, id, it)
 }
 
 /// A function that is declared, at any level, with the words of an inline trap, if there are some.

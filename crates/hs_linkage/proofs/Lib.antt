@@ -3,5 +3,4 @@ mod Indexed
 mod KeptChains
 mod Marked
 mod Onward
-mod Refused
 mod Unfit

@@ -4,4 +4,5 @@ pub mod Externals
 pub mod Indexes
 pub mod Linkage
 pub mod Objects
+pub mod Refusing
 pub mod Works

@@ -10,12 +10,16 @@ pub returns-then-is_function : goal.returns-then-is_function
 returns-then-is_function c =
     let start = option_map view_initialiser (option_copied c.args.it) in
     let is : is_function c.args.m.now.typer.types c.args.id ≡ true = search rules in
+    let static : c.is_static.result ≡ is_static c.args.storage = search rules in
     subst
     (λ (b : Bool). Works {A = Unit {0}} {B = Unit {0}} (λ it. it) c.function_declared.new.m
     (if b
     then function_declared (is_static c.args.storage) c.args.word.now c.args.id start c.args.m.now
     else file_object c.args.storage c.args.word.now c.args.id start c.args.m.now) c.function_declared.result)
-    (sym is) c.function_declared.ensures
+    (sym is)
+    (subst
+    (λ (b : Bool). Works {A = Unit {0}} {B = Unit {0}} (λ it. it) c.function_declared.new.m
+    (function_declared b c.args.word.now c.args.id start c.args.m.now) c.function_declared.result) static c.function_declared.ensures)
 
 -- or an object
 pub returns-else-is_function : goal.returns-else-is_function

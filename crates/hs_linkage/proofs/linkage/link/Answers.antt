@@ -1,6 +1,6 @@
 use Rattle.std.proofs.Common.{rules, ◌≡◌, Ok, Err, Result, subst}
-use Rattle.hs_linkage.proofs.Refused.{both_refuse}
 use Rattle.hs_linkage.specs.Linkage.{link_as, compatible_routines, noted}
+use Rattle.hs_linkage.specs.Refusing.{both_refuse}
 use Rattle.hs_linkage.specs.Works.{◌>>◌}
 use Rattle.hs_linkage.specs.declared.translator.Linked.{Linked}
 use Rattle.hs_linkage.specs.declared.translator.Translator.{Translator}
