@@ -1,0 +1,4 @@
+pub mod Calls
+pub mod Changing
+pub mod Globals
+pub mod Stacks
