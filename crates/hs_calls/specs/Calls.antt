@@ -62,6 +62,7 @@ abbrev pub is_fixed : Option Block → Bool
 is_fixed None = false
 is_fixed (Some block) = not (is_loose block)
 
+-- in that machine, by its number
 abbrev pub fixed_in : Machine → ℕ → Bool
 fixed_in machine n = is_fixed (block_at machine.blocks n)
 
@@ -70,6 +71,7 @@ abbrev pub is_present_if : Option Block → Bool
 is_present_if None = false
 is_present_if (Some block) = is_present block.presence
 
+-- in that machine, by its number
 abbrev pub present_in : Machine → ℕ → Bool
 present_in machine n = is_present_if (block_at machine.blocks n)
 

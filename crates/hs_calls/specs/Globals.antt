@@ -261,6 +261,7 @@ module _ (g : ℕ) where
         (λ place. act_keeps at (address_of place) (λ machine. address_keeps place machine))
     address_at_keeps (object.Literal place) = gives
 
+    -- of the operation of the machine, if it is one
     abbrev SetsNone : Option (ℕ × Operation) → Type 0
     SetsNone None = Unit {0}
     SetsNone (Some its) = sets its.1 ≡ false
