@@ -1,0 +1,13 @@
+pub mod Kinds
+pub mod Operations
+pub mod Routines
+pub mod PlainRoutines
+pub mod Stacks
+pub mod Variables
+pub mod Points
+pub mod Steps
+pub mod Progress
+pub mod RoleProgress
+pub mod Operands
+pub mod Starts
+pub mod Suits
