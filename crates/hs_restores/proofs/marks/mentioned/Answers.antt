@@ -1,0 +1,9 @@
+use Rattle.std.proofs.Common.{take_all, arith, rules}
+use Rattle.hs_restores.proofs.Mentioned.{marks_mentioned}
+use Rattle.hs_restores.proofs.marks.mentioned.Goals as goal
+
+-- all operations are done
+pub returns-clause-marks : goal.returns-clause-marks
+returns-clause-marks c g below =
+    rw (c.ops.invariant, take_all c.ops.its-index c.args.ops.now (omega arith), c.in_ok-marks.ensures.items_if_clones_equal (λ y h. search rules))
+    (marks_mentioned c.args.count c.args.ops.now g below)

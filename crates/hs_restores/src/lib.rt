@@ -1,0 +1,9 @@
+//! The restores of a program. `specs/Marks.antt` says which variables are numbered.
+#![tactic(auto)]
+
+mod marks;
+mod names;
+mod numbers;
+
+pub use names::names_of;
+pub use numbers::Numbers;
