@@ -1,1 +1,2 @@
 mod Mentioned
+mod PlainSteps

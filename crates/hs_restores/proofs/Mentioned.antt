@@ -8,13 +8,8 @@ use Rattle.hs_code.specs.declared.op.Op.{Op}
 use Rattle.hs_code.specs.declared.op.Op.TheVariants as op
 use Rattle.hs_fact_rows.specs.Laws.Numbers.{same_number, same_numbers_not}
 use Rattle.hs_facts.specs.Names.{touches, mentions}
-use Rattle.hs_restores.specs.Marks.{touched_by, with_mark, with_touched}
+use Rattle.hs_restores.specs.Marks.{hits, one_names, touched_by, with_mark, with_op}
 use Rattle.hs_tree.specs.declared.head.Variable.TheVariants as name
-
--- the global is that one
-abbrev hits : ℕ → Option ℕ → Bool
-hits g None = false
-hits g (Some place) = place == g
 
 touches_hits : (g : ℕ) (its : Op) → touches g its ≡ hits g (touched_by its)
 touches_hits g (op.Num bits) = refl
@@ -77,20 +72,26 @@ mark_length : (marks : List Bool) (touched : Option ℕ) → length (with_mark m
 mark_length marks None = refl
 mark_length marks (Some place) = length-set marks place true
 
-pub fold_length : (marks : List Bool) (ops : List Placed) → length (fold with_touched marks ops) ≡ length marks
-fold_length marks [] = refl
-fold_length marks (its ∷ ops) = fold_length (with_touched marks its) ops ∙ mark_length marks (touched_by its.op)
+module _ (place_by : Op → Option ℕ) where
+  fold_marks : (marks : List Bool) (ops : List Placed) (g : ℕ) → g < length marks
+      → get_or (fold (with_op place_by) marks ops) g false ≡ (get_or marks g false || one_names place_by ops g)
+  fold_marks marks [] g below = sym (or_false (get_or marks g false))
+  fold_marks marks (its ∷ ops) g below =
+      fold_marks (with_op place_by marks its) ops g (let same = mark_length marks (place_by its.op) in omega (arith, same, below))
+      ∙ ap (λ it. it || one_names place_by ops g) (mark_one marks (place_by its.op) g below)
+      ∙ or_both (get_or marks g false) (hits g (place_by its.op)) (one_names place_by ops g)
 
-fold_marks : (marks : List Bool) (ops : List Placed) (g : ℕ) → g < length marks
-    → get_or (fold with_touched marks ops) g false ≡ (get_or marks g false || mentions ops g)
-fold_marks marks [] g below = sym (or_false (get_or marks g false))
-fold_marks marks (its ∷ ops) g below =
-    fold_marks (with_touched marks its) ops g (let same = mark_length marks (touched_by its.op) in omega (arith, same, below))
-    ∙ ap (λ it. it || mentions ops g) (mark_one marks (touched_by its.op) g below ∙ ap (λ it. get_or marks g false || it) (sym (touches_hits g its.op)))
-    ∙ or_both (get_or marks g false) (touches g its.op) (mentions ops g)
+  -- from no marks
+  pub marks_named : (count : ℕ) (ops : List Placed) (g : ℕ) → g < count
+      → get_or (fold (with_op place_by) (replicate count false) ops) g false ≡ one_names place_by ops g
+  marks_named count ops g below =
+      fold_marks (replicate count false) ops g (let same = length-replicate count false in omega (arith, same, below))
+      ∙ ap (λ it. it || one_names place_by ops g) (get_or-replicate count g false false below)
 
--- from no marks
-pub marks_mentioned : (count : ℕ) (ops : List Placed) (g : ℕ) → g < count → get_or (fold with_touched (replicate count false) ops) g false ≡ mentions ops g
-marks_mentioned count ops g below =
-    fold_marks (replicate count false) ops g (let same = length-replicate count false in omega (arith, same, below))
-    ∙ ap (λ it. it || mentions ops g) (get_or-replicate count g false false below)
+touched_mentions : (ops : List Placed) (g : ℕ) → one_names touched_by ops g ≡ mentions ops g
+touched_mentions [] g = refl
+touched_mentions (its ∷ ops) g = ap (λ it. it || one_names touched_by ops g) (sym (touches_hits g its.op)) ∙ ap (λ it. touches g its.op || it) (touched_mentions ops g)
+
+pub marks_mentioned : (count : ℕ) (ops : List Placed) (g : ℕ) → g < count
+    → get_or (fold (with_op touched_by) (replicate count false) ops) g false ≡ mentions ops g
+marks_mentioned count ops g below = marks_named touched_by count ops g below ∙ touched_mentions ops g

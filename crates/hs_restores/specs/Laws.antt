@@ -1,2 +1,3 @@
 pub mod Naming
 pub mod Numbering
+pub mod Slots

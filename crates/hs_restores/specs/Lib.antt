@@ -1,2 +1,4 @@
 pub mod Laws
 pub mod Marks
+pub mod Parameters
+pub mod Stepping

@@ -5,8 +5,11 @@
 --     number_of its len v              the number of a variable, or the length of the list
 --     handle_locals types variables    marks the handle names among the locals
 --     handle_globals types ops 0 globals      and among the globals
---     marks_mentioned count ops        marks the globals that the operations mention
-use Rattle.std.specs.Prelude.{ℕ, suc, set, Bool, true, false, ◌&&◌, List, [], ◌∷◌, ◌++◌, slice_get, Option, Some, None}
+--     one_names place_by ops place     an operation names that place
+--     is_changed scope code assigned v a slot that the function sets, or that it may assign under calls
+use Rattle.std.specs.Prelude.{ℕ, suc, set, Bool, true, false, ◌==◌, ◌&&◌, ◌||◌, nat_lt, List, [], ◌∷◌, ◌++◌, length, slice_get, Option, Some, None}
+use Rattle.hs_code.specs.Stacks.{Scope}
+use Rattle.hs_code.specs.declared.function_code.FunctionCode.{FunctionCode}
 use Rattle.hs_code.specs.declared.function_code.Placed.{Placed}
 use Rattle.hs_code.specs.declared.op.Op.{Op}
 use Rattle.hs_code.specs.declared.op.Op.TheVariants as op
@@ -93,5 +96,33 @@ abbrev pub with_mark : List Bool → Option ℕ → List Bool
 with_mark marks None = marks
 with_mark marks (Some place) = set marks place true
 
-abbrev pub with_touched : List Bool → Placed → List Bool
-with_touched marks its = with_mark marks (touched_by its.op)
+-- one of the operations names that place
+abbrev pub hits : ℕ → Option ℕ → Bool
+hits place None = false
+hits place (Some it) = it == place
+
+module _ (place_by : Op → Option ℕ) where
+  abbrev pub one_names : List Placed → ℕ → Bool
+  one_names [] place = false
+  one_names (its ∷ rest) place = hits place (place_by its.op) || one_names rest place
+
+  -- one operation more
+  abbrev pub with_op : List Bool → Placed → List Bool
+  with_op marks its = with_mark marks (place_by its.op)
+
+-- ---- slots
+
+-- the local that an operation sets
+abbrev pub local_set_by : Op → Option ℕ
+local_set_by (op.Set (name.Local place)) = Some place
+local_set_by _ = None
+
+-- marks the globals from that place on that a function may assign
+abbrev pub assigned_globals : (ℕ → Bool) → ℕ → List Global → List Bool
+assigned_globals assigned place [] = []
+assigned_globals assigned place (it ∷ rest) = assigned place ∷ assigned_globals assigned (suc place) rest
+
+-- a local that an operation sets, or a global that the function may assign
+abbrev pub is_changed : Scope → FunctionCode → (ℕ → Bool) → Variable → Bool
+is_changed scope code assigned (name.Local place) = nat_lt place (length scope.variables) && one_names local_set_by code.ops place
+is_changed scope code assigned (name.Global place) = nat_lt place (length scope.globals) && assigned place

@@ -4,6 +4,10 @@
 mod marks;
 mod names;
 mod numbers;
+mod slots;
+mod stepping;
+mod taken;
 
 pub use names::names_of;
 pub use numbers::Numbers;
+pub use slots::slots_of;

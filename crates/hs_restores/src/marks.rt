@@ -2,7 +2,7 @@
 
 ghost use Rattle.std.specs.Prelude.{◌≡◌, ◌<◌, ℕ, false, IfOk, OnOk, length, slice_index_or};
 ghost use Rattle.hs_facts.specs.Names.{is_handle, mentions, is_pointer_in, points_to_pointer};
-ghost use Rattle.hs_restores.specs.Marks.{handle_globals, handle_locals, touched_by, with_mark, with_touched};
+ghost use Rattle.hs_restores.specs.Marks.{handle_globals, handle_locals, touched_by, with_mark};
 ghost use Rattle.hs_tree.specs.Kinds.{is_pointer, pointed};
 
 use hs_base::NoMemory;
@@ -74,16 +74,16 @@ fn mentioned(alloc: Global, count: usize, ops: &[Placed]) -> Result<Vec<bool>, N
 {
     let mut marks = Vec::from_elem(alloc, false, count)?;
     'ops: for its in ops {
-        put_touched(marks.as_mut_slice(), its.op);
+        put_mark(marks.as_mut_slice(), touched_by(its.op));
     }
     Ok(marks)
 }
 
-/// Marks the global that an operation gets or sets, if it is one of those that are marked.
-fn put_touched(marks: &mut [bool], op: Op)
-    ensures { marks.new ≡ with_mark marks.old (touched_by op) }
+/// Marks that place, if there is one and it is among those that are marked.
+pub(crate) fn put_mark(marks: &mut [bool], place: Option<usize>)
+    ensures { marks.new ≡ with_mark marks.old place }
 {
-    if let Some(place) = touched_by(op) {
+    if let Some(place) = place {
         if place < marks.len() {
             marks[place] = true;
         }

@@ -186,7 +186,7 @@ mark_of locals globals (name.Global place) = is_marked globals place
 abbrev pub is_in : List Variable → Variable → Bool
 is_in list v = nat_lt (index_of list v) (length list)
 
-less_next : (a b : ℕ) → nat_lt (suc a) (suc b) ≡ nat_lt a b
+pub less_next : (a b : ℕ) → nat_lt (suc a) (suc b) ≡ nat_lt a b
 less_next a b = by_test (cases_lt a b)
   where
     by_test : (a < b) ⊎ (b ≤ a) → nat_lt (suc a) (suc b) ≡ nat_lt a b
