@@ -4,6 +4,7 @@
 mod marks;
 mod names;
 mod numbers;
+mod plan;
 mod slots;
 mod stepping;
 mod taken;
