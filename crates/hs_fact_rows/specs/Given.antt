@@ -136,7 +136,7 @@ module _ (plan : Plan) where
   abbrev pub FitsStep : Step → Type 0
   FitsStep (step.Pop base) = Unit {0}
   FitsStep (step.Get to slot name) = slot ≤ plan.slots
-  FitsStep (step.SetName depth name slot) = (name < plan.names) × (slot ≤ plan.slots)
+  FitsStep (step.SetName depth name slot) = slot ≤ plan.slots
   FitsStep (step.SetSlot depth slot) = (depth ≤ plan.places) × (slot ≤ plan.slots)
   FitsStep (step.Dup depth) = depth ≤ plan.places
   FitsStep (step.Tuck depth) = depth ≤ plan.places

@@ -13,7 +13,7 @@ pub enum Step {
         slot: usize,
         name: usize,
     },
-    /// Gives the top to a name, which is also a slot of that number.
+    /// Gives the top to a name, which is also a slot of that number. A name that is not numbered has any number past the names.
     SetName {
         depth: usize,
         name: usize,

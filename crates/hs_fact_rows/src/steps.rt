@@ -2,7 +2,7 @@
 
 ghost use Rattle.std.specs.Prelude.{◌≡◌, ◌≢◌, ◌<◌, ◌≤◌, ℕ, ◌-◌, ◌==◌, ◌&&◌, length};
 ghost use Rattle.hs_fact_rows.specs.Cells.{saved_in};
-ghost use Rattle.hs_fact_rows.specs.Given.{IsFit, FitsStep, Turns, Makes, Names, given, given_by, slotted, without, no_name, facts_in, with_of, saved_of};
+ghost use Rattle.hs_fact_rows.specs.Given.{IsFit, FitsStep, Turns, Makes, Names, given, given_by, slotted, without, named, no_name, one_name, facts_in, with_of, saved_of};
 ghost use Rattle.hs_fact_rows.specs.declared.step.Step.TheVariants as step;
 ghost use Rattle.hs_rows.specs.Sets.{bit_in};
 
@@ -52,13 +52,32 @@ fn give_set_name(rows: &mut Rows, way: Way, depth: usize, name: usize, slot: usi
     requires fit { IsFit way.plan rows.old way.to }
     requires from { IsFit way.plan rows.old way.from }
     requires there { slot ≤ way.plan.slots }
-    requires is_name { name < way.plan.names }
     ensures { (names slots : ℕ → Names) → Makes way.plan way.to way.from (given names slots (step.SetName depth name slot)) rows.old rows.new }
 {
     start(rows, way.plan, way.to, way.from, depth);
-    end_name(rows, way.plan, way.to, name);
+    end_known(rows, way, name);
     put_slot(rows, way.plan, way.to, slot, 0);
-    add_name(rows, way.plan, way.to, depth.saturating_sub(1), name);
+    add_known(rows, way, depth.saturating_sub(1), name);
+}
+
+/// Ends all facts about a name, if it is one of the plan.
+fn end_known(rows: &mut Rows, way: Way, name: usize)
+    requires fit { IsFit way.plan rows.old way.to }
+    ensures { Turns way.plan way.to (without (one_name name)) rows.old rows.new }
+{
+    if name < way.plan.names {
+        end_name(rows, way.plan, way.to, name);
+    }
+}
+
+/// Says that a place has a name too, if it is one of the plan.
+fn add_known(rows: &mut Rows, way: Way, place: usize, name: usize)
+    requires fit { IsFit way.plan rows.old way.to }
+    ensures { Turns way.plan way.to (named place name) rows.old rows.new }
+{
+    if name < way.plan.names {
+        add_name(rows, way.plan, way.to, place, name);
+    }
 }
 
 fn give_set_slot(rows: &mut Rows, way: Way, depth: usize, slot: usize)

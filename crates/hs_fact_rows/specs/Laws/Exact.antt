@@ -8,7 +8,7 @@ use Rattle.hs_code.specs.Stacks.{Scope, variable_in}
 use Rattle.hs_code.specs.declared.function_code.FunctionCode.{FunctionCode}
 use Rattle.hs_code.specs.declared.op.Op.{Op}
 use Rattle.hs_code.specs.declared.op.Op.TheVariants as op
-use Rattle.hs_fact_rows.specs.Laws.Numbers.{true_not_false, false_not_true, both, both_true, either, either_left, either_right, not_true, same_numbers, less_numbers, same_number, less_number, least_number, chosen, choose, choose_not, chosen_below, index_one, index_found, index_test, gone_past, same_itself, other_variables}
+use Rattle.hs_fact_rows.specs.Laws.Numbers.{true_not_false, false_not_true, both, both_true, either, either_left, either_right, not_true, same_numbers, less_numbers, same_number, less_number, least_number, chosen, choose, choose_not, chosen_below, index_one, index_found, index_turned, gone_past, same_itself, other_variables}
 use Rattle.hs_fact_rows.specs.Cells.{cell_of, index_of, with_at, saved_at, saved_in}
 use Rattle.hs_fact_rows.specs.Given.{Facts, popped, placed, given_by, gone, gone_of, with_of, saved_of, no_name}
 use Rattle.hs_fact_rows.specs.declared.step.Step.TheVariants as step
@@ -26,6 +26,23 @@ use Rattle.hs_tree.specs.declared.head.Variable.TheVariants as name
 -- what calls do, as far as assigned globals go
 abbrev pub impact_by : (ℕ → ℕ → Bool) → Impact
 impact_by assigned = record { assigns = λ f g. assigned f g ≡ true; unlocks = λ f. ⊥; disposes = λ f. ⊥ }
+
+-- ---- names that are listed
+
+-- With or Saved of a name that is in the list
+abbrev pub IsTracked : List Variable → MustFact → Type 0
+IsTracked names (With place x) = index_of names x < length names
+IsTracked names (Saved b x) = index_of names x < length names
+IsTracked names _ = ⊥
+
+pub tracked_byte : (names : List Variable) (fact : MustFact) → IsTracked names fact → IsOfByte fact
+tracked_byte names (With place x) is = tt
+tracked_byte names (Saved b x) is = tt
+tracked_byte names (Kept b x) is = absurd is
+tracked_byte names (Locked x) is = absurd is
+tracked_byte names (Live x) is = absurd is
+tracked_byte names (Distinct x y) is = absurd is
+tracked_byte names (New place) is = absurd is
 
 -- ---- roles
 
@@ -98,40 +115,40 @@ made_none true place (Distinct x y) is h = is
 made_none true place (New at) is h = is
 
 module _ (scope : Scope) (code : FunctionCode) (names slots : List Variable) (assigned : ℕ → ℕ → Bool) (R : MustFact → Type 0) (T : Facts) (depth : ℕ)
-    (into : (fact : MustFact) → IsOfByte fact → Exists scope code depth fact → T (cell_of names slots fact) ≡ true → R fact)
-    (out : (fact : MustFact) → IsOfByte fact → R fact → Exists scope code depth fact × (T (cell_of names slots fact) ≡ true))
-    (are_names : (v : Variable) → is_name scope code v ≡ nat_lt (index_of names v) (length names)) where
-  name_in : (x : Variable) → is_name scope code x ≡ true → index_of names x < length names
-  name_in x h = less_numbers (index_of names x) (length names) (sym (are_names x) ∙ h)
+    (into : (fact : MustFact) → IsTracked names fact → Exists scope code depth fact → T (cell_of names slots fact) ≡ true → R fact)
+    (out : (fact : MustFact) → IsTracked names fact → R fact → Exists scope code depth fact × (T (cell_of names slots fact) ≡ true)) where
+  -- the number of a name that is listed is that of another one exactly if they are one
+  listed_test : (x v : Variable) → index_of names x < length names → (index_of names x == index_of names v) ≡ same_variable x v
+  listed_test x v is = index_turned names x v is
 
-  there : (fact : MustFact) → IsOfByte fact → R fact → T (cell_of names slots fact) ≡ true
+  there : (fact : MustFact) → IsTracked names fact → R fact → T (cell_of names slots fact) ≡ true
   there fact is r = (out fact is r).1
 
   -- ---- what stays
 
-  popped_out : (base : ℕ) (fact : MustFact) → base ≤ depth → IsOfByte fact → AreNames scope code fact
+  popped_out : (base : ℕ) (fact : MustFact) → base ≤ depth → IsTracked names fact → AreNames scope code fact
       → popped base (cell_of names slots fact) (T (cell_of names slots fact)) ≡ true → Under base fact × R fact
   popped_out base (With p x) low is named h =
       let t = both (nat_lt p base) (T (with_at p (index_of names x))) h in
       let under : p < base = less_numbers p base t.0 in
-      (under, into (With p x) tt (record { under = omega (arith, low, under); named = named }) t.1)
+      (under, into (With p x) is (record { under = omega (arith, low, under); named = named }) t.1)
   popped_out base (Saved (on_stack p) x) low is named h =
       let t = both (nat_lt p base) (T (saved_at p (index_of names x))) h in
       let under : p < base = less_numbers p base t.0 in
-      (under, into (Saved (on_stack p) x) tt (record { under = omega (arith, low, under); named = named }) t.1)
-  popped_out base (Saved (in_slot b) x) low is named h = (tt, into (Saved (in_slot b) x) tt (record { under = tt; named = named }) h)
+      (under, into (Saved (on_stack p) x) is (record { under = omega (arith, low, under); named = named }) t.1)
+  popped_out base (Saved (in_slot b) x) low is named h = (tt, into (Saved (in_slot b) x) is (record { under = tt; named = named }) h)
   popped_out base (Kept b x) low is named h = absurd is
   popped_out base (Locked x) low is named h = absurd is
   popped_out base (Live x) low is named h = absurd is
   popped_out base (Distinct x y) low is named h = absurd is
   popped_out base (New at) low is named h = absurd is
 
-  popped_in : (base : ℕ) (fact : MustFact) → IsOfByte fact → Under base fact → R fact
+  popped_in : (base : ℕ) (fact : MustFact) → IsTracked names fact → Under base fact → R fact
       → popped base (cell_of names slots fact) (T (cell_of names slots fact)) ≡ true
-  popped_in base (With p x) is under r = both_true (nat_lt p base) (T (with_at p (index_of names x))) (less_number p base under) (there (With p x) tt r)
+  popped_in base (With p x) is under r = both_true (nat_lt p base) (T (with_at p (index_of names x))) (less_number p base under) (there (With p x) is r)
   popped_in base (Saved (on_stack p) x) is under r =
-      both_true (nat_lt p base) (T (saved_at p (index_of names x))) (less_number p base under) (there (Saved (on_stack p) x) tt r)
-  popped_in base (Saved (in_slot b) x) is under r = there (Saved (in_slot b) x) tt r
+      both_true (nat_lt p base) (T (saved_at p (index_of names x))) (less_number p base under) (there (Saved (on_stack p) x) is r)
+  popped_in base (Saved (in_slot b) x) is under r = there (Saved (in_slot b) x) is r
   popped_in base (Kept b x) is under r = absurd is
   popped_in base (Locked x) is under r = absurd is
   popped_in base (Live x) is under r = absurd is
@@ -140,27 +157,27 @@ module _ (scope : Scope) (code : FunctionCode) (names slots : List Variable) (as
 
   -- ---- places that are read
 
-  with_out : (p : ℕ) (x : Variable) → is_name scope code x ≡ true → with_of T depth p (index_of names x) ≡ true → R (With p x)
-  with_out p x named h =
+  with_out : (p : ℕ) (x : Variable) → index_of names x < length names → is_name scope code x ≡ true → with_of T depth p (index_of names x) ≡ true → R (With p x)
+  with_out p x is named h =
       let t = both (nat_lt p depth) (T (with_at p (index_of names x))) h in
-      into (With p x) tt (record { under = less_numbers p depth t.0; named = named }) t.1
+      into (With p x) is (record { under = less_numbers p depth t.0; named = named }) t.1
 
-  saved_out : (p : ℕ) (x : Variable) → is_name scope code x ≡ true → saved_of T depth p (index_of names x) ≡ true → R (Saved (on_stack p) x)
-  saved_out p x named h =
+  saved_out : (p : ℕ) (x : Variable) → index_of names x < length names → is_name scope code x ≡ true → saved_of T depth p (index_of names x) ≡ true → R (Saved (on_stack p) x)
+  saved_out p x is named h =
       let t = both (nat_lt p depth) (T (saved_at p (index_of names x))) h in
-      into (Saved (on_stack p) x) tt (record { under = less_numbers p depth t.0; named = (tt, named) }) t.1
+      into (Saved (on_stack p) x) is (record { under = less_numbers p depth t.0; named = (tt, named) }) t.1
 
-  with_in : (p : ℕ) (x : Variable) → R (With p x) → with_of T depth p (index_of names x) ≡ true
-  with_in p x r =
-      let o = out (With p x) tt r in both_true (nat_lt p depth) (T (with_at p (index_of names x))) (less_number p depth o.0.under) o.1
+  with_in : (p : ℕ) (x : Variable) → index_of names x < length names → R (With p x) → with_of T depth p (index_of names x) ≡ true
+  with_in p x is r =
+      let o = out (With p x) is r in both_true (nat_lt p depth) (T (with_at p (index_of names x))) (less_number p depth o.0.under) o.1
 
-  saved_in_stack : (p : ℕ) (x : Variable) → R (Saved (on_stack p) x) → saved_of T depth p (index_of names x) ≡ true
-  saved_in_stack p x r =
-      let o = out (Saved (on_stack p) x) tt r in both_true (nat_lt p depth) (T (saved_at p (index_of names x))) (less_number p depth o.0.under) o.1
+  saved_in_stack : (p : ℕ) (x : Variable) → index_of names x < length names → R (Saved (on_stack p) x) → saved_of T depth p (index_of names x) ≡ true
+  saved_in_stack p x is r =
+      let o = out (Saved (on_stack p) x) is r in both_true (nat_lt p depth) (T (saved_at p (index_of names x))) (less_number p depth o.0.under) o.1
 
   -- ---- Get
 
-  get_out : (v : Variable) (fact : MustFact) → is_slot_in scope.types (variable_in scope v) ≡ true → IsOfByte fact → AreNames scope code fact
+  get_out : (v : Variable) (fact : MustFact) → is_slot_in scope.types (variable_in scope v) ≡ true → IsTracked names fact → AreNames scope code fact
       → given_by assigned names slots (step_of scope code names slots (op.Get v) depth) T (cell_of names slots fact) ≡ true
       → (Under depth fact × R fact) ⊎ Got R v depth fact
   get_out v (With p x) slot is named h =
@@ -169,8 +186,8 @@ module _ (scope : Scope) (code : FunctionCode) (names slots : List Variable) (as
       by_place : ((p ≡ depth) × ((index_of names x == index_of names v) ≡ true))
           ⊎ ((p ≢ depth) × (popped depth (with_at p (index_of names x)) (T (with_at p (index_of names x))) ≡ true))
           → (Under depth (With p x) × R (With p x)) ⊎ Got R v depth (With p x)
-      by_place (inl t) = inr (t.0, sym (index_one names v x (name_in x named) (sym (same_numbers (index_of names x) (index_of names v) t.1))))
-      by_place (inr t) = inl (popped_out depth (With p x) (omega arith) tt named t.1)
+      by_place (inl t) = inr (t.0, sym (index_one names v x is (sym (same_numbers (index_of names x) (index_of names v) t.1))))
+      by_place (inr t) = inl (popped_out depth (With p x) (omega arith) is named t.1)
   get_out v (Saved (on_stack p) x) slot is named h =
       by_place (chosen p depth (T (saved_in (index_of slots v) (index_of names x))) (popped depth (saved_at p (index_of names x)) (T (saved_at p
       (index_of names x)))) h)
@@ -178,32 +195,32 @@ module _ (scope : Scope) (code : FunctionCode) (names slots : List Variable) (as
       by_place : ((p ≡ depth) × (T (saved_in (index_of slots v) (index_of names x)) ≡ true))
           ⊎ ((p ≢ depth) × (popped depth (saved_at p (index_of names x)) (T (saved_at p (index_of names x))) ≡ true))
           → (Under depth (Saved (on_stack p) x) × R (Saved (on_stack p) x)) ⊎ Got R v depth (Saved (on_stack p) x)
-      by_place (inl t) = inr (t.0, into (Saved (in_slot v) x) tt (record { under = tt; named = (slot, named.1) }) t.1)
-      by_place (inr t) = inl (popped_out depth (Saved (on_stack p) x) (omega arith) tt named t.1)
-  get_out v (Saved (in_slot b) x) slot is named h = inl (popped_out depth (Saved (in_slot b) x) (omega arith) tt named h)
+      by_place (inl t) = inr (t.0, into (Saved (in_slot v) x) is (record { under = tt; named = (slot, named.1) }) t.1)
+      by_place (inr t) = inl (popped_out depth (Saved (on_stack p) x) (omega arith) is named t.1)
+  get_out v (Saved (in_slot b) x) slot is named h = inl (popped_out depth (Saved (in_slot b) x) (omega arith) is named h)
   get_out v (Kept b x) slot is named h = absurd is
   get_out v (Locked x) slot is named h = absurd is
   get_out v (Live x) slot is named h = absurd is
   get_out v (Distinct x y) slot is named h = absurd is
   get_out v (New at) slot is named h = absurd is
 
-  get_in : (v : Variable) (fact : MustFact) → IsOfByte fact → (Under depth fact × R fact) ⊎ Got R v depth fact
+  get_in : (v : Variable) (fact : MustFact) → IsTracked names fact → (Under depth fact × R fact) ⊎ Got R v depth fact
       → given_by assigned names slots (step_of scope code names slots (op.Get v) depth) T (cell_of names slots fact) ≡ true
   get_in v (With p x) is (inl h) =
       let under = h.0 in
       choose_not p depth (index_of names x == index_of names v) (popped depth (with_at p (index_of names x)) (T (with_at p (index_of names x))))
-      (omega (arith, under)) (popped_in depth (With p x) tt h.0 h.1)
+      (omega (arith, under)) (popped_in depth (With p x) is h.0 h.1)
   get_in v (With p x) is (inr h) =
       choose p depth (index_of names x == index_of names v) (popped depth (with_at p (index_of names x)) (T (with_at p (index_of names x)))) h.0
       (same_number (index_of names x) (index_of names v) (ap (index_of names) h.1))
   get_in v (Saved (on_stack p) x) is (inl h) =
       let under = h.0 in
       choose_not p depth (T (saved_in (index_of slots v) (index_of names x))) (popped depth (saved_at p (index_of names x)) (T (saved_at p (index_of names x))))
-      (omega (arith, under)) (popped_in depth (Saved (on_stack p) x) tt h.0 h.1)
+      (omega (arith, under)) (popped_in depth (Saved (on_stack p) x) is h.0 h.1)
   get_in v (Saved (on_stack p) x) is (inr h) =
       choose p depth (T (saved_in (index_of slots v) (index_of names x))) (popped depth (saved_at p (index_of names x)) (T (saved_at p (index_of names x)))) h.0
-      (there (Saved (in_slot v) x) tt h.1)
-  get_in v (Saved (in_slot b) x) is (inl h) = popped_in depth (Saved (in_slot b) x) tt h.0 h.1
+      (there (Saved (in_slot v) x) is h.1)
+  get_in v (Saved (in_slot b) x) is (inl h) = popped_in depth (Saved (in_slot b) x) is h.0 h.1
   get_in v (Saved (in_slot b) x) is (inr h) = absurd h
   get_in v (Kept b x) is h = absurd is
   get_in v (Locked x) is h = absurd is
@@ -213,7 +230,7 @@ module _ (scope : Scope) (code : FunctionCode) (names slots : List Variable) (as
 
   -- ---- a name is set
 
-  set_name_out : (v : Variable) (fact : MustFact) → is_name scope code v ≡ true → index_of slots v < length slots → IsOfByte fact → AreNames scope code fact
+  set_name_out : (v : Variable) (fact : MustFact) → is_name scope code v ≡ true → index_of slots v < length slots → IsTracked names fact → AreNames scope code fact
       → given_by assigned names slots (set_step true depth (index_of names v) (index_of slots v)) T (cell_of names slots fact) ≡ true
       → (Under depth fact × (free_of v fact ≡ true) × (not_new (depth - 1) fact ≡ true) × R fact) ⊎ SetName R v (depth - 1) fact
   set_name_out v (With p x) is_v listed is named h =
@@ -226,15 +243,15 @@ module _ (scope : Scope) (code : FunctionCode) (names slots : List Variable) (as
           ⊎ SetName R v (depth - 1) (With p x)
       by_side (inl k) =
           let t = both (p == depth - 1) (index_of names x == index_of names v) k in
-          inr (same_numbers p (depth - 1) t.0, index_one names x v (name_in v is_v) (same_numbers (index_of names x) (index_of names v) t.1))
+          inr (same_numbers p (depth - 1) t.0, sym (index_one names v x is (sym (same_numbers (index_of names x) (index_of names v) t.1))))
       by_side (inr k) =
           let t = both (not (index_of names x == index_of names v)) (popped depth (with_at p (index_of names x)) (T (with_at p (index_of names x)))) k in
-          let o = popped_out depth (With p x) (omega arith) tt named t.1 in
-          inl (o.0, ap not (sym (index_test names x v (name_in v is_v))) ∙ t.0, refl, o.1)
+          let o = popped_out depth (With p x) (omega arith) is named t.1 in
+          inl (o.0, ap not (sym (listed_test x v is)) ∙ t.0, refl, o.1)
   set_name_out v (Saved (on_stack p) x) is_v listed is named h =
       let t = both (not (index_of names x == index_of names v)) (popped depth (saved_at p (index_of names x)) (T (saved_at p (index_of names x)))) h in
-      let o = popped_out depth (Saved (on_stack p) x) (omega arith) tt named t.1 in
-      inl (o.0, ap not (sym (index_test names x v (name_in v is_v))) ∙ t.0, refl, o.1)
+      let o = popped_out depth (Saved (on_stack p) x) (omega arith) is named t.1 in
+      inl (o.0, ap not (sym (listed_test x v is)) ∙ t.0, refl, o.1)
   set_name_out v (Saved (in_slot b) x) is_v listed is named h =
       by_slot (chosen (index_of slots b) (index_of slots v) false (not (index_of names x == index_of names v) && T (saved_in (index_of slots b)
       (index_of names x))) h)
@@ -250,9 +267,9 @@ module _ (scope : Scope) (code : FunctionCode) (names slots : List Variable) (as
           inl (
             tt,
             both_true (not (same_variable b v)) (not (same_variable x v)) (ap not (other_variables b v (λ e. k.0 (ap (index_of slots) e))))
-                (ap not (sym (index_test names x v (name_in v is_v))) ∙ t.0),
+                (ap not (sym (listed_test x v is)) ∙ t.0),
             refl,
-            into (Saved (in_slot b) x) tt (record { under = tt; named = named }) t.1,
+            into (Saved (in_slot b) x) is (record { under = tt; named = named }) t.1,
           )
   set_name_out v (Kept b x) is_v listed is named h = absurd is
   set_name_out v (Locked x) is_v listed is named h = absurd is
@@ -260,14 +277,14 @@ module _ (scope : Scope) (code : FunctionCode) (names slots : List Variable) (as
   set_name_out v (Distinct x y) is_v listed is named h = absurd is
   set_name_out v (New at) is_v listed is named h = absurd is
 
-  set_name_in : (v : Variable) (fact : MustFact) → is_name scope code v ≡ true → index_of slots v < length slots → IsOfByte fact
+  set_name_in : (v : Variable) (fact : MustFact) → is_name scope code v ≡ true → index_of slots v < length slots → IsTracked names fact
       → (Under depth fact × (free_of v fact ≡ true) × (not_new (depth - 1) fact ≡ true) × R fact) ⊎ SetName R v (depth - 1) fact
       → given_by assigned names slots (set_step true depth (index_of names v) (index_of slots v)) T (cell_of names slots fact) ≡ true
   set_name_in v (With p x) is_v listed is (inl h) =
       either_right ((p == depth - 1) && (index_of names x == index_of names v)) (not (index_of names x == index_of names v) && popped depth (with_at
       p (index_of names x)) (T (with_at p (index_of names x))))
       (both_true (not (index_of names x == index_of names v)) (popped depth (with_at p (index_of names x)) (T (with_at p (index_of names x))))
-      (ap not (index_test names x v (name_in v is_v)) ∙ h.1) (popped_in depth (With p x) tt h.0 h.3))
+      (ap not (listed_test x v is) ∙ h.1) (popped_in depth (With p x) is h.0 h.3))
   set_name_in v (With p x) is_v listed is (inr h) =
       either_left ((p == depth - 1) && (index_of names x == index_of names v)) (not (index_of names x == index_of names v) && popped depth (with_at p
       (index_of names x)) (T (with_at p (index_of names x))))
@@ -275,14 +292,14 @@ module _ (scope : Scope) (code : FunctionCode) (names slots : List Variable) (as
       names v) (ap (index_of names) h.1)))
   set_name_in v (Saved (on_stack p) x) is_v listed is (inl h) =
       both_true (not (index_of names x == index_of names v)) (popped depth (saved_at p (index_of names x)) (T (saved_at p (index_of names x))))
-      (ap not (index_test names x v (name_in v is_v)) ∙ h.1) (popped_in depth (Saved (on_stack p) x) tt h.0 h.3)
+      (ap not (listed_test x v is) ∙ h.1) (popped_in depth (Saved (on_stack p) x) is h.0 h.3)
   set_name_in v (Saved (on_stack p) x) is_v listed is (inr h) = absurd h
   set_name_in v (Saved (in_slot b) x) is_v listed is (inl h) =
       let t = both (not (same_variable b v)) (not (same_variable x v)) h.1 in
       choose_not (index_of slots b) (index_of slots v) false (not (index_of names x == index_of names v) && T (saved_in (index_of slots b) (index_of names x)))
       (λ e. true_not_false (sym (same_itself v) ∙ ap (λ y. same_variable y v) (sym (index_one slots b v listed e)) ∙ not_true (same_variable b v) t.0))
       (both_true (not (index_of names x == index_of names v)) (T (saved_in (index_of slots b) (index_of names x)))
-      (ap not (index_test names x v (name_in v is_v)) ∙ t.1) (there (Saved (in_slot b) x) tt h.3))
+      (ap not (listed_test x v is) ∙ t.1) (there (Saved (in_slot b) x) is h.3))
   set_name_in v (Saved (in_slot b) x) is_v listed is (inr h) = absurd h
   set_name_in v (Kept b x) is_v listed is h = absurd is
   set_name_in v (Locked x) is_v listed is h = absurd is
@@ -295,13 +312,13 @@ module _ (scope : Scope) (code : FunctionCode) (names slots : List Variable) (as
   not_named : (v x : Variable) → is_name scope code v ≡ false → is_name scope code x ≡ true → not (same_variable x v) ≡ true
   not_named v x plain its_name = ap not (other_variables x v (λ e. true_not_false (sym its_name ∙ ap (is_name scope code) e ∙ plain)))
 
-  set_slot_out : (v : Variable) (fact : MustFact) → is_name scope code v ≡ false → index_of slots v < length slots → IsOfByte fact → AreNames scope code fact
+  set_slot_out : (v : Variable) (fact : MustFact) → is_name scope code v ≡ false → index_of slots v < length slots → IsTracked names fact → AreNames scope code fact
       → given_by assigned names slots (set_step false depth (index_of names v) (index_of slots v)) T (cell_of names slots fact) ≡ true
       → (Under depth fact × (free_of v fact ≡ true) × (not_new (depth - 1) fact ≡ true) × R fact) ⊎ SetOther R v (depth - 1) fact
   set_slot_out v (With p x) plain listed is named h =
-      let o = popped_out depth (With p x) (omega arith) tt named h in inl (o.0, not_named v x plain named, refl, o.1)
+      let o = popped_out depth (With p x) (omega arith) is named h in inl (o.0, not_named v x plain named, refl, o.1)
   set_slot_out v (Saved (on_stack p) x) plain listed is named h =
-      let o = popped_out depth (Saved (on_stack p) x) (omega arith) tt named h in inl (o.0, not_named v x plain named.1, refl, o.1)
+      let o = popped_out depth (Saved (on_stack p) x) (omega arith) is named h in inl (o.0, not_named v x plain named.1, refl, o.1)
   set_slot_out v (Saved (in_slot b) x) plain listed is named h =
       by_slot (chosen (index_of slots b) (index_of slots v) (saved_of T depth (depth - 1) (index_of names x)) (T (saved_in (index_of slots b)
       (index_of names x))) h)
@@ -310,14 +327,14 @@ module _ (scope : Scope) (code : FunctionCode) (names slots : List Variable) (as
           ⊎ ((index_of slots b ≢ index_of slots v) × (T (saved_in (index_of slots b) (index_of names x)) ≡ true))
           → (Under depth (Saved (in_slot b) x) × (free_of v (Saved (in_slot b) x) ≡ true) × (not_new (depth - 1) (Saved (in_slot b) x) ≡ true) × R
           (Saved (in_slot b) x)) ⊎ SetOther R v (depth - 1) (Saved (in_slot b) x)
-      by_slot (inl k) = inr (index_one slots b v listed k.0, saved_out (depth - 1) x named.1 k.1)
+      by_slot (inl k) = inr (index_one slots b v listed k.0, saved_out (depth - 1) x is named.1 k.1)
       by_slot (inr k) =
           inl (
             tt,
             both_true (not (same_variable b v)) (not (same_variable x v)) (ap not (other_variables b v (λ e. k.0 (ap (index_of slots) e))))
                 (not_named v x plain named.1),
             refl,
-            into (Saved (in_slot b) x) tt (record { under = tt; named = named }) k.1,
+            into (Saved (in_slot b) x) is (record { under = tt; named = named }) k.1,
           )
   set_slot_out v (Kept b x) plain listed is named h = absurd is
   set_slot_out v (Locked x) plain listed is named h = absurd is
@@ -325,21 +342,21 @@ module _ (scope : Scope) (code : FunctionCode) (names slots : List Variable) (as
   set_slot_out v (Distinct x y) plain listed is named h = absurd is
   set_slot_out v (New at) plain listed is named h = absurd is
 
-  set_slot_in : (v : Variable) (fact : MustFact) → is_name scope code v ≡ false → index_of slots v < length slots → IsOfByte fact
+  set_slot_in : (v : Variable) (fact : MustFact) → is_name scope code v ≡ false → index_of slots v < length slots → IsTracked names fact
       → (Under depth fact × (free_of v fact ≡ true) × (not_new (depth - 1) fact ≡ true) × R fact) ⊎ SetOther R v (depth - 1) fact
       → given_by assigned names slots (set_step false depth (index_of names v) (index_of slots v)) T (cell_of names slots fact) ≡ true
-  set_slot_in v (With p x) plain listed is (inl h) = popped_in depth (With p x) tt h.0 h.3
+  set_slot_in v (With p x) plain listed is (inl h) = popped_in depth (With p x) is h.0 h.3
   set_slot_in v (With p x) plain listed is (inr h) = absurd h
-  set_slot_in v (Saved (on_stack p) x) plain listed is (inl h) = popped_in depth (Saved (on_stack p) x) tt h.0 h.3
+  set_slot_in v (Saved (on_stack p) x) plain listed is (inl h) = popped_in depth (Saved (on_stack p) x) is h.0 h.3
   set_slot_in v (Saved (on_stack p) x) plain listed is (inr h) = absurd h
   set_slot_in v (Saved (in_slot b) x) plain listed is (inl h) =
       let t = both (not (same_variable b v)) (not (same_variable x v)) h.1 in
       choose_not (index_of slots b) (index_of slots v) (saved_of T depth (depth - 1) (index_of names x)) (T (saved_in (index_of slots b) (index_of names x)))
       (λ e. true_not_false (sym (same_itself v) ∙ ap (λ y. same_variable y v) (sym (index_one slots b v listed e)) ∙ not_true (same_variable b v) t.0))
-      (there (Saved (in_slot b) x) tt h.3)
+      (there (Saved (in_slot b) x) is h.3)
   set_slot_in v (Saved (in_slot b) x) plain listed is (inr h) =
       choose (index_of slots b) (index_of slots v) (saved_of T depth (depth - 1) (index_of names x)) (T (saved_in (index_of slots b) (index_of names x)))
-      (ap (index_of slots) h.0) (saved_in_stack (depth - 1) x h.1)
+      (ap (index_of slots) h.0) (saved_in_stack (depth - 1) x is h.1)
   set_slot_in v (Kept b x) plain listed is h = absurd is
   set_slot_in v (Locked x) plain listed is h = absurd is
   set_slot_in v (Live x) plain listed is h = absurd is
@@ -348,7 +365,7 @@ module _ (scope : Scope) (code : FunctionCode) (names slots : List Variable) (as
 
   -- ---- values that are copied
 
-  not_new_byte : (top : ℕ) (fact : MustFact) → IsOfByte fact → not_new top fact ≡ true
+  not_new_byte : (top : ℕ) (fact : MustFact) → IsTracked names fact → not_new top fact ≡ true
   not_new_byte top (With p x) is = refl
   not_new_byte top (Saved b x) is = refl
   not_new_byte top (Kept b x) is = absurd is
@@ -357,18 +374,18 @@ module _ (scope : Scope) (code : FunctionCode) (names slots : List Variable) (as
   not_new_byte top (Distinct x y) is = absurd is
   not_new_byte top (New at) is = absurd is
 
-  copied_out : (from to : ℕ) (fact : MustFact) (before : Bool) → IsOfByte fact → AreNames scope code fact
+  copied_out : (from to : ℕ) (fact : MustFact) (before : Bool) → IsTracked names fact → AreNames scope code fact
       → placed to (with_of T depth from) (saved_of T depth from) (cell_of names slots fact) before ≡ true → Copied R from to fact ⊎ (before ≡ true)
   copied_out from to (With p x) before is named h = by_place (chosen p to (with_of T depth from (index_of names x)) before h)
     where
       by_place : ((p ≡ to) × (with_of T depth from (index_of names x) ≡ true)) ⊎ ((p ≢ to) × (before ≡ true)) → Copied R from to (With p x) ⊎ (before ≡ true)
-      by_place (inl k) = inl (k.0, with_out from x named k.1)
+      by_place (inl k) = inl (k.0, with_out from x is named k.1)
       by_place (inr k) = inr k.1
   copied_out from to (Saved (on_stack p) x) before is named h = by_place (chosen p to (saved_of T depth from (index_of names x)) before h)
     where
       by_place : ((p ≡ to) × (saved_of T depth from (index_of names x) ≡ true)) ⊎ ((p ≢ to) × (before ≡ true))
           → Copied R from to (Saved (on_stack p) x) ⊎ (before ≡ true)
-      by_place (inl k) = inl (k.0, saved_out from x named.1 k.1)
+      by_place (inl k) = inl (k.0, saved_out from x is named.1 k.1)
       by_place (inr k) = inr k.1
   copied_out from to (Saved (in_slot b) x) before is named h = inr h
   copied_out from to (Kept b x) before is named h = absurd is
@@ -377,10 +394,10 @@ module _ (scope : Scope) (code : FunctionCode) (names slots : List Variable) (as
   copied_out from to (Distinct x y) before is named h = absurd is
   copied_out from to (New at) before is named h = absurd is
 
-  copied_in : (from to : ℕ) (fact : MustFact) (before : Bool) → IsOfByte fact → Copied R from to fact
+  copied_in : (from to : ℕ) (fact : MustFact) (before : Bool) → IsTracked names fact → Copied R from to fact
       → placed to (with_of T depth from) (saved_of T depth from) (cell_of names slots fact) before ≡ true
-  copied_in from to (With p x) before is h = choose p to (with_of T depth from (index_of names x)) before h.0 (with_in from x h.1)
-  copied_in from to (Saved (on_stack p) x) before is h = choose p to (saved_of T depth from (index_of names x)) before h.0 (saved_in_stack from x h.1)
+  copied_in from to (With p x) before is h = choose p to (with_of T depth from (index_of names x)) before h.0 (with_in from x is h.1)
+  copied_in from to (Saved (on_stack p) x) before is h = choose p to (saved_of T depth from (index_of names x)) before h.0 (saved_in_stack from x is h.1)
   copied_in from to (Saved (in_slot b) x) before is h = absurd h
   copied_in from to (Kept b x) before is h = absurd is
   copied_in from to (Locked x) before is h = absurd is
@@ -388,7 +405,7 @@ module _ (scope : Scope) (code : FunctionCode) (names slots : List Variable) (as
   copied_in from to (Distinct x y) before is h = absurd is
   copied_in from to (New at) before is h = absurd is
 
-  before_kept : (base to : ℕ) (w s : ℕ → Bool) (fact : MustFact) (before : Bool) → base ≤ to → IsOfByte fact → Under base fact → before ≡ true
+  before_kept : (base to : ℕ) (w s : ℕ → Bool) (fact : MustFact) (before : Bool) → base ≤ to → IsTracked names fact → Under base fact → before ≡ true
       → placed to w s (cell_of names slots fact) before ≡ true
   before_kept base to w s (With p x) before low is under h = choose_not p to (w (index_of names x)) before (omega (arith, low, under)) h
   before_kept base to w s (Saved (on_stack p) x) before low is under h = choose_not p to (s (index_of names x)) before (omega (arith, low, under)) h
@@ -400,7 +417,7 @@ module _ (scope : Scope) (code : FunctionCode) (names slots : List Variable) (as
   before_kept base to w s (New at) before low is under h = absurd is
 
   -- what is in one place already stays when another one is written
-  copied_kept : (from to other : ℕ) (w s : ℕ → Bool) (fact : MustFact) (before : Bool) → to ≢ other → IsOfByte fact → Copied R from to fact → before ≡ true
+  copied_kept : (from to other : ℕ) (w s : ℕ → Bool) (fact : MustFact) (before : Bool) → to ≢ other → IsTracked names fact → Copied R from to fact → before ≡ true
       → placed other w s (cell_of names slots fact) before ≡ true
   copied_kept from to other w s (With p x) before ne is c h = let e = c.0 in choose_not p other (w (index_of names x)) before (λ k. ne (sym e ∙ k)) h
   copied_kept from to other w s (Saved (on_stack p) x) before ne is c h = let e = c.0 in choose_not p other (s (index_of names x)) before (λ k. ne
@@ -413,9 +430,9 @@ module _ (scope : Scope) (code : FunctionCode) (names slots : List Variable) (as
   copied_kept from to other w s (New at) before ne is c h = absurd is
 
   -- a value that is copied is there
-  copied_there : (from to : ℕ) (fact : MustFact) → IsOfByte fact → Copied R from to fact → from < depth
-  copied_there from to (With p x) is c = (out (With from x) tt c.1).0.under
-  copied_there from to (Saved (on_stack p) x) is c = (out (Saved (on_stack from) x) tt c.1).0.under
+  copied_there : (from to : ℕ) (fact : MustFact) → IsTracked names fact → Copied R from to fact → from < depth
+  copied_there from to (With p x) is c = (out (With from x) is c.1).0.under
+  copied_there from to (Saved (on_stack p) x) is c = (out (Saved (on_stack from) x) is c.1).0.under
   copied_there from to (Saved (in_slot b) x) is c = absurd c
   copied_there from to (Kept b x) is c = absurd is
   copied_there from to (Locked x) is c = absurd is
@@ -423,7 +440,7 @@ module _ (scope : Scope) (code : FunctionCode) (names slots : List Variable) (as
   copied_there from to (Distinct x y) is c = absurd is
   copied_there from to (New at) is c = absurd is
 
-  dup_out : (fact : MustFact) → IsOfByte fact → AreNames scope code fact
+  dup_out : (fact : MustFact) → IsTracked names fact → AreNames scope code fact
       → given_by assigned names slots (step_of scope code names slots op.Dup depth) T (cell_of names slots fact) ≡ true
       → Gives scope code (impact_by assigned) R op.Dup depth fact
   dup_out fact is named h =
@@ -434,7 +451,7 @@ module _ (scope : Scope) (code : FunctionCode) (names slots : List Variable) (as
       by_place (inl c) = inr c
       by_place (inr k) = let o = popped_out depth fact (omega arith) is named k in inl ((o.0, not_new_byte (depth - 1) fact is), o.1)
 
-  dup_in : (fact : MustFact) → IsOfByte fact → Gives scope code (impact_by assigned) R op.Dup depth fact
+  dup_in : (fact : MustFact) → IsTracked names fact → Gives scope code (impact_by assigned) R op.Dup depth fact
       → given_by assigned names slots (step_of scope code names slots op.Dup depth) T (cell_of names slots fact) ≡ true
   dup_in fact is (inl h) =
       before_kept depth depth (with_of T depth (depth - 1)) (saved_of T depth (depth - 1)) fact (popped depth (cell_of names slots fact) (T (cell_of
@@ -444,7 +461,7 @@ module _ (scope : Scope) (code : FunctionCode) (names slots : List Variable) (as
 
   -- ---- Tuck
 
-  tuck_out : (fact : MustFact) → IsOfByte fact → AreNames scope code fact
+  tuck_out : (fact : MustFact) → IsTracked names fact → AreNames scope code fact
       → given_by assigned names slots (step_of scope code names slots (op.Tuck) depth) T (cell_of names slots fact) ≡ true
       → Gives scope code (impact_by assigned) R (op.Tuck) depth fact
   tuck_out fact is named h = first (copied_out (depth - 1) depth fact (placed (depth - 1) (with_of T depth (depth - 2)) (saved_of T depth (depth -
@@ -469,7 +486,7 @@ module _ (scope : Scope) (code : FunctionCode) (names slots : List Variable) (as
       first (inr k) = second (copied_out (depth - 2) (depth - 1) fact (placed (depth - 2) (with_of T depth (depth - 1)) (saved_of T depth (depth -
           1)) (cell_of names slots fact) (popped (depth - 2) (cell_of names slots fact) (T (cell_of names slots fact)))) is named k)
 
-  tuck_in : (fact : MustFact) → IsOfByte fact → Gives scope code (impact_by assigned) R (op.Tuck) depth fact
+  tuck_in : (fact : MustFact) → IsTracked names fact → Gives scope code (impact_by assigned) R (op.Tuck) depth fact
       → given_by assigned names slots (step_of scope code names slots (op.Tuck) depth) T (cell_of names slots fact) ≡ true
   tuck_in fact is (inl h) =
       before_kept (depth - 2) depth (with_of T depth (depth - 1)) (saved_of T depth (depth - 1)) fact (placed (depth - 1) (with_of T depth (depth -
@@ -522,7 +539,7 @@ module _ (scope : Scope) (code : FunctionCode) (names slots : List Variable) (as
 
   -- ---- Conv
 
-  conv_out : (kind : Integer) (fact : MustFact) → IsOfByte fact → AreNames scope code fact
+  conv_out : (kind : Integer) (fact : MustFact) → IsTracked names fact → AreNames scope code fact
       → given_by assigned names slots (step_of scope code names slots (op.Conv kind) depth) T (cell_of names slots fact) ≡ true
       → Gives scope code (impact_by assigned) R (op.Conv kind) depth fact
   conv_out kind (With p x) is named h = by_place (chosen p (depth - 1) false (popped (depth - 1) (with_at p (index_of names x)) (T (with_at p
@@ -532,7 +549,7 @@ module _ (scope : Scope) (code : FunctionCode) (names slots : List Variable) (as
           names x))) ≡ true))
           → Gives scope code (impact_by assigned) R (op.Conv kind) depth (With p x)
       by_place (inl k) = false_not_true k.1
-      by_place (inr k) = inl (popped_out (depth - 1) (With p x) (omega arith) tt named k.1)
+      by_place (inr k) = inl (popped_out (depth - 1) (With p x) (omega arith) is named k.1)
   conv_out kind (Saved (on_stack p) x) is named h =
       by_place (chosen p (depth - 1) (saved_of T depth (depth - 1) (index_of names x)) (popped (depth - 1) (saved_at p (index_of names x)) (T
       (saved_at p (index_of names x)))) h)
@@ -540,31 +557,31 @@ module _ (scope : Scope) (code : FunctionCode) (names slots : List Variable) (as
       by_place : ((p ≡ depth - 1) × (saved_of T depth (depth - 1) (index_of names x) ≡ true))
           ⊎ ((p ≢ depth - 1) × (popped (depth - 1) (saved_at p (index_of names x)) (T (saved_at p (index_of names x))) ≡ true))
           → Gives scope code (impact_by assigned) R (op.Conv kind) depth (Saved (on_stack p) x)
-      by_place (inl k) = inr (k.0, saved_out (depth - 1) x named.1 k.1)
-      by_place (inr k) = inl (popped_out (depth - 1) (Saved (on_stack p) x) (omega arith) tt named k.1)
-  conv_out kind (Saved (in_slot b) x) is named h = inl (popped_out (depth - 1) (Saved (in_slot b) x) (omega arith) tt named h)
+      by_place (inl k) = inr (k.0, saved_out (depth - 1) x is named.1 k.1)
+      by_place (inr k) = inl (popped_out (depth - 1) (Saved (on_stack p) x) (omega arith) is named k.1)
+  conv_out kind (Saved (in_slot b) x) is named h = inl (popped_out (depth - 1) (Saved (in_slot b) x) (omega arith) is named h)
   conv_out kind (Kept b x) is named h = absurd is
   conv_out kind (Locked x) is named h = absurd is
   conv_out kind (Live x) is named h = absurd is
   conv_out kind (Distinct x y) is named h = absurd is
   conv_out kind (New at) is named h = absurd is
 
-  conv_in : (kind : Integer) (fact : MustFact) → IsOfByte fact → Gives scope code (impact_by assigned) R (op.Conv kind) depth fact
+  conv_in : (kind : Integer) (fact : MustFact) → IsTracked names fact → Gives scope code (impact_by assigned) R (op.Conv kind) depth fact
       → given_by assigned names slots (step_of scope code names slots (op.Conv kind) depth) T (cell_of names slots fact) ≡ true
   conv_in kind (With p x) is (inl h) =
       before_kept (depth - 1) (depth - 1) no_name (saved_of T depth (depth - 1)) (With p x) (popped (depth - 1) (with_at p (index_of names x)) (T
       (with_at p (index_of names x))))
-      (omega arith) tt h.0 (popped_in (depth - 1) (With p x) tt h.0 h.1)
+      (omega arith) is h.0 (popped_in (depth - 1) (With p x) is h.0 h.1)
   conv_in kind (With p x) is (inr h) = absurd h
   conv_in kind (Saved (on_stack p) x) is (inl h) =
       before_kept (depth - 1) (depth - 1) no_name (saved_of T depth (depth - 1)) (Saved (on_stack p) x) (popped (depth - 1) (saved_at p (index_of
       names x)) (T (saved_at p (index_of names x))))
-      (omega arith) tt h.0 (popped_in (depth - 1) (Saved (on_stack p) x) tt h.0 h.1)
+      (omega arith) is h.0 (popped_in (depth - 1) (Saved (on_stack p) x) is h.0 h.1)
   conv_in kind (Saved (on_stack p) x) is (inr h) =
       choose p (depth - 1) (saved_of T depth (depth - 1) (index_of names x)) (popped (depth - 1) (saved_at p (index_of names x)) (T (saved_at p
       (index_of names x)))) h.0
-      (saved_in_stack (depth - 1) x h.1)
-  conv_in kind (Saved (in_slot b) x) is (inl h) = popped_in (depth - 1) (Saved (in_slot b) x) tt h.0 h.1
+      (saved_in_stack (depth - 1) x is h.1)
+  conv_in kind (Saved (in_slot b) x) is (inl h) = popped_in (depth - 1) (Saved (in_slot b) x) is h.0 h.1
   conv_in kind (Saved (in_slot b) x) is (inr h) = absurd h
   conv_in kind (Kept b x) is h = absurd is
   conv_in kind (Locked x) is h = absurd is
@@ -574,44 +591,44 @@ module _ (scope : Scope) (code : FunctionCode) (names slots : List Variable) (as
 
   -- ---- routines
 
-  read_out : (base : ℕ) (fact : MustFact) → base ≤ depth → IsOfByte fact → AreNames scope code fact
+  read_out : (base : ℕ) (fact : MustFact) → base ≤ depth → IsTracked names fact → AreNames scope code fact
       → given_by assigned names slots (step.ReadState depth base) T (cell_of names slots fact) ≡ true → (Under base fact × R fact) ⊎ Read R base fact
   read_out base (With p x) low is named h = by_place (chosen p base false (popped base (with_at p (index_of names x)) (T (with_at p (index_of names x)))) h)
     where
       by_place : ((p ≡ base) × (false ≡ true)) ⊎ ((p ≢ base) × (popped base (with_at p (index_of names x)) (T (with_at p (index_of names x))) ≡ true))
           → (Under base (With p x) × R (With p x)) ⊎ Read R base (With p x)
       by_place (inl k) = false_not_true k.1
-      by_place (inr k) = inl (popped_out base (With p x) low tt named k.1)
+      by_place (inr k) = inl (popped_out base (With p x) low is named k.1)
   read_out base (Saved (on_stack p) x) low is named h =
       by_place (chosen p base (with_of T depth base (index_of names x)) (popped base (saved_at p (index_of names x)) (T (saved_at p (index_of names x)))) h)
     where
       by_place : ((p ≡ base) × (with_of T depth base (index_of names x) ≡ true))
           ⊎ ((p ≢ base) × (popped base (saved_at p (index_of names x)) (T (saved_at p (index_of names x))) ≡ true))
           → (Under base (Saved (on_stack p) x) × R (Saved (on_stack p) x)) ⊎ Read R base (Saved (on_stack p) x)
-      by_place (inl k) = inr (k.0, with_out base x named.1 k.1)
-      by_place (inr k) = inl (popped_out base (Saved (on_stack p) x) low tt named k.1)
-  read_out base (Saved (in_slot b) x) low is named h = inl (popped_out base (Saved (in_slot b) x) low tt named h)
+      by_place (inl k) = inr (k.0, with_out base x is named.1 k.1)
+      by_place (inr k) = inl (popped_out base (Saved (on_stack p) x) low is named k.1)
+  read_out base (Saved (in_slot b) x) low is named h = inl (popped_out base (Saved (in_slot b) x) low is named h)
   read_out base (Kept b x) low is named h = absurd is
   read_out base (Locked x) low is named h = absurd is
   read_out base (Live x) low is named h = absurd is
   read_out base (Distinct x y) low is named h = absurd is
   read_out base (New at) low is named h = absurd is
 
-  read_in : (base : ℕ) (fact : MustFact) → IsOfByte fact → (Under base fact × R fact) ⊎ Read R base fact
+  read_in : (base : ℕ) (fact : MustFact) → IsTracked names fact → (Under base fact × R fact) ⊎ Read R base fact
       → given_by assigned names slots (step.ReadState depth base) T (cell_of names slots fact) ≡ true
   read_in base (With p x) is (inl h) =
       before_kept base base no_name (with_of T depth base) (With p x) (popped base (with_at p (index_of names x)) (T (with_at p (index_of names x))))
-      (omega arith) tt h.0
-      (popped_in base (With p x) tt h.0 h.1)
+      (omega arith) is h.0
+      (popped_in base (With p x) is h.0 h.1)
   read_in base (With p x) is (inr h) = absurd h
   read_in base (Saved (on_stack p) x) is (inl h) =
       before_kept base base no_name (with_of T depth base) (Saved (on_stack p) x) (popped base (saved_at p (index_of names x)) (T (saved_at p
       (index_of names x))))
-      (omega arith) tt h.0 (popped_in base (Saved (on_stack p) x) tt h.0 h.1)
+      (omega arith) is h.0 (popped_in base (Saved (on_stack p) x) is h.0 h.1)
   read_in base (Saved (on_stack p) x) is (inr h) =
       choose p base (with_of T depth base (index_of names x)) (popped base (saved_at p (index_of names x)) (T (saved_at p (index_of names x)))) h.0
-      (with_in base x h.1)
-  read_in base (Saved (in_slot b) x) is (inl h) = popped_in base (Saved (in_slot b) x) tt h.0 h.1
+      (with_in base x is h.1)
+  read_in base (Saved (in_slot b) x) is (inl h) = popped_in base (Saved (in_slot b) x) is h.0 h.1
   read_in base (Saved (in_slot b) x) is (inr h) = absurd h
   read_in base (Kept b x) is h = absurd is
   read_in base (Locked x) is h = absurd is
@@ -619,7 +636,7 @@ module _ (scope : Scope) (code : FunctionCode) (names slots : List Variable) (as
   read_in base (Distinct x y) is h = absurd is
   read_in base (New at) is h = absurd is
 
-  role_out : (its : Option Role) (base : ℕ) (fact : MustFact) → base ≤ depth → IsOfByte fact → AreNames scope code fact
+  role_out : (its : Option Role) (base : ℕ) (fact : MustFact) → base ≤ depth → IsTracked names fact → AreNames scope code fact
       → given_by assigned names slots (routine_step its depth base) T (cell_of names slots fact) ≡ true → (Under base fact × R fact)
       ⊎ BroughtByRole R its base fact
   role_out None base fact low is named h = inl (popped_out base fact low is named h)
@@ -642,7 +659,7 @@ module _ (scope : Scope) (code : FunctionCode) (names slots : List Variable) (as
   role_out (Some role.Putchar) base fact low is named h = inl (popped_out base fact low is named h)
   role_out (Some role.Plain) base fact low is named h = inl (popped_out base fact low is named h)
 
-  locked_none : (base : ℕ) (fact : MustFact) → IsOfByte fact → LockedBy R base fact → ⊥
+  locked_none : (base : ℕ) (fact : MustFact) → IsTracked names fact → LockedBy R base fact → ⊥
   locked_none base (With p x) is h = h
   locked_none base (Saved b x) is h = h
   locked_none base (Kept b x) is h = is
@@ -651,7 +668,7 @@ module _ (scope : Scope) (code : FunctionCode) (names slots : List Variable) (as
   locked_none base (Distinct x y) is h = is
   locked_none base (New at) is h = is
 
-  role_in : (its : Option Role) (base : ℕ) (fact : MustFact) → IsOfByte fact → (Under base fact × R fact) ⊎ BroughtByRole R its base fact
+  role_in : (its : Option Role) (base : ℕ) (fact : MustFact) → IsTracked names fact → (Under base fact × R fact) ⊎ BroughtByRole R its base fact
       → given_by assigned names slots (routine_step its depth base) T (cell_of names slots fact) ≡ true
   role_in None base fact is (inl h) = popped_in base fact is h.0 h.1
   role_in None base fact is (inr h) = absurd h
@@ -691,7 +708,7 @@ module _ (scope : Scope) (code : FunctionCode) (names slots : List Variable) (as
   role_in (Some role.Plain) base fact is (inl h) = popped_in base fact is h.0 h.1
   role_in (Some role.Plain) base fact is (inr h) = absurd h
 
-  routine_out : (place : ℕ) (fact : MustFact) → IsOfByte fact → AreNames scope code fact
+  routine_out : (place : ℕ) (fact : MustFact) → IsTracked names fact → AreNames scope code fact
       → given_by assigned names slots (step_of scope code names slots (op.Routine place) depth) T (cell_of names slots fact) ≡ true
       → Gives scope code (impact_by assigned) R (op.Routine place) depth fact
   routine_out place fact is named h =
@@ -700,15 +717,15 @@ module _ (scope : Scope) (code : FunctionCode) (names slots : List Variable) (as
       by_side : (Under (depth - taken scope (op.Routine place)) fact × R fact)
           ⊎ BroughtByRole R (role_at scope place) (depth - taken scope (op.Routine place)) fact
           → Gives scope code (impact_by assigned) R (op.Routine place) depth fact
-      by_side (inl k) = inl ((k.0, stays_in_role R (role_at scope place) (depth - taken scope (op.Routine place)) fact is), k.1)
+      by_side (inl k) = inl ((k.0, stays_in_role R (role_at scope place) (depth - taken scope (op.Routine place)) fact (tracked_byte names fact is)), k.1)
       by_side (inr k) = inr (inr (inl k))
 
-  routine_in : (place : ℕ) (fact : MustFact) → IsOfByte fact → Gives scope code (impact_by assigned) R (op.Routine place) depth fact
+  routine_in : (place : ℕ) (fact : MustFact) → IsTracked names fact → Gives scope code (impact_by assigned) R (op.Routine place) depth fact
       → given_by assigned names slots (step_of scope code names slots (op.Routine place) depth) T (cell_of names slots fact) ≡ true
   routine_in place fact is (inl h) = role_in (role_at scope place) (depth - taken scope (op.Routine place)) fact is (inl (h.0.0, h.1))
-  routine_in place fact is (inr (inl h)) = absurd (used_none R (uses_handle (role_at scope place)) (depth - taken scope (op.Routine place)) fact is h)
+  routine_in place fact is (inr (inl h)) = absurd (used_none R (uses_handle (role_at scope place)) (depth - taken scope (op.Routine place)) fact (tracked_byte names fact is) h)
   routine_in place fact is (inr (inr (inl h))) = role_in (role_at scope place) (depth - taken scope (op.Routine place)) fact is (inr h)
-  routine_in place fact is (inr (inr (inr h))) = absurd (made_none (makes_handle scope place) (depth - taken scope (op.Routine place)) fact is h)
+  routine_in place fact is (inr (inr (inr h))) = absurd (made_none (makes_handle scope place) (depth - taken scope (op.Routine place)) fact (tracked_byte names fact is) h)
 
   -- ---- Bring
 
@@ -718,7 +735,7 @@ module _ (scope : Scope) (code : FunctionCode) (names slots : List Variable) (as
   chosen_else : (p base : ℕ) (x y : Bool) → base ≤ p → y ≡ true → (if nat_lt p base then x else y) ≡ true
   chosen_else p base x y l h = rw (least_number p base l) h
 
-  bring_out : (k : ℕ) (fact : MustFact) → IsOfByte fact → AreNames scope code fact
+  bring_out : (k : ℕ) (fact : MustFact) → IsTracked names fact → AreNames scope code fact
       → given_by assigned names slots (step_of scope code names slots (op.Bring (suc k)) depth) T (cell_of names slots fact) ≡ true
       → Gives scope code (impact_by assigned) R (op.Bring (suc k)) depth fact
   bring_out k (With p x) is named h = by_place (chosen p (depth - 1) (with_of T depth (depth - suc k) (index_of names x)) (if nat_lt p (depth - suc
@@ -728,16 +745,16 @@ module _ (scope : Scope) (code : FunctionCode) (names slots : List Variable) (as
       by_order : ((p < depth - suc k) × ((popped (depth - suc k) (with_at p (index_of names x)) (T (with_at p (index_of names x)))) ≡ true))
           ⊎ ((depth - suc k ≤ p) × (with_of T depth (suc p) (index_of names x) ≡ true))
           → Gives scope code (impact_by assigned) R (op.Bring (suc k)) depth (With p x)
-      by_order (inl t) = inl (popped_out (depth - suc k) (With p x) (omega arith) tt named t.1)
+      by_order (inl t) = inl (popped_out (depth - suc k) (With p x) (omega arith) is named t.1)
       by_order (inr t) =
           let l = both (nat_lt (suc p) depth) (T (with_at (suc p) (index_of names x))) t.1 in
-          inr (inr (p, t.0, less_numbers (suc p) depth l.0, (refl, with_out (suc p) x named t.1)))
+          inr (inr (p, t.0, less_numbers (suc p) depth l.0, (refl, with_out (suc p) x is named t.1)))
 
       by_place : ((p ≡ depth - 1) × (with_of T depth (depth - suc k) (index_of names x) ≡ true))
           ⊎ ((p ≢ depth - 1) × ((if nat_lt p (depth - suc k) then (popped (depth - suc k) (with_at p (index_of names x)) (T (with_at p (index_of
           names x)))) else with_of T depth (suc p) (index_of names x)) ≡ true))
           → Gives scope code (impact_by assigned) R (op.Bring (suc k)) depth (With p x)
-      by_place (inl t) = inr (inl (t.0, with_out (depth - suc k) x named t.1))
+      by_place (inl t) = inr (inl (t.0, with_out (depth - suc k) x is named t.1))
       by_place (inr t) = by_order (chosen_below p (depth - suc k) (popped (depth - suc k) (with_at p (index_of names x)) (T (with_at p (index_of
           names x)))) (with_of T depth (suc p) (index_of names x)) t.1)
   bring_out k (Saved (on_stack p) x) is named h = by_place (chosen p (depth - 1) (saved_of T depth (depth - suc k) (index_of names x)) (if nat_lt p
@@ -747,36 +764,36 @@ module _ (scope : Scope) (code : FunctionCode) (names slots : List Variable) (as
       by_order : ((p < depth - suc k) × ((popped (depth - suc k) (saved_at p (index_of names x)) (T (saved_at p (index_of names x)))) ≡ true))
           ⊎ ((depth - suc k ≤ p) × (saved_of T depth (suc p) (index_of names x) ≡ true))
           → Gives scope code (impact_by assigned) R (op.Bring (suc k)) depth (Saved (on_stack p) x)
-      by_order (inl t) = inl (popped_out (depth - suc k) (Saved (on_stack p) x) (omega arith) tt named t.1)
+      by_order (inl t) = inl (popped_out (depth - suc k) (Saved (on_stack p) x) (omega arith) is named t.1)
       by_order (inr t) =
           let l = both (nat_lt (suc p) depth) (T (saved_at (suc p) (index_of names x))) t.1 in
-          inr (inr (p, t.0, less_numbers (suc p) depth l.0, (refl, saved_out (suc p) x named.1 t.1)))
+          inr (inr (p, t.0, less_numbers (suc p) depth l.0, (refl, saved_out (suc p) x is named.1 t.1)))
 
       by_place : ((p ≡ depth - 1) × (saved_of T depth (depth - suc k) (index_of names x) ≡ true))
           ⊎ ((p ≢ depth - 1) × ((if nat_lt p (depth - suc k) then (popped (depth - suc k) (saved_at p (index_of names x)) (T (saved_at p (index_of
           names x)))) else saved_of T depth (suc p) (index_of names x)) ≡ true))
           → Gives scope code (impact_by assigned) R (op.Bring (suc k)) depth (Saved (on_stack p) x)
-      by_place (inl t) = inr (inl (t.0, saved_out (depth - suc k) x named.1 t.1))
+      by_place (inl t) = inr (inl (t.0, saved_out (depth - suc k) x is named.1 t.1))
       by_place (inr t) = by_order (chosen_below p (depth - suc k) (popped (depth - suc k) (saved_at p (index_of names x)) (T (saved_at p (index_of
           names x)))) (saved_of T depth (suc p) (index_of names x)) t.1)
-  bring_out k (Saved (in_slot b) x) is named h = inl (popped_out (depth - suc k) (Saved (in_slot b) x) (omega arith) tt named h)
+  bring_out k (Saved (in_slot b) x) is named h = inl (popped_out (depth - suc k) (Saved (in_slot b) x) (omega arith) is named h)
   bring_out k (Kept b x) is named h = absurd is
   bring_out k (Locked x) is named h = absurd is
   bring_out k (Live x) is named h = absurd is
   bring_out k (Distinct x y) is named h = absurd is
   bring_out k (New at) is named h = absurd is
 
-  bring_in : (k : ℕ) (fact : MustFact) → IsOfByte fact → Gives scope code (impact_by assigned) R (op.Bring (suc k)) depth fact
+  bring_in : (k : ℕ) (fact : MustFact) → IsTracked names fact → Gives scope code (impact_by assigned) R (op.Bring (suc k)) depth fact
       → given_by assigned names slots (step_of scope code names slots (op.Bring (suc k)) depth) T (cell_of names slots fact) ≡ true
   bring_in k (With p x) is (inl h) =
       let under = h.0 in
       choose_not p (depth - 1) (with_of T depth (depth - suc k) (index_of names x)) (if nat_lt p (depth - suc k) then (popped (depth - suc k)
       (with_at p (index_of names x)) (T (with_at p (index_of names x)))) else with_of T depth (suc p) (index_of names x)) (omega (arith, under))
       (chosen_or p (depth - suc k) (popped (depth - suc k) (with_at p (index_of names x)) (T (with_at p (index_of names x)))) (with_of T depth (suc
-      p) (index_of names x)) under (popped_in (depth - suc k) (With p x) tt h.0 h.1))
+      p) (index_of names x)) under (popped_in (depth - suc k) (With p x) is h.0 h.1))
   bring_in k (With p x) is (inr (inl h)) =
       choose p (depth - 1) (with_of T depth (depth - suc k) (index_of names x)) (if nat_lt p (depth - suc k) then (popped (depth - suc k) (with_at p
-      (index_of names x)) (T (with_at p (index_of names x)))) else with_of T depth (suc p) (index_of names x)) h.0 (with_in (depth - suc k) x h.1)
+      (index_of names x)) (T (with_at p (index_of names x)))) else with_of T depth (suc p) (index_of names x)) h.0 (with_in (depth - suc k) x is h.1)
   bring_in k (With p x) is (inr (inr h)) =
       let low = h.1 in
       let high = h.2 in
@@ -785,17 +802,17 @@ module _ (scope : Scope) (code : FunctionCode) (names slots : List Variable) (as
       (with_at p (index_of names x)) (T (with_at p (index_of names x)))) else with_of T depth (suc p) (index_of names x)) (omega (arith, high, same))
       (chosen_else p (depth - suc k) (popped (depth - suc k) (with_at p (index_of names x)) (T (with_at p (index_of names x)))) (with_of T depth (suc
       p) (index_of names x)) (omega (arith, low, same))
-      (subst (λ n. with_of T depth (suc n) (index_of names x) ≡ true) (sym same) (with_in (suc h.0) x h.3.1)))
+      (subst (λ n. with_of T depth (suc n) (index_of names x) ≡ true) (sym same) (with_in (suc h.0) x is h.3.1)))
   bring_in k (Saved (on_stack p) x) is (inl h) =
       let under = h.0 in
       choose_not p (depth - 1) (saved_of T depth (depth - suc k) (index_of names x)) (if nat_lt p (depth - suc k) then (popped (depth - suc k)
       (saved_at p (index_of names x)) (T (saved_at p (index_of names x)))) else saved_of T depth (suc p) (index_of names x)) (omega (arith, under))
       (chosen_or p (depth - suc k) (popped (depth - suc k) (saved_at p (index_of names x)) (T (saved_at p (index_of names x)))) (saved_of T depth
-      (suc p) (index_of names x)) under (popped_in (depth - suc k) (Saved (on_stack p) x) tt h.0 h.1))
+      (suc p) (index_of names x)) under (popped_in (depth - suc k) (Saved (on_stack p) x) is h.0 h.1))
   bring_in k (Saved (on_stack p) x) is (inr (inl h)) =
       choose p (depth - 1) (saved_of T depth (depth - suc k) (index_of names x)) (if nat_lt p (depth - suc k) then (popped (depth - suc k) (saved_at
       p (index_of names x)) (T (saved_at p (index_of names x)))) else saved_of T depth (suc p) (index_of names x)) h.0 (saved_in_stack (depth -
-      suc k) x h.1)
+      suc k) x is h.1)
   bring_in k (Saved (on_stack p) x) is (inr (inr h)) =
       let low = h.1 in
       let high = h.2 in
@@ -808,8 +825,8 @@ module _ (scope : Scope) (code : FunctionCode) (names slots : List Variable) (as
       ))
       (chosen_else p (depth - suc k) (popped (depth - suc k) (saved_at p (index_of names x)) (T (saved_at p (index_of names x)))) (saved_of T depth
       (suc p) (index_of names x)) (omega (arith, low, same))
-      (subst (λ n. saved_of T depth (suc n) (index_of names x) ≡ true) (sym same) (saved_in_stack (suc h.0) x h.3.1)))
-  bring_in k (Saved (in_slot b) x) is (inl h) = popped_in (depth - suc k) (Saved (in_slot b) x) tt h.0 h.1
+      (subst (λ n. saved_of T depth (suc n) (index_of names x) ≡ true) (sym same) (saved_in_stack (suc h.0) x is h.3.1)))
+  bring_in k (Saved (in_slot b) x) is (inl h) = popped_in (depth - suc k) (Saved (in_slot b) x) is h.0 h.1
   bring_in k (Saved (in_slot b) x) is (inr (inl h)) = absurd h
   bring_in k (Saved (in_slot b) x) is (inr (inr h)) = absurd h.3
   bring_in k (Kept b x) is h = absurd is
@@ -818,9 +835,9 @@ module _ (scope : Scope) (code : FunctionCode) (names slots : List Variable) (as
   bring_in k (Distinct x y) is h = absurd is
   bring_in k (New at) is h = absurd is
 
-  moved_there : (from to : ℕ) (fact : MustFact) → IsOfByte fact → Moved R from to fact → from < depth
-  moved_there from to (With p x) is c = (out (With from x) tt c.1).0.under
-  moved_there from to (Saved (on_stack p) x) is c = (out (Saved (on_stack from) x) tt c.1).0.under
+  moved_there : (from to : ℕ) (fact : MustFact) → IsTracked names fact → Moved R from to fact → from < depth
+  moved_there from to (With p x) is c = (out (With from x) is c.1).0.under
+  moved_there from to (Saved (on_stack p) x) is c = (out (Saved (on_stack from) x) is c.1).0.under
   moved_there from to (Saved (in_slot b) x) is c = absurd c
   moved_there from to (Kept b x) is c = absurd is
   moved_there from to (Locked x) is c = absurd is
@@ -828,7 +845,7 @@ module _ (scope : Scope) (code : FunctionCode) (names slots : List Variable) (as
   moved_there from to (Distinct x y) is c = absurd is
   moved_there from to (New at) is c = absurd is
 
-  bring_none_in : (fact : MustFact) → IsOfByte fact → Gives scope code (impact_by assigned) R (op.Bring zero) depth fact
+  bring_none_in : (fact : MustFact) → IsTracked names fact → Gives scope code (impact_by assigned) R (op.Bring zero) depth fact
       → given_by assigned names slots (step_of scope code names slots (op.Bring zero) depth) T (cell_of names slots fact) ≡ true
   bring_none_in fact is (inl h) = popped_in depth fact is (subst (λ n. Under n fact) (minus_none depth) h.0) h.1
   bring_none_in fact is (inr (inl h)) = let l = moved_there (depth - 0) (depth - 1) fact is h in absurd (omega (arith, l))
@@ -874,19 +891,19 @@ module _ (scope : Scope) (code : FunctionCode) (names slots : List Variable) (as
   unless_in : (c y : Bool) → c ≡ false → y ≡ true → (if c then false else y) ≡ true
   unless_in c y h k = rw h k
 
-  call_out : (f : ℕ) (fact : MustFact) → AreListed scope slots assigned f → IsOfByte fact → AreNames scope code fact
+  call_out : (f : ℕ) (fact : MustFact) → AreListed scope slots assigned f → IsTracked names fact → AreNames scope code fact
       → given_by assigned names slots (step_of scope code names slots (op.Call f) depth) T (cell_of names slots fact) ≡ true
       → Gives scope code (impact_by assigned) R (op.Call f) depth fact
   call_out f (With p x) listed is named h =
       let t = both (not (gone (assigned f) names (index_of names x))) (popped (depth - taken scope (op.Call f)) (with_at p (index_of names x)) (T
       (with_at p (index_of names x)))) h in
-      let o = popped_out (depth - taken scope (op.Call f)) (With p x) (omega arith) tt named t.1 in
-      inl ((o.0, tt, not_gone f names x (inl (name_in x named)) (not_true (gone (assigned f) names (index_of names x)) t.0)), o.1)
+      let o = popped_out (depth - taken scope (op.Call f)) (With p x) (omega arith) is named t.1 in
+      inl ((o.0, tt, not_gone f names x (inl is) (not_true (gone (assigned f) names (index_of names x)) t.0)), o.1)
   call_out f (Saved (on_stack p) x) listed is named h =
       let t = both (not (gone (assigned f) names (index_of names x))) (popped (depth - taken scope (op.Call f)) (saved_at p (index_of names x)) (T
       (saved_at p (index_of names x)))) h in
-      let o = popped_out (depth - taken scope (op.Call f)) (Saved (on_stack p) x) (omega arith) tt named t.1 in
-      inl ((o.0, tt, not_gone f names x (inl (name_in x named.1)) (not_true (gone (assigned f) names (index_of names x)) t.0)), o.1)
+      let o = popped_out (depth - taken scope (op.Call f)) (Saved (on_stack p) x) (omega arith) is named t.1 in
+      inl ((o.0, tt, not_gone f names x (inl is) (not_true (gone (assigned f) names (index_of names x)) t.0)), o.1)
   call_out f (Saved (in_slot b) x) listed is named h =
       let u = unless (gone (assigned f) slots (index_of slots b)) (not (gone (assigned f) names (index_of names x)) && T (saved_in (index_of slots b)
       (index_of names x))) h in
@@ -898,9 +915,9 @@ module _ (scope : Scope) (code : FunctionCode) (names slots : List Variable) (as
           λ g a. both_true (not (same_variable b (name.Global g))) (not (same_variable x (name.Global g)))
               (not_gone f slots b (inr (λ i e k. subst (λ v. index_of slots v < length slots) (sym e)
               (listed i (subst (λ v. is_slot_in scope.types (variable_in scope v) ≡ true) e named.0) k))) u.0 g a)
-              (not_gone f names x (inl (name_in x named.1)) (not_true (gone (assigned f) names (index_of names x)) t.0) g a),
+              (not_gone f names x (inl is) (not_true (gone (assigned f) names (index_of names x)) t.0) g a),
         ),
-        into (Saved (in_slot b) x) tt (record { under = tt; named = named }) t.1,
+        into (Saved (in_slot b) x) is (record { under = tt; named = named }) t.1,
       )
   call_out f (Kept b x) listed is named h = absurd is
   call_out f (Locked x) listed is named h = absurd is
@@ -908,17 +925,17 @@ module _ (scope : Scope) (code : FunctionCode) (names slots : List Variable) (as
   call_out f (Distinct x y) listed is named h = absurd is
   call_out f (New at) listed is named h = absurd is
 
-  call_in : (f : ℕ) (fact : MustFact) → IsOfByte fact → Gives scope code (impact_by assigned) R (op.Call f) depth fact
+  call_in : (f : ℕ) (fact : MustFact) → IsTracked names fact → Gives scope code (impact_by assigned) R (op.Call f) depth fact
       → given_by assigned names slots (step_of scope code names slots (op.Call f) depth) T (cell_of names slots fact) ≡ true
   call_in f (With p x) is (inl h) =
       both_true (not (gone (assigned f) names (index_of names x))) (popped (depth - taken scope (op.Call f)) (with_at p (index_of names x)) (T
       (with_at p (index_of names x)))) (ap not (gone_not f names x (λ g a. h.0.2 g a)))
-      (popped_in (depth - taken scope (op.Call f)) (With p x) tt h.0.0 h.1)
+      (popped_in (depth - taken scope (op.Call f)) (With p x) is h.0.0 h.1)
   call_in f (With p x) is (inr h) = absurd h
   call_in f (Saved (on_stack p) x) is (inl h) =
       both_true (not (gone (assigned f) names (index_of names x))) (popped (depth - taken scope (op.Call f)) (saved_at p (index_of names x)) (T
       (saved_at p (index_of names x)))) (ap not (gone_not f names x (λ g a. h.0.2 g a)))
-      (popped_in (depth - taken scope (op.Call f)) (Saved (on_stack p) x) tt h.0.0 h.1)
+      (popped_in (depth - taken scope (op.Call f)) (Saved (on_stack p) x) is h.0.0 h.1)
   call_in f (Saved (on_stack p) x) is (inr h) = absurd h
   call_in f (Saved (in_slot b) x) is (inl h) =
       unless_in (gone (assigned f) slots (index_of slots b)) (not (gone (assigned f) names (index_of names x)) && T (saved_in (index_of slots b)
@@ -926,7 +943,7 @@ module _ (scope : Scope) (code : FunctionCode) (names slots : List Variable) (as
       (gone_not f slots b (λ g a. (both (not (same_variable b (name.Global g))) (not (same_variable x (name.Global g))) (h.0.2 g a)).0))
       (both_true (not (gone (assigned f) names (index_of names x))) (T (saved_in (index_of slots b) (index_of names x)))
       (ap not (gone_not f names x (λ g a. (both (not (same_variable b (name.Global g))) (not (same_variable x (name.Global g))) (h.0.2 g a)).1)))
-      (there (Saved (in_slot b) x) tt h.1))
+      (there (Saved (in_slot b) x) is h.1))
   call_in f (Saved (in_slot b) x) is (inr h) = absurd h
   call_in f (Kept b x) is h = absurd is
   call_in f (Locked x) is h = absurd is
@@ -936,14 +953,14 @@ module _ (scope : Scope) (code : FunctionCode) (names slots : List Variable) (as
 
   -- ---- all operations
 
-  set_out : (v : Variable) (its : Bool) → is_name scope code v ≡ its → (fact : MustFact) → index_of slots v < length slots → IsOfByte fact
+  set_out : (v : Variable) (its : Bool) → is_name scope code v ≡ its → (fact : MustFact) → index_of slots v < length slots → IsTracked names fact
       → AreNames scope code fact
       → given_by assigned names slots (set_step its depth (index_of names v) (index_of slots v)) T (cell_of names slots fact) ≡ true
       → (Under depth fact × (free_of v fact ≡ true) × (not_new (depth - 1) fact ≡ true) × R fact) ⊎ SetBy R its v (depth - 1) fact
   set_out v true e fact listed is named h = set_name_out v fact e listed is named h
   set_out v false e fact listed is named h = set_slot_out v fact e listed is named h
 
-  set_in : (v : Variable) (its : Bool) → is_name scope code v ≡ its → (fact : MustFact) → index_of slots v < length slots → IsOfByte fact
+  set_in : (v : Variable) (its : Bool) → is_name scope code v ≡ its → (fact : MustFact) → index_of slots v < length slots → IsTracked names fact
       → (Under depth fact × (free_of v fact ≡ true) × (not_new (depth - 1) fact ≡ true) × R fact) ⊎ SetBy R its v (depth - 1) fact
       → given_by assigned names slots (set_step its depth (index_of names v) (index_of slots v)) T (cell_of names slots fact) ≡ true
   set_in v true e fact listed is h = set_name_in v fact e listed is h
@@ -959,7 +976,7 @@ module _ (scope : Scope) (code : FunctionCode) (names slots : List Variable) (as
   ungroup v fact S (inl h) = inl (h.0.0, h.0.1, h.0.2, h.1)
   ungroup v fact S (inr h) = inr h
 
-  pub gives_after : (its : Op) (fact : MustFact) → OpFits scope slots assigned its → IsOfByte fact → AreNames scope code fact
+  pub gives_after : (its : Op) (fact : MustFact) → OpFits scope slots assigned its → IsTracked names fact → AreNames scope code fact
       → given_by assigned names slots (step_of scope code names slots its depth) T (cell_of names slots fact) ≡ true
       → Gives scope code (impact_by assigned) R its depth fact
   gives_after (op.Num bits) fact fits is named h = inl (popped_out (depth - taken scope (op.Num bits)) fact (omega arith) is named h)
@@ -997,7 +1014,7 @@ module _ (scope : Scope) (code : FunctionCode) (names slots : List Variable) (as
       inl (subst (λ n. Under n fact × R fact) (sym (minus_none depth)) (popped_out depth fact (omega arith) is named h))
   gives_after (op.Bring (suc k)) fact fits is named h = bring_out k fact is named h
 
-  pub after_gives : (its : Op) (fact : MustFact) → OpFits scope slots assigned its → IsOfByte fact → Gives scope code (impact_by assigned) R its depth fact
+  pub after_gives : (its : Op) (fact : MustFact) → OpFits scope slots assigned its → IsTracked names fact → Gives scope code (impact_by assigned) R its depth fact
       → given_by assigned names slots (step_of scope code names slots its depth) T (cell_of names slots fact) ≡ true
   after_gives (op.Num bits) fact fits is (inl h) = popped_in (depth - taken scope (op.Num bits)) fact is h.0 h.1
   after_gives (op.Num bits) fact fits is (inr h) = absurd h
@@ -1040,7 +1057,7 @@ module _ (scope : Scope) (code : FunctionCode) (names slots : List Variable) (as
   after_gives (op.Pick target) fact fits is (inl h) = popped_in (depth - taken scope (op.Pick target)) fact is h.0 h.1
   after_gives (op.Pick target) fact fits is (inr h) = absurd h
   after_gives (op.Load its) fact fits is (inl h) = popped_in (depth - taken scope (op.Load its)) fact is h.0 h.1
-  after_gives (op.Load its) fact fits is (inr h) = absurd (used_none R true (depth - 1) fact is h)
+  after_gives (op.Load its) fact fits is (inr h) = absurd (used_none R true (depth - 1) fact (tracked_byte names fact is) h)
   after_gives (op.Get v) fact fits is h = get_in v fact is (subst (λ n. (Under n fact × R fact) ⊎ Got R v depth fact) (minus_none depth) h)
   after_gives (op.Set v) fact fits is h =
       set_in v (is_name scope code v) refl fact fits is (ungroup v fact (SetBy R (is_name scope code v) v (depth - 1) fact) h)

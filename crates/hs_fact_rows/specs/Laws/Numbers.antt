@@ -127,6 +127,17 @@ index_test list x v h = by_test (same_variable x v) refl
         (index_one list x v h same)) ∙ e))
         ∙ sym e
 
+-- and if the other one is there
+pub index_turned : (list : List Variable) (x v : Variable) → index_of list x < length list → (index_of list x == index_of list v) ≡ same_variable x v
+index_turned list x v h = by_test (same_variable x v) refl
+  where
+    by_test : (t : Bool) → same_variable x v ≡ t → (index_of list x == index_of list v) ≡ same_variable x v
+    by_test true e = same_number (index_of list x) (index_of list v) (ap (index_of list) (same_variables x v e)) ∙ sym e
+    by_test false e =
+        same_numbers_not (index_of list x) (index_of list v) (λ same. true_not_false (sym (same_itself x) ∙ ap (λ y. same_variable x y)
+        (sym (index_one list v x h (sym same))) ∙ e))
+        ∙ sym e
+
 -- past the list nothing is gone
 pub gone_past : (assigned : ℕ → Bool) (list : List Variable) (i : ℕ) → length list ≤ i → gone assigned list i ≡ false
 gone_past assigned [] i h = refl

@@ -8,16 +8,15 @@ use Rattle.std.proofs.lemmas.Option.{slice_get_within, slice_get-get_or}
 use Rattle.hs_code.specs.Following.{Follows, IsNext, IsNextOf}
 use Rattle.hs_code.specs.Stacks.{Scope}
 use Rattle.hs_code.specs.declared.function_code.Placed.{Placed}
-use Rattle.hs_fact_rows.specs.Cells.{Cell, IsIn, cell_of, index_of, with_at, saved_at}
+use Rattle.hs_fact_rows.specs.Cells.{IsIn, cell_of, index_of, with_at, saved_at}
 use Rattle.hs_fact_rows.specs.Cuts as numeric
 use Rattle.hs_fact_rows.specs.Cuts.{Task, Cuts, uncut, cut, IsFull, IsSolved, IsTask, AgreesFrom, GivesFrom, facts_at, ops}
 use Rattle.hs_fact_rows.specs.Given.{with_of, saved_of}
-use Rattle.hs_fact_rows.specs.Laws.Exact.{gives_after, after_gives, impact_by}
+use Rattle.hs_fact_rows.specs.Laws.Exact.{IsTracked, gives_after, after_gives, impact_by}
 use Rattle.hs_fact_rows.specs.Laws.Numbers.{less_numbers, some_one, true_not_false, index_least, both, both_true, less_number}
 use Rattle.hs_fact_rows.specs.Steps.{OpFits, step_of}
 use Rattle.hs_fact_rows.specs.declared.step.Step.{Step}
 use Rattle.hs_facts.specs.Changes.{Gives}
-use Rattle.hs_facts.specs.Laws.Bytes.{IsOfByte}
 use Rattle.hs_facts.specs.Laws.Rows.{Bounds, IsCut, Agrees, Bounds-cut, rows-Holds, Holds-rows}
 use Rattle.hs_facts.specs.MustFacts.{MustFact, on_stack, in_slot, With, Saved, Kept, Locked, Live, Distinct, New, Exists}
 use Rattle.hs_facts.specs.Names.{is_name}
@@ -26,11 +25,11 @@ use Rattle.hs_rows.specs.Sets.{Sets}
 use Rattle.hs_tree.specs.declared.head.Variable.{Variable}
 use Rattle.hs_tree.specs.declared.head.Variable.TheVariants as name
 
--- the task is that of the code in its scope: its names are the handle names, its steps those of the operations, and its plan has all places
+-- the task is that of the code in its scope: its names are handle names, its steps those of the operations, and its plan has all places
 pub record IsOf (scope : Scope) (task : Task) : Type 0 where
   pub whole : IsTask task
   pub distinct : (i : ℕ) (x : Variable) → slice_get task.names i ≡ Some x → index_of task.names x ≡ i
-  pub are_names : (v : Variable) → is_name scope task.code v ≡ nat_lt (index_of task.names v) (length task.names)
+  pub are_names : (v : Variable) → index_of task.names v < length task.names → is_name scope task.code v ≡ true
   pub steps : (at : ℕ) (its : Placed) → slice_get task.code.ops at ≡ Some its
       → slice_get task.steps at ≡ Some (step_of scope task.code task.names task.slots its.op its.places)
   pub places : (at : ℕ) (its : Placed) → slice_get task.code.ops at ≡ Some its → its.places ≤ task.plan.places
@@ -38,23 +37,21 @@ pub record IsOf (scope : Scope) (task : Task) : Type 0 where
 
 module _ (scope : Scope) (task : Task) (of : IsOf scope task) where
   -- a fact of the code is one of the plan
-  cell_in : (places : ℕ) (fact : MustFact) → places ≤ task.plan.places → IsOfByte fact → Exists scope task.code places fact
+  cell_in : (places : ℕ) (fact : MustFact) → places ≤ task.plan.places → IsTracked task.names fact → Exists scope task.code places fact
       → IsIn task.plan (cell_of task.names task.slots fact)
   cell_in places (With p x) low is e =
       let under = e.under in (
         omega (arith, low, under),
-        subst (λ n. index_of task.names x < n) of.whole.names (less_numbers (index_of task.names x) (length task.names)
-            (sym (of.are_names x) ∙ e.named)),
+        subst (λ n. index_of task.names x < n) of.whole.names is,
       )
   cell_in places (Saved (on_stack p) x) low is e =
       let under = e.under in (
         omega (arith, low, under),
-        subst (λ n. index_of task.names x < n) of.whole.names (less_numbers (index_of task.names x) (length task.names)
-            (sym (of.are_names x) ∙ e.named.1)),
+        subst (λ n. index_of task.names x < n) of.whole.names is,
       )
   cell_in places (Saved (in_slot b) x) low is e = (
     subst (λ n. index_of task.slots b ≤ n) of.whole.slots (index_least task.slots b),
-    subst (λ n. index_of task.names x < n) of.whole.names (less_numbers (index_of task.names x) (length task.names) (sym (of.are_names x) ∙ e.named.1)),
+    subst (λ n. index_of task.names x < n) of.whole.names is,
   )
   cell_in places (Kept b x) low is e = absurd is
   cell_in places (Locked x) low is e = absurd is
@@ -62,7 +59,7 @@ module _ (scope : Scope) (task : Task) (of : IsOf scope task) where
   cell_in places (Distinct x y) low is e = absurd is
   cell_in places (New p) low is e = absurd is
 
-  in_at : (at : ℕ) (fact : MustFact) → IsOfByte fact → ExistsAt scope task.code at fact → IsIn task.plan (cell_of task.names task.slots fact)
+  in_at : (at : ℕ) (fact : MustFact) → IsTracked task.names fact → ExistsAt scope task.code at fact → IsIn task.plan (cell_of task.names task.slots fact)
   in_at at fact is e = cell_in e.0.places fact (of.places at e.0 e.1) is e.2
 
   within : (at : ℕ) (fact : MustFact) → ExistsAt scope task.code at fact → at < ops task
@@ -72,13 +69,13 @@ module _ (scope : Scope) (task : Task) (of : IsOf scope task) where
 
   -- what may hold, and is in the row if it is With or Saved
   abbrev Rows : Sets → ℕ → MustFact → Type 0
-  Rows sets at fact = ExistsAt scope task.code at fact × (at ≢ 0) × (IsOfByte fact → facts_at task sets at (cell_of task.names task.slots fact) ≡ true)
+  Rows sets at fact = ExistsAt scope task.code at fact × (at ≢ 0) × (IsTracked task.names fact → facts_at task sets at (cell_of task.names task.slots fact) ≡ true)
 
   -- none before the first operation
   abbrev NoneFirst : Sets → Type 0
-  NoneFirst sets = (fact : MustFact) → IsOfByte fact → ExistsAt scope task.code 0 fact → facts_at task sets 0 (cell_of task.names task.slots fact) ≡ true → ⊥
+  NoneFirst sets = (fact : MustFact) → IsTracked task.names fact → ExistsAt scope task.code 0 fact → facts_at task sets 0 (cell_of task.names task.slots fact) ≡ true → ⊥
 
-  into : (sets : Sets) → NoneFirst sets → (from : ℕ) (its : Placed) → slice_get task.code.ops from ≡ Some its → (fact : MustFact) → IsOfByte fact
+  into : (sets : Sets) → NoneFirst sets → (from : ℕ) (its : Placed) → slice_get task.code.ops from ≡ Some its → (fact : MustFact) → IsTracked task.names fact
       → Exists scope task.code its.places fact → facts_at task sets from (cell_of task.names task.slots fact) ≡ true → Rows sets from fact
   into sets none from its there fact is e h = ((its, there, e), not_first, λ _. h)
     where
@@ -86,7 +83,7 @@ module _ (scope : Scope) (task : Task) (of : IsOf scope task) where
       not_first k = none fact is (its, subst (λ n. slice_get task.code.ops n ≡ Some its) k there, e)
           (subst (λ n. facts_at task sets n (cell_of task.names task.slots fact) ≡ true) k h)
 
-  out : (sets : Sets) (from : ℕ) (its : Placed) → slice_get task.code.ops from ≡ Some its → (fact : MustFact) → IsOfByte fact → Rows sets from fact
+  out : (sets : Sets) (from : ℕ) (its : Placed) → slice_get task.code.ops from ≡ Some its → (fact : MustFact) → IsTracked task.names fact → Rows sets from fact
       → Exists scope task.code its.places fact × (facts_at task sets from (cell_of task.names task.slots fact) ≡ true)
   out sets from its there fact is r =
       (subst (λ (p : Placed). Exists scope task.code p.places fact) (some_one r.0.0 its (sym r.0.1 ∙ there)) r.0.2, r.2 is)
@@ -116,7 +113,7 @@ module _ (scope : Scope) (task : Task) (of : IsOf scope task) where
   }
     where
       given_from : (at : ℕ) (fact : MustFact) → ((from : ℕ) (its : Placed) → slice_get task.code.ops from ≡ Some its → IsNext its.op task.code.cases from at
-          → Gives scope task.code (impact_by task.assigned) (Rows old from) its.op its.places fact) → IsOfByte fact → (from : ℕ)
+          → Gives scope task.code (impact_by task.assigned) (Rows old from) its.op its.places fact) → IsTracked task.names fact → (from : ℕ)
           → ((its : Placed) × (slice_get task.code.ops from ≡ Some its) × IsNext its.op task.code.cases from at) → (stp : Step)
           → slice_get task.steps from ≡ Some stp
           → numeric.after task stp (facts_at task old from) (cell_of task.names task.slots fact) ≡ true
@@ -124,7 +121,7 @@ module _ (scope : Scope) (task : Task) (of : IsOf scope task) where
           subst (λ (s : Step). numeric.after task s (facts_at task old from) (cell_of task.names task.slots fact) ≡ true)
           (some_one (step_of scope task.code task.names task.slots f.0.op f.0.places) stp (sym (of.steps from f.0 f.1) ∙ there))
           (after_gives scope task.code task.names task.slots task.assigned (Rows old from) (facts_at task old from) f.0.places
-          (into old none from f.0 f.1) (out old from f.0 f.1) of.are_names f.0.op fact (of.op_fits from f.0 f.1) is (gives from f.0 f.1 f.2))
+          (into old none from f.0 f.1) (out old from f.0 f.1) f.0.op fact (of.op_fits from f.0 f.1) is (gives from f.0 f.1 f.2))
 
   none_back : (old new : Sets) → NoneFirst old → numeric.IsCut task old new → NoneFirst new
   none_back old new none c fact is e h =
@@ -163,13 +160,13 @@ module _ (scope : Scope) (task : Task) (of : IsOf scope task) where
     stand : Stand sets
     stand = stand_cuts solved.full sets solved.is_full solved.cuts
 
-    pub Holds-solved : (at : ℕ) (fact : MustFact) → IsOfByte fact → Holds scope task.code (impact_by task.assigned) at fact
+    pub Holds-solved : (at : ℕ) (fact : MustFact) → IsTracked task.names fact → Holds scope task.code (impact_by task.assigned) at fact
         → facts_at task sets at (cell_of task.names task.slots fact) ≡ true
     Holds-solved at fact is h = (Holds-rows scope task.code (impact_by task.assigned) (Rows sets) stand.bounds at fact h).2 is
 
     -- the rows of With and Saved alone
     abbrev ByteRows : ℕ → MustFact → Type 0
-    ByteRows at fact = IsOfByte fact × Rows sets at fact
+    ByteRows at fact = IsTracked task.names fact × Rows sets at fact
 
     agrees : Agrees scope task.code (impact_by task.assigned) ByteRows
     agrees from at its fact there next r =
@@ -177,12 +174,12 @@ module _ (scope : Scope) (task : Task) (of : IsOf scope task) where
         let e = r.1.0 in
         gives_after scope task.code task.names task.slots task.assigned (ByteRows from) (facts_at task sets from) its.places
         (λ it of_byte exists h. (of_byte, into sets stand.none from its there it of_byte exists h)) (λ it of_byte k. out sets from its there it
-        of_byte k.1) of.are_names
+        of_byte k.1)
         its.op fact (of.op_fits from its there) is e.2.named
         (solved.agrees from (slice_get_within task.code.ops from its there) at (cell_of task.names task.slots fact) (within at fact e) (in_at at fact is e)
         (next_follows from at its there next) (r.1.2 is) (step_of scope task.code task.names task.slots its.op its.places) (of.steps from its there))
 
-    pub solved-Holds : (at : ℕ) (fact : MustFact) → IsOfByte fact → ExistsAt scope task.code at fact
+    pub solved-Holds : (at : ℕ) (fact : MustFact) → IsTracked task.names fact → ExistsAt scope task.code at fact
         → facts_at task sets at (cell_of task.names task.slots fact) ≡ true
         → Holds scope task.code (impact_by task.assigned) at fact
     solved-Holds at fact is e h =
@@ -204,34 +201,35 @@ module _ (scope : Scope) (task : Task) (of : IsOf scope task) where
         → with_of (facts_at task sets at) its.places place i ≡ true → saved_of (facts_at task sets at) its.places byte i ≡ true → IsShared at place byte
     shared_Holds at place byte i its there within_names h k =
         let x = get_or task.names i (name.Global 0) in
-        let named = slice_get-get_or task.names i (name.Global 0) (subst (λ n. i < n) (sym of.whole.names) within_names) in
+        let below : i < length task.names = subst (λ n. i < n) (sym of.whole.names) within_names in
+        let named = slice_get-get_or task.names i (name.Global 0) below in
         let number = of.distinct i x named in
-        let is_name_x : is_name scope task.code x ≡ true = of.are_names x
-        ∙ less_number (index_of task.names x) (length task.names) (subst (λ n. n < length task.names) (sym number) (subst (λ n. i < n) (sym
-        of.whole.names) within_names)) in
+        let listed : index_of task.names x < length task.names = subst (λ n. n < length task.names) (sym number) below in
+        let is_name_x : is_name scope task.code x ≡ true = of.are_names x listed in
         let w = both (nat_lt place its.places) (facts_at task sets at (with_at place i)) h in
         let s = both (nat_lt byte its.places) (facts_at task sets at (saved_at byte i)) k in (
           x,
-          solved-Holds at (With place x) tt (its, there, record { under = less_numbers place its.places w.0; named = is_name_x })
+          solved-Holds at (With place x) listed (its, there, record { under = less_numbers place its.places w.0; named = is_name_x })
               (subst (λ n. facts_at task sets at (with_at place n) ≡ true) (sym number) w.1),
-          solved-Holds at (Saved (on_stack byte) x) tt (its, there, record { under = less_numbers byte its.places s.0; named = (tt, is_name_x) })
+          solved-Holds at (Saved (on_stack byte) x) listed (its, there, record { under = less_numbers byte its.places s.0; named = (tt, is_name_x) })
               (subst (λ n. facts_at task sets at (saved_at byte n) ≡ true) (sym number) s.1),
         )
 
-    pub Holds-shared : (at place byte : ℕ) (its : Placed) → slice_get task.code.ops at ≡ Some its → IsShared at place byte
+    -- if the name is listed
+    pub Holds-shared : (at place byte : ℕ) (its : Placed) → slice_get task.code.ops at ≡ Some its → (h : IsShared at place byte)
+        → index_of task.names h.0 < length task.names
         → (i : ℕ) × (i < task.plan.names) × (with_of (facts_at task sets at) its.places place i ≡ true) × (saved_of (facts_at task sets at)
         its.places byte i ≡ true)
-    Holds-shared at place byte its there h =
+    Holds-shared at place byte its there h listed =
         let x = h.0 in
         let e = (h.1 0).0 in
         let f = (h.2 0).0 in
         let exists_with = subst (λ (p : Placed). Exists scope task.code p.places (With place x)) (some_one e.0 its (sym e.1 ∙ there)) e.2 in
         let exists_saved = subst (λ (p : Placed). Exists scope task.code p.places (Saved (on_stack byte) x)) (some_one f.0 its (sym f.1 ∙ there)) f.2 in (
           index_of task.names x,
-          subst (λ n. index_of task.names x < n) of.whole.names (less_numbers (index_of task.names x) (length task.names) (sym (of.are_names x) ∙
-              exists_with.named)),
+          subst (λ n. index_of task.names x < n) of.whole.names listed,
           both_true (nat_lt place its.places) (facts_at task sets at (with_at place (index_of task.names x))) (less_number place its.places exists_with.under)
-              (Holds-solved at (With place x) tt h.1),
+              (Holds-solved at (With place x) listed h.1),
           both_true (nat_lt byte its.places) (facts_at task sets at (saved_at byte (index_of task.names x))) (less_number byte its.places exists_saved.under)
-              (Holds-solved at (Saved (on_stack byte) x) tt h.2),
+              (Holds-solved at (Saved (on_stack byte) x) listed h.2),
         )
