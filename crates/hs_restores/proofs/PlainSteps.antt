@@ -9,11 +9,11 @@ use Rattle.hs_restores.specs.Stepping.{step_by}
 use Rattle.hs_tree.specs.declared.head.Variable.{Variable}
 use Rattle.hs_types.specs.declared.integer.Integer.{Integer}
 
-module _ (scope : Scope) (names slots : List Variable) (depth : ℕ) where
+module _ (scope : Scope) (names part slots : List Variable) (depth : ℕ) where
   pub plain_step : (its : Op) → ((v : Variable) → its ≡ op.Get v → ⊥) → ((v : Variable) → its ≡ op.Set v → ⊥) → (its ≡ op.Dup → ⊥)
       → (its ≡ op.Tuck → ⊥) → ((kind : Integer) → its ≡ op.Conv kind → ⊥) → ((place : ℕ) → its ≡ op.Routine place → ⊥)
       → ((f : ℕ) → its ≡ op.Call f → ⊥) → ((place : ℕ) → its ≡ op.Bring place → ⊥)
-      → step_by scope names slots its depth ≡ step.Pop (depth - taken scope its)
+      → step_by scope names part slots its depth ≡ step.Pop (depth - taken scope its)
   plain_step (op.Num bits) a b c d e f g h = refl
   plain_step op.Nil a b c d e f g h = refl
   plain_step (op.Address its) a b c d e f g h = refl

@@ -1,6 +1,6 @@
 -- The steps of a function, from its lists (own).
---     step_by scope names slots op depth    the step of an operation, if the names are those of the list
---     steps_by scope names slots ops        the steps of operations
+--     step_by scope names part slots op depth    the step of an operation, if the names are those of the list, and a part of them is numbered
+--     steps_by scope names part slots ops        the steps of operations
 --     greatest least ops                    the most values that an operation notes, or the other number if that is greater
 use Rattle.std.specs.Prelude.{ℕ, ◌-◌, max, List, [], ◌∷◌}
 use Rattle.hs_code.specs.Stacks.{Scope}
@@ -15,10 +15,10 @@ use Rattle.hs_facts.specs.Names.{taken, role_at}
 use Rattle.hs_restores.specs.Laws.Numbering.{is_in}
 use Rattle.hs_tree.specs.declared.head.Variable.{Variable}
 
-module _ (scope : Scope) (names slots : List Variable) where
+module _ (scope : Scope) (names part slots : List Variable) where
   abbrev pub step_by : Op → ℕ → Step
-  step_by (op.Get v) depth = step.Get depth (index_of slots v) (index_of names v)
-  step_by (op.Set v) depth = set_step (is_in names v) depth (index_of names v) (index_of slots v)
+  step_by (op.Get v) depth = step.Get depth (index_of slots v) (index_of part v)
+  step_by (op.Set v) depth = set_step (is_in names v) depth (index_of part v) (index_of slots v)
   step_by op.Dup depth = step.Dup depth
   step_by op.Tuck depth = step.Tuck depth
   step_by (op.Conv kind) depth = step.Conv depth

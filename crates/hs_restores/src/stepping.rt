@@ -1,10 +1,11 @@
 //! The steps of a function.
 
-ghost use Rattle.std.specs.Prelude.{◌≡◌, ◌-◌, IfOk};
+ghost use Rattle.std.specs.Prelude.{◌≡◌, ◌≤◌, ◌+◌, ◌-◌, IfOk, length};
 ghost use Rattle.hs_code.specs.Codes.{scope_of, view_program};
 ghost use Rattle.hs_fact_rows.specs.Cells.{index_of};
 ghost use Rattle.hs_fact_rows.specs.Steps.{bring_step, routine_step, set_step};
-ghost use Rattle.hs_restores.specs.Laws.Numbering.{is_in};
+ghost use Rattle.hs_restores.specs.Laws.Numbering.{IsDistinct, is_in};
+ghost use Rattle.hs_restores.specs.Laws.Windows.{part_of};
 ghost use Rattle.hs_restores.specs.Stepping.{greatest, step_by, steps_by};
 ghost use Rattle.hs_tree.specs.Trees.{TypedFunction};
 
@@ -17,36 +18,71 @@ use hs_table::Role;
 use hs_tree::{Program, Variable};
 use std::alloc::Global;
 
-/// The steps of the operations of a function, by the numbers of its handle names and slots.
+/// A part of the handle names of a function: the facts of so many are computed together.
+#[derive(Clone, Copy)]
+pub(crate) struct Window<'a> {
+    pub names: &'a Numbers,
+    /// The number of the first one among the names.
+    pub from: usize,
+    pub count: usize,
+}
+
+/// Whether the variable is one of the list.
+fn is_in(numbers: &Numbers, variable: Variable) -> bool
+    ensures { result ≡ is_in numbers.now variable }
+{
+    numbers.find(variable) < numbers.items().len()
+}
+
+/// The number of a variable in the window, or the length of the window if it is not there.
+fn number_in(window: Window, variable: Variable) -> usize
+    requires fits { window.from + window.count ≤ length window.names.now }
+    requires distinct { IsDistinct window.names.now }
+    ensures { result ≡ index_of (part_of window.entry.from window.entry.count window.entry.names.now) variable }
+{
+    let number = window.names.find(variable);
+    if number >= window.from && number - window.from < window.count {
+        number - window.from
+    } else {
+        window.count
+    }
+}
+
+/// The steps of the operations of a function, by the numbers of the names in a window and of its slots.
 pub(crate) fn steps_by(
     alloc: Global,
     program: &Program,
-    names: &Numbers,
+    window: Window,
     slots: &Numbers,
     ops: &[Placed],
 ) -> Result<Vec<Step>, NoMemory>
-    ensures { IfOk result (λ its. (function : TypedFunction)
-        → its.items ≡ steps_by (scope_of (view_program program.now) function) names.now slots.now ops.now) }
+    requires fits { window.from + window.count ≤ length window.names.now }
+    requires distinct { IsDistinct window.names.now }
+    ensures { IfOk result (λ its. (function : TypedFunction) → its.items
+        ≡ steps_by (scope_of (view_program program.now) function) window.entry.names.now (part_of window.entry.from window.entry.count window.entry.names.now) slots.now ops.now) }
 {
     let mut steps = Vec::new(alloc);
     'ops: for its in ops {
-        steps.push(step_by(program, names, slots, its.op, its.places as usize))?;
+        steps.push(step_by(program, window, slots, its.op, its.places as usize))?;
     }
     Ok(steps)
 }
 
 /// The step of an operation with so many values on the stack before it.
-fn step_by(program: &Program, names: &Numbers, slots: &Numbers, op: Op, depth: usize) -> Step
-    ensures { (function : TypedFunction) → result ≡ step_by (scope_of (view_program program.now) function) names.now slots.now op depth }
+fn step_by(program: &Program, window: Window, slots: &Numbers, op: Op, depth: usize) -> Step
+    requires fits { window.from + window.count ≤ length window.names.now }
+    requires distinct { IsDistinct window.names.now }
+    ensures { (function : TypedFunction) → result
+        ≡ step_by (scope_of (view_program program.now) function) window.entry.names.now (part_of window.entry.from window.entry.count window.entry.names.now) slots.now op depth }
 {
     let base = depth.saturating_sub(taken(program, op));
     match op {
         Op::Get(variable) => Step::Get {
             to: depth,
             slot: slots.find(variable),
-            name: names.find(variable),
+            name: number_in(window, variable),
         },
-        Op::Set(variable) => set_step(names, slots, variable, depth),
+        Op::Set(variable) => set_step(window, slots, variable, depth),
         Op::Dup => Step::Dup { depth },
         Op::Tuck => Step::Tuck { depth },
         Op::Conv(_) => Step::Conv { depth },
@@ -58,12 +94,15 @@ fn step_by(program: &Program, names: &Numbers, slots: &Numbers, op: Op, depth: u
 }
 
 /// The step of giving the top to a variable.
-fn set_step(names: &Numbers, slots: &Numbers, variable: Variable, depth: usize) -> Step
-    ensures { result ≡ set_step (is_in names.now variable) depth (index_of names.now variable) (index_of slots.now variable) }
+fn set_step(window: Window, slots: &Numbers, variable: Variable, depth: usize) -> Step
+    requires fits { window.from + window.count ≤ length window.names.now }
+    requires distinct { IsDistinct window.names.now }
+    ensures { result ≡ set_step (is_in window.entry.names.now variable) depth
+        (index_of (part_of window.entry.from window.entry.count window.entry.names.now) variable) (index_of slots.now variable) }
 {
-    let name = names.find(variable);
+    let name = number_in(window, variable);
     let slot = slots.find(variable);
-    if name < names.items().len() {
+    if is_in(window.names, variable) {
         Step::SetName { depth, name, slot }
     } else {
         Step::SetSlot { depth, slot }
