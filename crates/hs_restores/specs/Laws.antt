@@ -1,3 +1,4 @@
+pub mod Jobs
 pub mod Naming
 pub mod Numbering
 pub mod Slots
