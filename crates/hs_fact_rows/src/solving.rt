@@ -210,7 +210,8 @@ pub fn solve<C: Callees>(alloc: Global, job: Job, callees: &C) -> Result<Rows, N
     requires names_fit { job.plan.names ≤ 64 }
     requires fields_fit { with_field job.plan job.plan.places < 2 ^ 64 }
     requires numbers_fit { total job.plan < 2 ^ 64 }
-    ensures { IfOk result (IsSolved (the_task job.entry.plan job.entry.lists.names.now job.entry.lists.slots.now job.entry.steps.now job.entry.code.now
+    ensures fit { IfOk result (λ its. (at : ℕ) → at ≤ length job.entry.code.now.ops → IsFit job.entry.plan its at) }
+    ensures solved { IfOk result (IsSolved (the_task job.entry.plan job.entry.lists.names.now job.entry.lists.slots.now job.entry.steps.now job.entry.code.now
         (C.assigned callees.now))) }
 {
     let ops = ops_of(job.code);

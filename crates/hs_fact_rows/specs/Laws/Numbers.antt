@@ -116,18 +116,7 @@ pub index_one : (list : List Variable) (x v : Variable) → index_of list v < le
 index_one list x v h e =
     some_one x v (sym (index_found list x (subst (λ n. n < length list) (sym e) h)) ∙ ap (slice_get list) e ∙ index_found list v h)
 
--- the numbers are one exactly if the variables are
-pub index_test : (list : List Variable) (x v : Variable) → index_of list v < length list → (index_of list x == index_of list v) ≡ same_variable x v
-index_test list x v h = by_test (same_variable x v) refl
-  where
-    by_test : (t : Bool) → same_variable x v ≡ t → (index_of list x == index_of list v) ≡ same_variable x v
-    by_test true e = same_number (index_of list x) (index_of list v) (ap (index_of list) (same_variables x v e)) ∙ sym e
-    by_test false e =
-        same_numbers_not (index_of list x) (index_of list v) (λ same. true_not_false (sym (same_itself v) ∙ ap (λ y. same_variable y v) (sym
-        (index_one list x v h same)) ∙ e))
-        ∙ sym e
-
--- and if the other one is there
+-- if a variable is in the list, the numbers are one exactly if the variables are
 pub index_turned : (list : List Variable) (x v : Variable) → index_of list x < length list → (index_of list x == index_of list v) ≡ same_variable x v
 index_turned list x v h = by_test (same_variable x v) refl
   where

@@ -17,8 +17,8 @@ passes-init g c =
     }
 
 -- a pass that changed nothing is the last
-pub returns-then-not-pass : goal.returns-then-not-pass
-returns-then-not-pass g c =
+pub returns-then-not-pass-clause-solved : goal.returns-then-not-pass-clause-solved
+returns-then-not-pass-clause-solved g c =
     solved (the_task c.args.job.plan c.args.job.lists.names.now c.args.job.lists.slots.now c.args.job.steps.now c.args.job.code.now
     (g.C.Callees.assigned c.args.callees.now)) c.requires.task c.in_ok-rows.rows c.passes.rows c.pass.new.rows c.as_mut_slice.result.now
     c.pass.new.flags
@@ -26,6 +26,23 @@ returns-then-not-pass g c =
     (g.C.Callees.assigned c.args.callees.now)) c.requires.task c.in_ok-rows.rows (rw c.ops_of-ops.ensures.is at c.in_ok-rows.ensures.all) (rw
     c.ops_of-ops.ensures.is at c.in_ok-rows.ensures.none))
     c.passes.invariant.cuts c.if-not-pass.ensures
+
+-- the rows have the size that they had at first
+pub returns-then-not-pass-clause-fit : goal.returns-then-not-pass-clause-fit
+returns-then-not-pass-clause-fit g c at low =
+    let all = c.passes.invariant.size in
+    let last = c.if-not-pass.ensures.size in
+    let ops = c.ops_of-ops.ensures.is in
+    let count = c.in_ok-rows.ensures.count in
+    let more = all.count in
+    let most = last.count in
+    record {
+      names = c.requires.names_fit;
+      fields = c.requires.fields_fit;
+      numbers = c.requires.numbers_fit;
+      room = rw (last.per, all.per) c.in_ok-rows.ensures.room;
+      there = omega (arith, low, ops, count, more, most);
+    }
 
 pub passes-preserved : goal.passes-preserved
 passes-preserved g c =
