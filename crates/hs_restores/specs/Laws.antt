@@ -1,3 +1,4 @@
+pub mod Assigning
 pub mod Jobs
 pub mod Naming
 pub mod Numbering
