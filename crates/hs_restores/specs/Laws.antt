@@ -2,5 +2,6 @@ pub mod Assigning
 pub mod Jobs
 pub mod Naming
 pub mod Numbering
+pub mod Restoring
 pub mod Slots
 pub mod Windows
