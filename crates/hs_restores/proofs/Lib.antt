@@ -1,2 +1,3 @@
 mod Mentioned
 mod PlainSteps
+mod Shown

@@ -1,8 +1,10 @@
 //! The restores of a program. `specs/Marks.antt` says which variables are numbered.
 #![tactic(auto)]
 
+mod assigning;
 mod marks;
 mod names;
+mod noting;
 mod numbers;
 mod plan;
 mod slots;

@@ -159,8 +159,7 @@ module _ (whole : WholeCode) (f : ℕ) (function : TypedFunction) (code : Functi
       let len = part_length (names_of (scope_of whole.program function) code) from count its.fits in
       let shared = Holds-shared (scope_of whole.program function) (task_of (scope_of whole.program function) code plan from count slots assigned)
       (task_is (scope_of whole.program function) code plan from count slots assigned its) sets solved at
-      (first_argument (scope_of whole.program function) it) (suc (first_argument (scope_of whole.program function) it)) it there
-      (
+      (first_argument (scope_of whole.program function) it) (suc (first_argument (scope_of whole.program function) it)) it there (
         r.handle,
         from_only at (With (first_argument (scope_of whole.program function) it) r.handle) tt held,
         from_only at (Saved (on_stack (suc (first_argument (scope_of whole.program function) it))) r.handle) tt read,
