@@ -1,6 +1,7 @@
 -- Restores as they are noted, one operation after the other.
-use Rattle.std.proofs.Common.{◌≡◌, ◌≢◌, ◌<◌, ◌≤◌, ◌⊎◌, inl, inr, ℕ, zero, suc, ◌+◌, Bool, true, false, ap, sym, subst, ◌∙◌, refl, arith, List, [], ◌∷◌, length, set, slice_get, get_or, Some}
+use Rattle.std.proofs.Common.{◌≡◌, ◌≢◌, ◌<◌, ◌≤◌, ◌⊎◌, inl, inr, ℕ, zero, suc, ◌+◌, Bool, true, false, ap, sym, subst, ◌∙◌, refl, arith, List, [], ◌∷◌, ◌++◌, length, take, drop, set, slice_get, get_or, Some}
 use Rattle.std.proofs.Math.ListN.{length-set}
+use Rattle.std.proofs.Math.Seq.{take-append_seam}
 use Rattle.std.proofs.lemmas.Bool.{cases_eq}
 use Rattle.std.proofs.lemmas.Option.{slice_get-get_or}
 use Rattle.std.specs.Bool.{Decides}
@@ -100,3 +101,7 @@ module _ (scope : Scope) (plan : Plan) (sets : Sets) (ops : List Placed) (old : 
     pub shown_more : (is : Bool) → Decides is (Shows scope plan sets at it) → AddsShown scope plan sets ops (at + 1) old (note is at mid)
     shown_more true d = shown_yes (d.0 refl)
     shown_more false d = shown_no (λ shows. false_not_true (d.1 shows))
+
+-- what is written over a whole list
+pub written : {X : Type 0} (before after : List X) (long : ℕ) → long ≡ length after → take long (after ++ drop (length after) before) ≡ after
+written before after long is = rw is (take-append_seam after (drop (length after) before))

@@ -2,6 +2,7 @@
 #![tactic(auto)]
 
 mod assigning;
+mod finding;
 mod marks;
 mod names;
 mod noting;
@@ -10,7 +11,9 @@ mod plan;
 mod slots;
 mod stepping;
 mod taken;
+mod whole;
 
 pub use names::names_of;
 pub use numbers::Numbers;
 pub use slots::slots_of;
+pub use whole::effects;

@@ -27,6 +27,16 @@ pub(crate) struct Window<'a> {
     pub count: usize,
 }
 
+/// The names of a window.
+pub(crate) fn part<'a>(window: Window<'a>) -> &'a [Variable]
+    requires fits { window.from + window.count ≤ length window.names.now }
+    ensures { result.now ≡ part_of window.entry.from window.entry.count window.entry.names.now }
+{
+    let (_before, rest) = window.names.items().split_at(window.from);
+    let (part, _after) = rest.split_at(window.count);
+    part
+}
+
 /// Whether the variable is one of the list.
 fn is_in(numbers: &Numbers, variable: Variable) -> bool
     ensures { result ≡ is_in numbers.now variable }
