@@ -46,10 +46,11 @@ windows-preserved c =
     let most = c.window_len-count.ensures.fits in
     let below = c.windows-test.true in
     let so_far = c.windows.invariant.within in
+    let len = ap length c.items-len.ensures in
     let old = c.windows.invariant.noted.long in
     let new = c.in_ok-note_window.ensures.long in
     record {
-      within = omega (arith, most, below, so_far);
+      within = omega (arith, most, below, so_far, len);
       noted =
           subst (Noted (whole_of c.args.code.now) c.args.number c.in_ok-names.names (c.windows.from + c.window_len-count.result))
           (sym (written c.windows.restores.items c.note_window.new.restores c.windows.restores.len (omega (arith, old, new))))
