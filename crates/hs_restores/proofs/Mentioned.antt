@@ -92,6 +92,7 @@ touched_mentions : (ops : List Placed) (g : ℕ) → one_names touched_by ops g 
 touched_mentions [] g = refl
 touched_mentions (its ∷ ops) g = ap (λ it. it || one_names touched_by ops g) (sym (touches_hits g its.op)) ∙ ap (λ it. touches g its.op || it) (touched_mentions ops g)
 
+-- and so for the globals that are mentioned
 pub marks_mentioned : (count : ℕ) (ops : List Placed) (g : ℕ) → g < count
     → get_or (fold (with_op touched_by) (replicate count false) ops) g false ≡ mentions ops g
 marks_mentioned count ops g below = marks_named touched_by count ops g below ∙ touched_mentions ops g

@@ -10,6 +10,7 @@ use Rattle.hs_tree.specs.declared.head.Variable.{Variable}
 use Rattle.hs_types.specs.declared.integer.Integer.{Integer}
 
 module _ (scope : Scope) (names part slots : List Variable) (depth : ℕ) where
+  -- any operation but those that move or name values
   pub plain_step : (its : Op) → ((v : Variable) → its ≡ op.Get v → ⊥) → ((v : Variable) → its ≡ op.Set v → ⊥) → (its ≡ op.Dup → ⊥)
       → (its ≡ op.Tuck → ⊥) → ((kind : Integer) → its ≡ op.Conv kind → ⊥) → ((place : ℕ) → its ≡ op.Routine place → ⊥)
       → ((f : ℕ) → its ≡ op.Call f → ⊥) → ((place : ℕ) → its ≡ op.Bring place → ⊥)

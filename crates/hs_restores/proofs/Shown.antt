@@ -18,6 +18,7 @@ use Rattle.hs_rows.specs.Sets.{Sets}
 abbrev pub nothing : Placed
 nothing = record { op = op.Num 0; at = record { file = 0; line = 0; col = 0 }; piece = 0; places = 0 }
 
+-- the operation that is read
 pub op_read : (ops : List Placed) (at : ℕ) → at < length ops → slice_get ops at ≡ Some (get_or ops at nothing)
 op_read ops at below = slice_get-get_or ops at nothing below
 
@@ -34,14 +35,7 @@ set_other (it ∷ rest) (suc at) zero apart = refl
 set_other (it ∷ rest) (suc at) (suc k) apart = set_other rest at k (λ same. apart (ap (λ n. suc n) same))
 
 module _ (scope : Scope) (plan : Plan) (sets : Sets) (ops : List Placed) (old : List Bool) where
-  pub shown_none : AddsShown scope plan sets ops 0 old old
-  shown_none = record {
-    long = refl;
-    kept = λ at h. h;
-    comes = λ at its below there shows. absurd (omega (arith, below));
-    back = λ at h. inl h;
-  }
-
+  -- at the end of the operations
   pub shown_all : (done : ℕ) (new : List Bool) → length ops ≤ done → AddsShown scope plan sets ops done old new
       → AddsShown scope plan sets ops (length ops) old new
   shown_all done new all a = record {
@@ -98,6 +92,7 @@ module _ (scope : Scope) (plan : Plan) (sets : Sets) (ops : List Placed) (old : 
         comes k its low of s (inl e) = absurd (hidden (same_shows k its e of s))
         comes k its low of s (inr ne) = a.comes k its (omega (arith, low, ne)) of s
 
+    -- one operation more
     pub shown_more : (is : Bool) → Decides is (Shows scope plan sets at it) → AddsShown scope plan sets ops (at + 1) old (note is at mid)
     shown_more true d = shown_yes (d.0 refl)
     shown_more false d = shown_no (λ shows. false_not_true (d.1 shows))

@@ -29,6 +29,7 @@ abbrev pub is_set : Option Bool → Bool
 is_set None = false
 is_set (Some it) = it
 
+-- the variable of that place is marked
 abbrev pub is_marked : List Bool → ℕ → Bool
 is_marked marks place = is_set (slice_get marks place)
 
@@ -42,6 +43,7 @@ abbrev pub listed_from : Whose → ℕ → List Bool → List Variable
 listed_from its place [] = []
 listed_from its place (mark ∷ rest) = named_if mark (variable_of its place) (listed_from its (suc place) rest)
 
+-- the locals that are marked, and then the globals
 abbrev pub listed : List Bool → List Bool → List Variable
 listed locals globals = listed_from whose.Local 0 locals ++ listed_from whose.Global 0 globals
 
@@ -57,6 +59,7 @@ abbrev pub number_if : Bool → ℕ → Option ℕ
 number_if true number = Some number
 number_if false number = None
 
+-- a table: the number of each variable that is marked, from that number on
 abbrev pub numbered : ℕ → List Bool → List (Option ℕ)
 numbered first [] = []
 numbered first (mark ∷ rest) = number_if mark first ∷ numbered (next_number mark first) rest
@@ -74,11 +77,12 @@ number_of locals globals len (name.Global place) = number_or len (slice_get glob
 
 -- ---- handle names
 
+-- the locals that may have a handle
 abbrev pub handle_locals : TypeTable → List VariableDecl → List Bool
 handle_locals types [] = []
 handle_locals types (it ∷ rest) = is_handle types (Some it) ∷ handle_locals types rest
 
--- from that place on, if the operations mention them
+-- the globals from that place on that may have a handle, if the operations mention them
 abbrev pub handle_globals : TypeTable → List Placed → ℕ → List Global → List Bool
 handle_globals types ops place [] = []
 handle_globals types ops place (it ∷ rest) =
@@ -92,16 +96,18 @@ touched_by (op.Get (name.Global place)) = Some place
 touched_by (op.Set (name.Global place)) = Some place
 touched_by _ = None
 
+-- that place is marked, if it is there
 abbrev pub with_mark : List Bool → Option ℕ → List Bool
 with_mark marks None = marks
 with_mark marks (Some place) = set marks place true
 
--- one of the operations names that place
+-- it is that place
 abbrev pub hits : ℕ → Option ℕ → Bool
 hits place None = false
 hits place (Some it) = it == place
 
 module _ (place_by : Op → Option ℕ) where
+  -- one of the operations names that place
   abbrev pub one_names : List Placed → ℕ → Bool
   one_names [] place = false
   one_names (its ∷ rest) place = hits place (place_by its.op) || one_names rest place

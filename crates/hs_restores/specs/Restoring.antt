@@ -4,7 +4,7 @@
 --     Noted whole f names bound row  restores are noted: those whose handle is among so many of the names
 --     AddsShown ..                   those that the rows show are noted too
 --     IsReady ..                     what is known of a function and its lists
-use Rattle.std.specs.Prelude.{◌≡◌, ◌<◌, ◌⊎◌, ℕ, suc, set, nat_lt, Bool, true, false, ◌&&◌, List, length, slice_get, Option, Some, None}
+use Rattle.std.specs.Prelude.{◌≡◌, ◌<◌, ◌⊎◌, ℕ, suc, set, nat_lt, Bool, true, false, ◌&&◌, List, length, slice_get, Option, Some}
 use Rattle.hs_code.specs.Codes.{is_slot_in, scope_of}
 use Rattle.hs_code.specs.Stacks.{Scope, variable_in}
 use Rattle.hs_code.specs.declared.function_code.FunctionCode.{FunctionCode}
@@ -27,10 +27,12 @@ use Rattle.hs_tree.specs.declared.function.BoundRoutine.{BoundRoutine}
 use Rattle.hs_tree.specs.declared.head.Variable.{Variable}
 use Rattle.hs_tree.specs.declared.head.Variable.TheVariants as name
 
+-- the role of set_state
 abbrev pub is_set_state : Option Role → Bool
 is_set_state (Some role.SetState) = true
 is_set_state _ = false
 
+-- an operation that is a call of such a routine
 abbrev pub sets_state : List BoundRoutine → Op → Bool
 sets_state routines (op.Routine place) = is_set_state (role_in (slice_get routines place))
 sets_state routines _ = false
@@ -42,6 +44,7 @@ pub record IsSharedIn (scope : Scope) (plan : Plan) (sets : Sets) (at : ℕ) (it
   pub held : with_of (facts_in plan sets at) its.places (first_argument scope its) number ≡ true
   pub read : saved_of (facts_in plan sets at) its.places (suc (first_argument scope its)) number ≡ true
 
+-- it is a set_state, and the row has both facts
 abbrev pub Shows : Scope → Plan → Sets → ℕ → Placed → Type 0
 Shows scope plan sets at its = (sets_state scope.routines its.op ≡ true) × IsSharedIn scope plan sets at its
 

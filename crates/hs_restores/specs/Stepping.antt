@@ -16,6 +16,7 @@ use Rattle.hs_restores.specs.Laws.Numbering.{is_in}
 use Rattle.hs_tree.specs.declared.head.Variable.{Variable}
 
 module _ (scope : Scope) (names part slots : List Variable) where
+  -- the step of an operation, with so many values on the stack before it
   abbrev pub step_by : Op → ℕ → Step
   step_by (op.Get v) depth = step.Get depth (index_of slots v) (index_of part v)
   step_by (op.Set v) depth = set_step (is_in names v) depth (index_of part v) (index_of slots v)
@@ -27,10 +28,12 @@ module _ (scope : Scope) (names part slots : List Variable) where
   step_by (op.Call f) depth = step.Call (depth - taken scope (op.Call f)) f
   step_by its depth = step.Pop (depth - taken scope its)
 
+  -- the step of each operation
   abbrev pub steps_by : List Placed → List Step
   steps_by [] = []
   steps_by (its ∷ rest) = step_by its.op its.places ∷ steps_by rest
 
+-- how many places there are: the most values that an operation notes
 abbrev pub greatest : ℕ → List Placed → ℕ
 greatest least [] = least
 greatest least (its ∷ rest) = greatest (max least its.places) rest

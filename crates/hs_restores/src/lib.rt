@@ -1,4 +1,5 @@
-//! The restores of a program. `specs/Marks.antt` says which variables are numbered.
+//! The effects of the functions of a program, from its code alone: its restores are found first. `specs/Marks.antt` says which variables are numbered,
+//! `specs/Stepping.antt` which steps operations are, and `specs/Restoring.antt` what is noted.
 #![tactic(auto)]
 
 mod assigning;
@@ -13,7 +14,4 @@ mod stepping;
 mod taken;
 mod whole;
 
-pub use names::names_of;
-pub use numbers::Numbers;
-pub use slots::slots_of;
 pub use whole::effects;

@@ -16,11 +16,7 @@ use std::alloc::Global;
 /// operations get or set.
 ///
 /// Example: the locals 0 and 1 of `void f(Handle h, char **p, int n)`.
-///
-/// # Errors
-///
-/// `NoMemory` if memory runs out.
-pub fn names_of(
+pub(crate) fn names_of(
     alloc: Global,
     program: &Program,
     function: &Function,

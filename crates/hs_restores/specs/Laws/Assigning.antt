@@ -4,7 +4,7 @@
 --     assigns_exact          that is what it may assign
 --     op_gets, op_sets, op_calls       what operations get is a slot, and what they set or assign under calls is listed
 use mathlib.Core.Logic.{∥∥₁_elim}
-use Rattle.std.proofs.Common.{◌≡◌, ◌<◌, ◌≤◌, ◌⊎◌, inl, inr, ℕ, zero, suc, nat_lt, Bool, true, false, ◌&&◌, ◌||◌, ap, sym, subst, ◌∙◌, refl, arith, List, [], ◌∷◌, length, slice_get, Option, Some, None}
+use Rattle.std.proofs.Common.{◌≡◌, ◌<◌, ◌≤◌, ◌⊎◌, inl, inr, ℕ, zero, suc, nat_lt, Bool, true, ◌&&◌, ap, sym, subst, ◌∙◌, refl, arith, List, [], ◌∷◌, length, slice_get, Option, Some, None}
 use Rattle.std.proofs.Math.Bool.{Bool-set}
 use Rattle.std.proofs.lemmas.Option.{slice_get_within}
 use Rattle.std.specs.Bool.{Decides}
@@ -15,7 +15,7 @@ use Rattle.hs_code.specs.declared.function_code.Placed.{Placed}
 use Rattle.hs_code.specs.declared.op.Op.{Op}
 use Rattle.hs_code.specs.declared.op.Op.TheVariants as op
 use Rattle.hs_fact_rows.specs.Laws.Numbers.{both, both_true, either_left, either_right, less_number, less_numbers, same_number, some_one}
-use Rattle.hs_facts.specs.Effects.{WholeCode, Assigns, Calls, Does, Leads, itself, through, ops_in, placed_in}
+use Rattle.hs_facts.specs.Effects.{WholeCode, Assigns, Leads, itself, through, ops_in, placed_in}
 use Rattle.hs_facts.specs.Laws.Effects.{Does-called}
 use Rattle.hs_restores.specs.Laws.Numbering.{is_in}
 use Rattle.hs_restores.specs.Marks.{hits, is_changed, local_set_by, one_names}

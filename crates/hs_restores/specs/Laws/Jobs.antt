@@ -2,7 +2,7 @@
 --     task_of ..         the task: its names are a part of those of the function
 --     IsFor ..           what is known of the lists
 --     task_is ..         the task is that of the code
-use Rattle.std.proofs.Common.{◌≡◌, ◌<◌, ◌≤◌, ℕ, zero, suc, ◌+◌, ◌-◌, max, Bool, true, false, ap, sym, subst, ◌∙◌, refl, arith, List, [], ◌∷◌, length, slice_get, Option, Some, None}
+use Rattle.std.proofs.Common.{◌≡◌, ◌≤◌, ℕ, zero, suc, ◌+◌, ◌-◌, max, Bool, true, false, ap, sym, subst, ◌∙◌, refl, arith, List, [], ◌∷◌, length, slice_get, Option, Some, None}
 use Rattle.hs_code.specs.Codes.{is_slot_in}
 use Rattle.hs_code.specs.Stacks.{Scope, variable_in}
 use Rattle.hs_code.specs.declared.function_code.FunctionCode.{FunctionCode}
@@ -14,7 +14,7 @@ use Rattle.hs_fact_rows.specs.Cuts.{Task, IsTask}
 use Rattle.hs_fact_rows.specs.Given.{FitsStep}
 use Rattle.hs_fact_rows.specs.Laws.Numbers.{index_least, less_number, less_numbers, some_one}
 use Rattle.hs_fact_rows.specs.Laws.Solved.{IsOf}
-use Rattle.hs_fact_rows.specs.Steps.{OpFits, bring_step, routine_step, set_step, step_of}
+use Rattle.hs_fact_rows.specs.Steps.{OpFits, routine_step, set_step, step_of}
 use Rattle.hs_fact_rows.specs.declared.plan.Plan.{Plan}
 use Rattle.hs_fact_rows.specs.declared.step.Step.{Step}
 use Rattle.hs_facts.specs.Names.{is_name, names_of, role_at, taken}

@@ -16,7 +16,7 @@ use Rattle.hs_tree.specs.declared.head.Variable.TheVariants as name
 
 -- ---- variables that are not there
 
--- the variable is none of the list
+-- the variable is not in the list
 abbrev pub IsAbsent : List Variable → Variable → Type 0
 IsAbsent [] v = Unit {0}
 IsAbsent (x ∷ rest) v = (same_variable x v ≡ false) × IsAbsent rest v
@@ -39,7 +39,8 @@ abbrev IsOther : Whose → ℕ → Variable → Type 0
 IsOther its place v = (k : ℕ) → same_variable (variable_of its (place + k)) v ≡ false
 
 other_next : (its : Whose) (place : ℕ) (v : Variable) → IsOther its place v → IsOther its (suc place) v
-other_next its place v other k = subst (λ n. same_variable (variable_of its n) v ≡ false) (let e : place + suc k ≡ suc place + k = omega arith in e) (other (suc k))
+other_next its place v other k =
+    subst (λ n. same_variable (variable_of its n) v ≡ false) (let e : place + suc k ≡ suc place + k = omega arith in e) (other (suc k))
 
 other_here : (its : Whose) (place : ℕ) (v : Variable) → IsOther its place v → same_variable (variable_of its place) v ≡ false
 other_here its place v other = subst (λ n. same_variable (variable_of its n) v ≡ false) (let e : place + 0 ≡ place = omega arith in e) (other 0)
@@ -58,7 +59,7 @@ apart whose.Global a b ne = same_numbers_not a b ne
 other_later : (its : Whose) (place : ℕ) → IsOther its (suc place) (variable_of its place)
 other_later its place k = apart its (suc place + k) place (λ e. omega (arith, e))
 
--- one of the program is none of the function
+-- a variable of the program is not one of the function
 other_global : (place : ℕ) → IsOther whose.Local 0 (name.Global place)
 other_global place k = refl
 
@@ -112,6 +113,7 @@ length_listed : (locals globals : List Bool) → length (listed locals globals)
     ≡ length (listed_from whose.Local 0 locals) + length (listed_from whose.Global 0 globals)
 length_listed locals globals = length-append (listed_from whose.Local 0 locals) (listed_from whose.Global 0 globals)
 
+-- the number in the table is the place in the list
 pub number_listed : (locals globals : List Bool) (v : Variable)
     → number_of (numbered 0 locals) (numbered (length (listed_from whose.Local 0 locals)) globals) (length (listed locals globals)) v
     ≡ index_of (listed locals globals) v
@@ -169,6 +171,7 @@ distinct_from its place (false ∷ marks) rest absent d =
 distinct_none : IsDistinct []
 distinct_none i x there = absurd cc
 
+-- what is listed by marks is there once
 pub distinct_listed : (locals globals : List Bool) → IsDistinct (listed locals globals)
 distinct_listed locals globals =
     distinct_from whose.Local 0 locals (listed_from whose.Global 0 globals)
@@ -186,6 +189,7 @@ mark_of locals globals (name.Global place) = is_marked globals place
 abbrev pub is_in : List Variable → Variable → Bool
 is_in list v = nat_lt (index_of list v) (length list)
 
+-- both numbers are one more
 pub less_next : (a b : ℕ) → nat_lt (suc a) (suc b) ≡ nat_lt a b
 less_next a b = by_test (cases_lt a b)
   where
@@ -222,11 +226,12 @@ is_in_from its place (false ∷ marks) rest (suc k) a =
     ap (is_in (listed_from its (suc place) marks ++ rest)) (moved_on its place k)
     ∙ is_in_from its (suc place) marks rest k (subst (IsAbsent rest) (moved_on its place k) a)
 
--- what is behind those that are not there
+-- what comes after variables that are other ones
 is_in_behind : (list rest : List Variable) (v : Variable) → IsAbsent list v → is_in (list ++ rest) v ≡ is_in rest v
 is_in_behind [] rest v a = refl
 is_in_behind (x ∷ list) rest v a = is_in_more x (list ++ rest) v a.0 ∙ is_in_behind list rest v a.1
 
+-- a variable is in the list exactly if it is marked
 pub is_listed : (locals globals : List Bool) (v : Variable) → is_in (listed locals globals) v ≡ mark_of locals globals v
 is_listed locals globals (name.Local place) =
     subst (λ n. is_in (listed locals globals) (name.Local n) ≡ is_marked locals place) (from_zero place)

@@ -30,7 +30,7 @@ use Rattle.hs_restores.specs.Laws.Naming.{are_names}
 use Rattle.hs_restores.specs.Laws.Numbering.{is_in}
 use Rattle.hs_restores.specs.Laws.Windows.{part_of, part_length, part_number}
 use Rattle.hs_restores.specs.Marks.{is_changed}
-use Rattle.hs_restores.specs.Restoring.{AddsShown, IsReady, IsSharedIn, Noted, Shows, is_set_state, sets_state}
+use Rattle.hs_restores.specs.Restoring.{AddsShown, IsReady, Noted, Shows, is_set_state, sets_state}
 use Rattle.hs_restores.specs.Stepping.{greatest, steps_by}
 use Rattle.hs_rows.specs.Sets.{Sets, has, width}
 use Rattle.hs_table.specs.declared.role.Role.{Role}

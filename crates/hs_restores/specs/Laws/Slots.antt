@@ -1,5 +1,5 @@
 -- The slots that are listed are those that the function changes.
-use Rattle.std.proofs.Common.{◌≡◌, ◌<◌, ℕ, zero, suc, ◌+◌, nat_lt, Bool, true, false, ◌&&◌, ap, sym, subst, ◌∙◌, refl, arith, List, [], ◌∷◌, length, get_or}
+use Rattle.std.proofs.Common.{◌≡◌, ◌<◌, ℕ, zero, suc, ◌+◌, nat_lt, Bool, true, false, ◌&&◌, ap, ◌∙◌, refl, arith, List, [], ◌∷◌, length, get_or}
 use Rattle.hs_code.specs.Stacks.{Scope}
 use Rattle.hs_code.specs.declared.function_code.FunctionCode.{FunctionCode}
 use Rattle.hs_fact_rows.specs.Laws.Numbers.{less_number, least_number, less_numbers}

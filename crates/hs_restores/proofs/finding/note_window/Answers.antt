@@ -3,7 +3,6 @@ use Rattle.hs_code.specs.Codes.{scope_of, view_program}
 use Rattle.hs_code.specs.declared.function_code.Placed.{Placed}
 use Rattle.hs_effects.specs.Calling.{whole_of}
 use Rattle.hs_fact_rows.specs.Cuts.{IsSolved, IsTask, Task}
-use Rattle.hs_facts.specs.Names.{names_of}
 use Rattle.hs_restores.specs.Laws.Jobs.{task_whole}
 use Rattle.hs_restores.specs.Laws.Naming.{distinct_names}
 use Rattle.hs_restores.specs.Laws.Numbering.{IsDistinct}

@@ -1,6 +1,5 @@
-use Rattle.std.proofs.Common.{◌≡◌, ◌≤◌, ◌+◌, ◌&&◌, ℕ, Bool, false, List, Some, length, nat_lt, option_map, replicate, slice_get, sym, subst, ◌∙◌, ap, arith, rules}
+use Rattle.std.proofs.Common.{◌≡◌, ◌≤◌, ◌+◌, ◌&&◌, false, List, length, nat_lt, option_map, replicate, sym, subst, ◌∙◌, ap, arith, rules}
 use Rattle.std.proofs.lemmas.Option.{slice_get-map}
-use Rattle.hs_code.specs.Codes.{scope_of, view_program}
 use Rattle.hs_code.specs.declared.function_code.Placed.{Placed}
 use Rattle.hs_effects.specs.Calling.{whole_of}
 use Rattle.hs_restores.proofs.Shown.{written}

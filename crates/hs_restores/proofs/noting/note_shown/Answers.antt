@@ -1,4 +1,4 @@
-use Rattle.std.proofs.Common.{◌≡◌, ◌<◌, ◌+◌, List, Bool, arith, length, get_or, sym, subst, ◌∙◌}
+use Rattle.std.proofs.Common.{◌+◌, List, Bool, arith, get_or, sym, subst}
 use Rattle.hs_code.specs.Codes.{scope_of, view_program}
 use Rattle.hs_restores.proofs.Shown.{nothing, op_read, shown_all, shown_more}
 use Rattle.hs_restores.specs.Laws.Jobs.{greatest_at}

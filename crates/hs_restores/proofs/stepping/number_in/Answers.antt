@@ -1,5 +1,4 @@
-use Rattle.std.proofs.Common.{◌<◌, ◌≤◌, ◌+◌, arith, sym, subst, ◌∙◌}
-use Rattle.hs_fact_rows.specs.Cells.{index_of}
+use Rattle.std.proofs.Common.{arith, sym}
 use Rattle.hs_restores.specs.Laws.Windows.{part_number, part_other}
 use Rattle.hs_restores.proofs.stepping.number_in.Goals.{else-number-window-via-then-number-window+else-number-window-2, else-number-window-via-else-number-window}
 use Rattle.hs_restores.proofs.stepping.number_in.Goals as goal
