@@ -2,12 +2,12 @@
 
 ghost use Rattle.std.specs.Bool.{Decides};
 ghost use Rattle.std.specs.Prelude.{◌≡◌, ◌<◌, ◌≤◌, ◌+◌, ℕ, Some, IfOk, OnOk, length, slice_get};
-ghost use Rattle.hs_code.specs.Codes.{scope_of, view_program};
 ghost use Rattle.hs_effects.specs.Calling.{whole_of};
 ghost use Rattle.hs_effects.specs.Effecting.{AreRestores, noted};
 ghost use Rattle.hs_facts.specs.Effects.{Assigns, IsRestoreAt};
 ghost use Rattle.hs_facts.specs.Names.{names_of};
 ghost use Rattle.hs_restores.specs.Restoring.{IsReady, Noted, assigned_of};
+ghost use Rattle.hs_restores.specs.Stepping.{scope_in};
 ghost use Rattle.hs_rows.specs.Sets.{has, width};
 ghost use Rattle.hs_tree.specs.Views.{view_function};
 
@@ -128,7 +128,7 @@ fn note_window(
     restores: &mut [bool],
 ) -> Result<(), NoMemory>
     requires ready { IsReady (whole_of code.now) own.number (view_function own.function.now) own.code.now own.slots.now (assigned_of callees.now) }
-    requires names { own.names.now ≡ names_of (scope_of (view_program code.now.program.now) (view_function own.function.now)) own.code.now }
+    requires names { own.names.now ≡ names_of (scope_in code.now.program.now (view_function own.function.now)) own.code.now }
     requires fits { window.0 + window.1 ≤ length own.names.now }
     requires few { window.1 ≤ 64 }
     requires noted { Noted (whole_of code.now) own.number own.names.now window.0 restores.old }

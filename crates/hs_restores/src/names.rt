@@ -1,8 +1,8 @@
 //! The handle names of a function.
 
 ghost use Rattle.std.specs.Prelude.{◌≡◌, IfOk};
-ghost use Rattle.hs_code.specs.Codes.{scope_of, view_program};
 ghost use Rattle.hs_facts.specs.Names.{names_of};
+ghost use Rattle.hs_restores.specs.Stepping.{scope_in};
 ghost use Rattle.hs_tree.specs.Views.{view_function};
 
 use crate::marks::{handle_globals, handle_locals};
@@ -22,7 +22,7 @@ pub(crate) fn names_of(
     function: &Function,
     code: &FunctionCode,
 ) -> Result<Numbers, NoMemory>
-    ensures { IfOk result (λ its. its ≡ names_of (scope_of (view_program program.now) (view_function function.now)) code.now) }
+    ensures { IfOk result (λ its. its ≡ names_of (scope_in program.now (view_function function.now)) code.now) }
 {
     let types = &program.types;
     let locals = handle_locals(alloc, types, function.variables.items())?;

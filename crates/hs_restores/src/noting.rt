@@ -2,10 +2,9 @@
 
 ghost use Rattle.std.specs.Bool.{Decides};
 ghost use Rattle.std.specs.Prelude.{◌≡◌, ◌<◌, ◌≤◌, ℕ, suc, length};
-ghost use Rattle.hs_code.specs.Codes.{scope_of, view_program};
 ghost use Rattle.hs_fact_rows.specs.Given.{IsFit};
 ghost use Rattle.hs_restores.specs.Restoring.{AddsShown, Shows, is_set_state, note, sets_state};
-ghost use Rattle.hs_restores.specs.Stepping.{greatest};
+ghost use Rattle.hs_restores.specs.Stepping.{greatest, scope_in};
 ghost use Rattle.hs_tree.specs.Trees.{TypedFunction};
 
 use crate::taken::{role_at, taken};
@@ -27,7 +26,7 @@ pub(crate) fn note_shown(
     requires places { plan.places ≡ greatest 0 ops.now }
     requires long { length restores.old ≡ length ops.now }
     ensures { (function : TypedFunction)
-        → AddsShown (scope_of (view_program program.now) function) plan rows.now ops.now (length ops.now) restores.old restores.new }
+        → AddsShown (scope_in program.now function) plan rows.now ops.now (length ops.now) restores.old restores.new }
 {
     'ops: for (at, its) in ops.iter().enumerate() {
         let is = is_shown(program, rows, plan, at, *its);
@@ -49,7 +48,7 @@ fn note_if(restores: &mut [bool], at: usize, is: bool)
 fn is_shown(program: &Program, rows: &Rows, plan: Plan, at: usize, its: Placed) -> bool
     requires fit { IsFit plan rows.now at }
     requires depth_in_range { its.places ≤ plan.places }
-    ensures { (function : TypedFunction) → Decides result (Shows (scope_of (view_program program.now) function) plan rows.now at its) }
+    ensures { (function : TypedFunction) → Decides result (Shows (scope_in program.now function) plan rows.now at its) }
 {
     let depth = its.places as usize;
     let first = depth.saturating_sub(taken(program, its.op));

@@ -1,10 +1,10 @@
 //! The slots whose bytes are known: those that a function changes.
 
 ghost use Rattle.std.specs.Prelude.{◌≡◌, ◌<◌, ◌≤◌, ℕ, false, IfOk, length, slice_index_or};
-ghost use Rattle.hs_code.specs.Codes.{scope_of, view_program};
 ghost use Rattle.hs_restores.specs.Laws.Numbering.{is_in};
 ghost use Rattle.hs_restores.specs.Marks.{assigned_globals, is_changed, local_set_by, one_names};
 ghost use Rattle.hs_rows.specs.Sets.{has, width};
+ghost use Rattle.hs_restores.specs.Stepping.{scope_in};
 ghost use Rattle.hs_tree.specs.Views.{view_function};
 ghost use Rattle.hs_tree.specs.declared.head.Variable.{Variable};
 
@@ -31,7 +31,7 @@ pub(crate) fn slots_of(
     requires function_in_range { number < assigned.now.count }
     requires globals_in_range { length program.now.globals ≤ width assigned.now }
     ensures { IfOk result (λ its. (v : Variable) → is_in its v
-        ≡ is_changed (scope_of (view_program program.now) (view_function function.now)) code.now (has assigned.now number) v) }
+        ≡ is_changed (scope_in program.now (view_function function.now)) code.now (has assigned.now number) v) }
 {
     let locals = set_locals(alloc, function.variables.items().len(), code.ops.items())?;
     let globals = assigned_globals(alloc, program.globals.items(), number, assigned)?;

@@ -1,12 +1,10 @@
 //! The steps of a function.
 
 ghost use Rattle.std.specs.Prelude.{◌≡◌, ◌≤◌, ◌+◌, ◌-◌, IfOk, length};
-ghost use Rattle.hs_code.specs.Codes.{scope_of, view_program};
 ghost use Rattle.hs_fact_rows.specs.Cells.{index_of};
 ghost use Rattle.hs_fact_rows.specs.Steps.{bring_step, routine_step, set_step};
 ghost use Rattle.hs_restores.specs.Laws.Numbering.{IsDistinct, is_in};
-ghost use Rattle.hs_restores.specs.Laws.Windows.{part_of};
-ghost use Rattle.hs_restores.specs.Stepping.{greatest, step_by, steps_by};
+ghost use Rattle.hs_restores.specs.Stepping.{greatest, part_in, scope_in, step_by, steps_by};
 ghost use Rattle.hs_tree.specs.Trees.{TypedFunction};
 
 use crate::numbers::Numbers;
@@ -30,7 +28,7 @@ pub(crate) struct Window<'a> {
 /// The names of a window.
 pub(crate) fn part<'a>(window: Window<'a>) -> &'a [Variable]
     requires fits { window.from + window.count ≤ length window.names.now }
-    ensures { result.now ≡ part_of window.entry.from window.entry.count window.entry.names.now }
+    ensures { result.now ≡ part_in window.entry }
 {
     let (_before, rest) = window.names.items().split_at(window.from);
     let (part, _after) = rest.split_at(window.count);
@@ -48,7 +46,7 @@ fn is_in(numbers: &Numbers, variable: Variable) -> bool
 fn number_in(window: Window, variable: Variable) -> usize
     requires fits { window.from + window.count ≤ length window.names.now }
     requires distinct { IsDistinct window.names.now }
-    ensures { result ≡ index_of (part_of window.entry.from window.entry.count window.entry.names.now) variable }
+    ensures { result ≡ index_of (part_in window.entry) variable }
 {
     let number = window.names.find(variable);
     if number >= window.from && number - window.from < window.count {
@@ -69,7 +67,7 @@ pub(crate) fn steps_by(
     requires fits { window.from + window.count ≤ length window.names.now }
     requires distinct { IsDistinct window.names.now }
     ensures { IfOk result (λ its. (function : TypedFunction) → its.items
-        ≡ steps_by (scope_of (view_program program.now) function) window.entry.names.now (part_of window.entry.from window.entry.count window.entry.names.now) slots.now ops.now) }
+        ≡ steps_by (scope_in program.now function) window.entry.names.now (part_in window.entry) slots.now ops.now) }
 {
     let mut steps = Vec::new(alloc);
     'ops: for its in ops {
@@ -83,7 +81,7 @@ fn step_by(program: &Program, window: Window, slots: &Numbers, op: Op, depth: us
     requires fits { window.from + window.count ≤ length window.names.now }
     requires distinct { IsDistinct window.names.now }
     ensures { (function : TypedFunction) → result
-        ≡ step_by (scope_of (view_program program.now) function) window.entry.names.now (part_of window.entry.from window.entry.count window.entry.names.now) slots.now op depth }
+        ≡ step_by (scope_in program.now function) window.entry.names.now (part_in window.entry) slots.now op depth }
 {
     let base = depth.saturating_sub(taken(program, op));
     match op {
@@ -108,7 +106,7 @@ fn set_step(window: Window, slots: &Numbers, variable: Variable, depth: usize) -
     requires fits { window.from + window.count ≤ length window.names.now }
     requires distinct { IsDistinct window.names.now }
     ensures { result ≡ set_step (is_in window.entry.names.now variable) depth
-        (index_of (part_of window.entry.from window.entry.count window.entry.names.now) variable) (index_of slots.now variable) }
+        (index_of (part_in window.entry) variable) (index_of slots.now variable) }
 {
     let name = number_in(window, variable);
     let slot = slots.find(variable);

@@ -1,10 +1,10 @@
 //! How many values operations take.
 
 ghost use Rattle.std.specs.Prelude.{◌≡◌, length, slice_get};
-ghost use Rattle.hs_code.specs.Codes.{scope_of, view_program};
 ghost use Rattle.hs_code.specs.Stacks.{routine_signature};
 ghost use Rattle.hs_facts.specs.Names.{parameter_count, role_in, taken};
 ghost use Rattle.hs_restores.specs.Parameters.{count_in};
+ghost use Rattle.hs_restores.specs.Stepping.{scope_in};
 ghost use Rattle.hs_tree.specs.Trees.{TypedFunction};
 
 use hs_code::Op;
@@ -13,7 +13,7 @@ use hs_tree::{BoundRoutine, Function, Program};
 
 /// How many values an operation takes.
 pub(crate) fn taken(program: &Program, op: Op) -> usize
-    ensures { (function : TypedFunction) → result ≡ taken (scope_of (view_program program.now) function) op }
+    ensures { (function : TypedFunction) → result ≡ taken (scope_in program.now function) op }
 {
     match op {
         Op::Num(_)

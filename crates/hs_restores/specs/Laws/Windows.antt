@@ -13,6 +13,7 @@ use Rattle.hs_tree.specs.declared.head.Variable.{Variable}
 
 -- ---- parts
 
+-- so many variables from that place on
 abbrev pub part_of : ℕ → ℕ → List Variable → List Variable
 part_of from count list = take count (drop from list)
 

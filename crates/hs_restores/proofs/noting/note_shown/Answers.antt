@@ -1,5 +1,5 @@
 use Rattle.std.proofs.Common.{◌+◌, List, Bool, arith, get_or, sym, subst}
-use Rattle.hs_code.specs.Codes.{scope_of, view_program}
+use Rattle.hs_restores.specs.Stepping.{scope_in}
 use Rattle.hs_restores.proofs.Shown.{nothing, op_read, shown_all, shown_more}
 use Rattle.hs_restores.specs.Laws.Jobs.{greatest_at}
 use Rattle.hs_restores.specs.Restoring.{AddsShown}
@@ -19,14 +19,14 @@ ops-preserved c function =
     let long = so_far.long in
     let all = c.requires.long in
     let inside = c.ops-test.true in
-    subst (λ (row : List Bool). AddsShown (scope_of (view_program c.args.program.now) function) c.args.plan c.args.rows.now c.args.ops.now (c.ops.at + 1)
+    subst (λ (row : List Bool). AddsShown (scope_in c.args.program.now function) c.args.plan c.args.rows.now c.args.ops.now (c.ops.at + 1)
     c.args.restores.now row) (sym c.note_if.ensures)
-    (shown_more (scope_of (view_program c.args.program.now) function) c.args.plan c.args.rows.now c.args.ops.now c.args.restores.now c.ops.at c.ops.restores
+    (shown_more (scope_in c.args.program.now function) c.args.plan c.args.rows.now c.args.ops.now c.args.restores.now c.ops.at c.ops.restores
     (get_or c.args.ops.now c.ops.at nothing) (op_read c.args.ops.now c.ops.at c.ops-test.true) (omega (arith, long, all, inside)) so_far c.is_shown-is.result
     (c.is_shown-is.ensures function))
 
 -- all of them
 pub returns : goal.returns
 returns c function =
-    shown_all (scope_of (view_program c.args.program.now) function) c.args.plan c.args.rows.now c.args.ops.now c.args.restores.now c.ops.at c.ops.restores
+    shown_all (scope_in c.args.program.now function) c.args.plan c.args.rows.now c.args.ops.now c.args.restores.now c.ops.at c.ops.restores
     c.ops-test.false (c.ops.invariant function)

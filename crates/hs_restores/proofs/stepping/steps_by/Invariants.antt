@@ -1,7 +1,5 @@
 use Rattle.std.proofs.Common.{◌≡◌, ◌++◌, drop}
-use Rattle.hs_code.specs.Codes.{scope_of, view_program}
-use Rattle.hs_restores.specs.Laws.Windows.{part_of}
-use Rattle.hs_restores.specs.Stepping.{steps_by}
+use Rattle.hs_restores.specs.Stepping.{part_in, scope_in, steps_by}
 use Rattle.hs_tree.specs.Trees.{TypedFunction}
 use Rattle.hs_restores.proofs.stepping.steps_by.Given as goal
 
@@ -9,5 +7,5 @@ use Rattle.hs_restores.proofs.stepping.steps_by.Given as goal
 abbrev pub invariant-ops : goal.invariant-ops
 invariant-ops l =
     (function : TypedFunction)
-    → l.steps.items ++ steps_by (scope_of (view_program l.program) function) l.window.names.now (part_of l.window.from l.window.count l.window.names.now) l.slots (drop l.its-index l.ops)
-    ≡ steps_by (scope_of (view_program l.program) function) l.window.names.now (part_of l.window.from l.window.count l.window.names.now) l.slots l.ops
+    → l.steps.items ++ steps_by (scope_in l.program function) l.window.names.now (part_in l.window) l.slots (drop l.its-index l.ops)
+    ≡ steps_by (scope_in l.program function) l.window.names.now (part_in l.window) l.slots l.ops
