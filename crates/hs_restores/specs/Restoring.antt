@@ -3,8 +3,10 @@
 --     Shows scope plan sets at its   the row before the operation shows that it is a restore
 --     Noted whole f names bound row  restores are noted: those whose handle is among so many of the names
 --     AddsShown ..                   those that the rows show are noted too
+--     IsAssigned whole sets          which globals functions may assign
 --     IsReady ..                     what is known of a function and its lists
-use Rattle.std.specs.Prelude.{◌≡◌, ◌<◌, ◌⊎◌, ℕ, suc, set, nat_lt, Bool, true, false, ◌&&◌, List, length, slice_get, Option, Some}
+use Rattle.std.specs.Bool.{Decides}
+use Rattle.std.specs.Prelude.{◌≡◌, ◌<◌, ◌≤◌, ◌⊎◌, ℕ, suc, set, nat_lt, Bool, true, false, ◌&&◌, List, length, slice_get, Option, Some}
 use Rattle.hs_code.specs.Codes.{is_slot_in, scope_of}
 use Rattle.hs_code.specs.Stacks.{Scope, variable_in}
 use Rattle.hs_code.specs.declared.function_code.FunctionCode.{FunctionCode}
@@ -19,7 +21,7 @@ use Rattle.hs_facts.specs.Effects.{WholeCode, Assigns, IsRestoreAt, first_argume
 use Rattle.hs_facts.specs.Names.{role_in}
 use Rattle.hs_restores.specs.Laws.Numbering.{is_in}
 use Rattle.hs_restores.specs.declared.assigning.Assigning.{Assigning}
-use Rattle.hs_rows.specs.Sets.{Sets, has}
+use Rattle.hs_rows.specs.Sets.{Sets, has, width}
 use Rattle.hs_table.specs.declared.role.Role.{Role}
 use Rattle.hs_table.specs.declared.role.Role.TheVariants as role
 use Rattle.hs_tree.specs.Trees.{TypedFunction}
@@ -72,6 +74,12 @@ note false at row = row
 -- a call of the function may assign the global, if both are there
 abbrev pub assigned_of : Assigning → ℕ → ℕ → Bool
 assigned_of its f g = nat_lt f its.functions && (nat_lt g its.globals && has its.assigned.now f g)
+
+-- rows of sets say which globals each function may assign
+pub record IsAssigned (whole : WholeCode) (sets : Sets) : Type 0 where
+  pub count : sets.count ≡ length whole.functions
+  pub wide : length whole.program.globals ≤ width sets
+  pub exact : (f g : ℕ) → f < sets.count → g < width sets → Decides (has sets f g) (Assigns whole f g)
 
 -- a function of the program with its code; what calls may assign, and which slots are listed
 pub record IsReady (whole : WholeCode) (f : ℕ) (function : TypedFunction) (code : FunctionCode) (slots : List Variable) (assigned : ℕ → ℕ → Bool)

@@ -4,11 +4,10 @@ ghost use Rattle.std.specs.Bool.{Decides};
 ghost use Rattle.std.specs.Prelude.{◌≡◌, ◌<◌, ◌≤◌, ◌+◌, ℕ, Some, IfOk, OnOk, length, slice_get};
 ghost use Rattle.hs_effects.specs.Calling.{whole_of};
 ghost use Rattle.hs_effects.specs.Effecting.{AreRestores, noted};
-ghost use Rattle.hs_facts.specs.Effects.{Assigns, IsRestoreAt};
+ghost use Rattle.hs_facts.specs.Effects.{IsRestoreAt};
 ghost use Rattle.hs_facts.specs.Names.{names_of};
-ghost use Rattle.hs_restores.specs.Restoring.{IsReady, Noted, assigned_of};
+ghost use Rattle.hs_restores.specs.Restoring.{IsAssigned, IsReady, Noted, assigned_of};
 ghost use Rattle.hs_restores.specs.Stepping.{scope_in};
-ghost use Rattle.hs_rows.specs.Sets.{has, width};
 ghost use Rattle.hs_tree.specs.Views.{view_function};
 
 use crate::assigning::Assigning;
@@ -41,10 +40,7 @@ pub(crate) fn restores_of(
     code: &Code,
     assigned: &Assignments,
 ) -> Result<Vec<Vec<bool>>, NoMemory>
-    requires functions { assigned.now.count ≡ length code.now.functions.items }
-    requires globals { length code.now.program.now.globals ≤ width assigned.now }
-    requires exact { (f g : ℕ) → f < assigned.now.count → g < width assigned.now
-        → Decides (has assigned.now f g) (Assigns (whole_of code.now) f g) }
+    requires assigned { IsAssigned (whole_of code.now) assigned.now }
     ensures { IfOk result (λ its. AreRestores (whole_of code.now) its.items) }
 {
     let mut rows = Vec::new(alloc);
@@ -70,10 +66,7 @@ fn restores_in(
 ) -> Result<Vec<bool>, NoMemory>
     requires of_function { slice_get code.now.program.now.functions.items number ≡ Some function.now }
     requires of_code { slice_get code.now.functions.items number ≡ Some own.now }
-    requires functions { assigned.now.count ≡ length code.now.functions.items }
-    requires globals { length code.now.program.now.globals ≤ width assigned.now }
-    requires exact { (f g : ℕ) → f < assigned.now.count → g < width assigned.now
-        → Decides (has assigned.now f g) (Assigns (whole_of code.now) f g) }
+    requires assigned { IsAssigned (whole_of code.now) assigned.now }
     ensures { IfOk result (λ its. (at : ℕ) → Decides (noted (slice_get its.items at)) (IsRestoreAt (whole_of code.now) number at)) }
 {
     let program = code.program;

@@ -1,13 +1,13 @@
 -- What the lists of a function have, as they are made from the code of a program.
 --     own_code               the code of a function is one of the program, and each of its operations is in range
 --     assigned_by            which globals a function may assign, if function and global are there
---     assigns_exact          that is what it may assign
+--     assigned_true, assigns_true      that is what it may assign
+--     ready_is               so all is known of a function that its windows ask for
 --     op_gets, op_sets, op_calls       what operations get is a slot, and what they set or assign under calls is listed
 use mathlib.Core.Logic.{∥∥₁_elim}
-use Rattle.std.proofs.Common.{◌≡◌, ◌<◌, ◌≤◌, ◌⊎◌, inl, inr, ℕ, zero, suc, nat_lt, Bool, true, ◌&&◌, ap, sym, subst, ◌∙◌, refl, arith, List, [], ◌∷◌, length, slice_get, Option, Some, None}
+use Rattle.std.proofs.Common.{◌≡◌, ◌<◌, ◌⊎◌, inl, inr, ℕ, zero, suc, nat_lt, Bool, true, ◌&&◌, ap, sym, subst, ◌∙◌, refl, arith, List, [], ◌∷◌, length, slice_get, Option, Some, None}
 use Rattle.std.proofs.Math.Bool.{Bool-set}
 use Rattle.std.proofs.lemmas.Option.{slice_get_within}
-use Rattle.std.specs.Bool.{Decides}
 use Rattle.hs_code.specs.Codes.{AreCodesOf, IsCode, IsCodeOf, IsInRange, is_slot_in, scope_of}
 use Rattle.hs_code.specs.Stacks.{variable_in, variable_of_global}
 use Rattle.hs_code.specs.declared.function_code.FunctionCode.{FunctionCode}
@@ -19,7 +19,8 @@ use Rattle.hs_facts.specs.Effects.{WholeCode, Assigns, Leads, itself, through, o
 use Rattle.hs_facts.specs.Laws.Effects.{Does-called}
 use Rattle.hs_restores.specs.Laws.Numbering.{is_in}
 use Rattle.hs_restores.specs.Marks.{hits, is_changed, local_set_by, one_names}
-use Rattle.hs_rows.specs.Sets.{Sets, has, width}
+use Rattle.hs_restores.specs.Restoring.{IsAssigned, IsReady}
+use Rattle.hs_rows.specs.Sets.{Sets, has}
 use Rattle.hs_tree.specs.Trees.{TypedFunction, TypedProgram}
 use Rattle.hs_tree.specs.declared.class.Class.{Class}
 use Rattle.hs_tree.specs.declared.globals.Global.{Global}
@@ -126,8 +127,7 @@ module _ (whole : WholeCode) (are : ∥ IsCode whole.program whole.classes whole
 
   -- ---- what is assigned
 
-  module _ (sets : Sets) (count : sets.count ≡ length whole.functions) (wide : length whole.program.globals ≤ width sets)
-      (exact : (f g : ℕ) → f < sets.count → g < width sets → Decides (has sets f g) (Assigns whole f g)) where
+  module _ (sets : Sets) (known : IsAssigned whole sets) where
     -- if function and global are there
     abbrev pub assigned_by : ℕ → ℕ → Bool
     assigned_by f g = nat_lt f (length whole.functions) && (nat_lt g (length whole.program.globals) && has sets f g)
@@ -138,7 +138,9 @@ module _ (whole : WholeCode) (are : ∥ IsCode whole.program whole.classes whole
         let two = both (nat_lt g (length whole.program.globals)) (has sets f g) one.1 in
         let low = less_numbers f (length whole.functions) one.0 in
         let below = less_numbers g (length whole.program.globals) two.0 in
-        (exact f g (omega (arith, low, count)) (omega (arith, below, wide))).0 two.1
+        let count = known.count in
+        let wide = known.wide in
+        (known.exact f g (omega (arith, low, count)) (omega (arith, below, wide))).0 two.1
 
     leads_there : (f last at : ℕ) (its : Placed) → Leads whole f last → placed_in whole last at ≡ Some its → f < length whole.functions
     leads_there f last at its (itself it) there = function_there whole it at its there
@@ -147,10 +149,12 @@ module _ (whole : WholeCode) (are : ∥ IsCode whole.program whole.classes whole
     pub assigns_true : (f g : ℕ) → Assigns whole f g → assigned_by f g ≡ true
     assigns_true f g does =
         let low = leads_there f does.last does.at does.its does.leads does.there in
+        let count = known.count in
+        let wide = known.wide in
         let below = set_there does.last does.at does.its g does.there does.so in
         both_true (nat_lt f (length whole.functions)) (nat_lt g (length whole.program.globals) && has sets f g) (less_number f (length whole.functions) low)
         (both_true (nat_lt g (length whole.program.globals)) (has sets f g) (less_number g (length whole.program.globals) below)
-        ((exact f g (omega (arith, low, count)) (omega (arith, below, wide))).1 does))
+        ((known.exact f g (omega (arith, low, count)) (omega (arith, below, wide))).1 does))
 
     -- ---- of one function
 
@@ -183,3 +187,21 @@ module _ (whole : WholeCode) (are : ∥ IsCode whole.program whole.classes whole
       op_calls at its called g there is slot assigned =
           global_listed g (Does-called whole (λ last at it. it ≡ op.Set (name.Global g)) f called
           (record { at = at; its = its; there = code_here whole f at code its of_code there; calls = is }) (assigned_true called g assigned))
+
+-- ---- all that is asked
+
+-- of a function whose lists are made from the code of the program
+pub ready_is :
+    (whole : WholeCode) (are : ∥ IsCode whole.program whole.classes whole.functions ∥₁) (sets : Sets) (known : IsAssigned whole sets) (f : ℕ)
+    (function : TypedFunction) (code : FunctionCode) → slice_get whole.program.functions f ≡ Some function → slice_get whole.functions f ≡ Some code
+    → (slots : List Variable) → ((v : Variable) → is_in slots v ≡ is_changed (scope_of whole.program function) code (has sets f) v)
+    → IsReady whole f function code slots (λ g h. nat_lt g (length whole.functions) && (nat_lt h (length whole.program.globals) && has sets g h))
+ready_is whole are sets known f function code of_function of_code slots changed = record {
+  of_function = of_function;
+  of_code = of_code;
+  assigned_true = assigned_true whole are sets known;
+  assigns_true = assigns_true whole are sets known;
+  gets = op_gets whole are sets known f function code of_function of_code slots changed;
+  sets = op_sets whole are sets known f function code of_function of_code slots changed;
+  calls = op_calls whole are sets known f function code of_function of_code slots changed;
+}

@@ -2,6 +2,7 @@
 --     task_of ..         the task: its names are a part of those of the function
 --     IsFor ..           what is known of the lists
 --     task_is ..         the task is that of the code
+--     same_task ..       the parts of a job are those of the task
 use Rattle.std.proofs.Common.{◌≡◌, ◌≤◌, ℕ, zero, suc, ◌+◌, ◌-◌, max, Bool, true, false, ap, sym, subst, ◌∙◌, refl, arith, List, [], ◌∷◌, length, slice_get, Option, Some, None}
 use Rattle.hs_code.specs.Codes.{is_slot_in}
 use Rattle.hs_code.specs.Stacks.{Scope, variable_in}
@@ -10,7 +11,7 @@ use Rattle.hs_code.specs.declared.function_code.Placed.{Placed}
 use Rattle.hs_code.specs.declared.op.Op.{Op}
 use Rattle.hs_code.specs.declared.op.Op.TheVariants as op
 use Rattle.hs_fact_rows.specs.Cells.{index_of}
-use Rattle.hs_fact_rows.specs.Cuts.{Task, IsTask}
+use Rattle.hs_fact_rows.specs.Cuts.{Task, IsTask, the_task}
 use Rattle.hs_fact_rows.specs.Given.{FitsStep}
 use Rattle.hs_fact_rows.specs.Laws.Numbers.{index_least, less_number, less_numbers, some_one}
 use Rattle.hs_fact_rows.specs.Laws.Solved.{IsOf}
@@ -247,3 +248,12 @@ module _ (scope : Scope) (code : FunctionCode) (plan : Plan) (from count : ℕ) 
     places = low_at;
     op_fits = λ at it there. fits_by at it there it.op refl;
   }
+
+-- the job that is made is the task of the window
+pub same_task :
+    (scope : Scope) (code : FunctionCode) (plan : Plan) (from count : ℕ) (assigned : ℕ → ℕ → Bool) (names part slots listed : List Variable)
+    (steps : List Step) (ops : List Placed) → part ≡ part_of from count names → listed ≡ slots
+    → steps ≡ steps_by scope names (part_of from count names) slots ops → ops ≡ code.ops → names ≡ names_of scope code
+    → the_task plan part listed steps code assigned ≡ task_of scope code plan from count slots assigned
+same_task scope code plan from count assigned names part slots listed steps ops is_part is_listed are_steps are_ops are_all =
+    rw (is_part, is_listed, are_steps, are_ops, are_all) refl

@@ -2,10 +2,10 @@ use Rattle.std.proofs.Common.{◌≡◌, ◌≤◌, ◌+◌, List, length, sym, 
 use Rattle.hs_code.specs.declared.function_code.Placed.{Placed}
 use Rattle.hs_effects.specs.Calling.{whole_of}
 use Rattle.hs_fact_rows.specs.Cuts.{IsSolved, IsTask, Task}
-use Rattle.hs_restores.specs.Laws.Jobs.{task_whole}
+use Rattle.hs_restores.specs.Laws.Jobs.{same_task, task_whole}
 use Rattle.hs_restores.specs.Laws.Naming.{distinct_names}
 use Rattle.hs_restores.specs.Laws.Numbering.{IsDistinct}
-use Rattle.hs_restores.specs.Laws.Restoring.{noted_more, same_task, window_is}
+use Rattle.hs_restores.specs.Laws.Noting.{noted_more, window_is}
 use Rattle.hs_restores.specs.Restoring.{AddsShown, Noted, assigned_of}
 use Rattle.hs_restores.specs.Stepping.{greatest, scope_in}
 use Rattle.hs_tree.specs.Views.{view_function}

@@ -3,7 +3,8 @@ use Rattle.std.proofs.lemmas.Option.{slice_get-map}
 use Rattle.hs_code.specs.declared.function_code.Placed.{Placed}
 use Rattle.hs_effects.specs.Calling.{whole_of}
 use Rattle.hs_restores.proofs.Shown.{written}
-use Rattle.hs_restores.specs.Laws.Restoring.{noted_all, noted_none, ready_is}
+use Rattle.hs_restores.specs.Laws.Assigning.{ready_is}
+use Rattle.hs_restores.specs.Laws.Noting.{noted_all, noted_none}
 use Rattle.hs_restores.specs.Restoring.{IsReady, Noted}
 use Rattle.hs_rows.specs.Sets.{has}
 use Rattle.hs_tree.specs.Views.{view_function}
@@ -34,7 +35,7 @@ note_window-requires-clause-ready c =
     (λ f g. nat_lt f n && (nat_lt g (length c.items.result.now) && has c.args.assigned.now f g))) (sym functions)
     (subst (λ (list : List Global). IsReady (whole_of c.args.code.now) c.args.number (view_function c.args.function.now) c.args.own.now c.in_ok-slots.slots
     (λ f g. nat_lt f (length c.args.code.now.functions.items) && (nat_lt g (length list) && has c.args.assigned.now f g))) (sym globals)
-    (ready_is (whole_of c.args.code.now) c.args.code.now.whole c.args.assigned.now c.requires.functions c.requires.globals c.requires.exact c.args.number
+    (ready_is (whole_of c.args.code.now) c.args.code.now.whole c.args.assigned.now c.requires.assigned c.args.number
     (view_function c.args.function.now) c.args.own.now
     (slice_get-map view_function c.args.code.now.program.now.functions.items c.args.number ∙ ap (option_map view_function) c.requires.of_function)
     c.requires.of_code c.in_ok-slots.slots c.in_ok-slots.ensures))
