@@ -23,7 +23,7 @@ pub(crate) struct Way {
 /// The variables that are numbered, by their places in the lists.
 #[derive(Clone, Copy)]
 pub struct Lists<'a> {
-    /// The handle names of the function.
+    /// Handle names of the function: those whose facts are found.
     pub names: &'a [Variable],
     /// The slots that the function sets, and those that the functions assign which it calls.
     pub slots: &'a [Variable],

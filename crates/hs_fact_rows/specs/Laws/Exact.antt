@@ -35,6 +35,7 @@ IsTracked names (With place x) = index_of names x < length names
 IsTracked names (Saved b x) = index_of names x < length names
 IsTracked names _ = ⊥
 
+-- it is With or Saved
 pub tracked_byte : (names : List Variable) (fact : MustFact) → IsTracked names fact → IsOfByte fact
 tracked_byte names (With place x) is = tt
 tracked_byte names (Saved b x) is = tt
