@@ -1,6 +1,7 @@
 //! Goes over texts of cases: what typing and lowering are to answer to pieces of C. It prints each answer that is not the one that is wanted.
 #![tactic(auto)]
 
+mod analysis;
 mod code;
 mod declarations;
 mod effects;
@@ -49,6 +50,9 @@ fn answer(alloc: Global, it: &Case<'_>) -> Result<String, Refusal> {
         "flow" => code::flow(alloc, it.text),
         "count" => code::count(alloc, it.text),
         "effects" => effects::answer(alloc, it.text),
+        "may" => analysis::answer(alloc, analysis::Asked::Effects, it.text),
+        "assigned" => analysis::answer(alloc, analysis::Asked::Assigned, it.text),
+        "restores" => analysis::answer(alloc, analysis::Asked::Restores, it.text),
         _ => Err(Why::Unread.into()),
     }
 }
