@@ -1,3 +1,5 @@
+pub mod Accesses
 pub mod Cells
 pub mod Machines
 pub mod Shifts
+pub mod Uses
