@@ -1,5 +1,7 @@
 pub mod Accesses
+pub mod Blocks
 pub mod Cells
+pub mod Handles
 pub mod Machines
 pub mod Operations
 pub mod Pointers
