@@ -4,7 +4,9 @@ pub mod Cells
 pub mod Handles
 pub mod Machines
 pub mod Operations
+pub mod Plain
 pub mod Pointers
+pub mod Roles
 pub mod Shifts
 pub mod Tests
 pub mod Uses
