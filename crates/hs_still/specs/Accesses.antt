@@ -24,7 +24,8 @@ use Rattle.hs_meaning.specs.Values.{Value, pointer, unmoved, Access, of_number, 
 use Rattle.hs_sound_heap.specs.Since.{is_purged}
 use Rattle.hs_still.specs.Cells.{cells_for_still, store_stop_still, value_in_still, load_stops_still}
 use Rattle.hs_still.specs.Machines.{still_cell, still_cells, still_value, unpurged, still_block, still_object, still_machine, still_done}
-use Rattle.hs_still.specs.Uses.{UnpurgedIn, Current, Unpurged, Used, unless_still, block_at_still, use_stops_still}
+use Rattle.hs_still.specs.Tests.{LoadUses}
+use Rattle.hs_still.specs.Uses.{UnpurgedIn, Current, unless_still, block_at_still, use_stops_still}
 
 -- ---- parts of the machine
 
@@ -151,10 +152,10 @@ cells_loaded_still access its machine used =
     (ap (value_in access) (cells_at_still its (length_of access) machine) ∙ value_in_still access (cells_at its (length_of access) machine)) refl
 
 -- a load
-pub loaded_still : (access : Access) (its : Pointer) (machine : Machine) → Used its machine
+pub loaded_still : (access : Access) (its : Pointer) (machine : Machine) → LoadUses access its machine
     → loaded access (unmoved its) (still_machine machine) ≡ still_done still_value (loaded access its machine)
-loaded_still (of_number kind) its machine used = cells_loaded_still (of_number kind) its machine used.0
-loaded_still (of_struct size) its machine used = cells_loaded_still (of_struct size) its machine used.0
+loaded_still (of_number kind) its machine used = cells_loaded_still (of_number kind) its machine used
+loaded_still (of_struct size) its machine used = cells_loaded_still (of_struct size) its machine used
 loaded_still (of_pointer class) Nil machine used = cells_loaded_still (of_pointer class) Nil machine tt
 loaded_still (of_pointer class) (Fixed object at) machine used = cells_loaded_still (of_pointer class) (Fixed object at) machine tt
 loaded_still (of_pointer class) (Spot its) machine used = cells_loaded_still (of_pointer class) (Spot its) machine used.0

@@ -1,8 +1,10 @@
 pub mod Accesses
 pub mod Blocks
 pub mod Cells
+pub mod Frames
 pub mod Handles
 pub mod Machines
+pub mod Operate
 pub mod Operations
 pub mod Plain
 pub mod Pointers
