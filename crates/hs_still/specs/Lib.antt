@@ -4,11 +4,14 @@ pub mod Cells
 pub mod Frames
 pub mod Handles
 pub mod Machines
+pub mod Maps
 pub mod Operate
 pub mod Operations
 pub mod Plain
 pub mod Pointers
 pub mod Roles
 pub mod Shifts
+pub mod Stacks
+pub mod Steps
 pub mod Tests
 pub mod Uses
