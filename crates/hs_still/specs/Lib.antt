@@ -10,8 +10,10 @@ pub mod Operations
 pub mod Plain
 pub mod Pointers
 pub mod Roles
+pub mod Runs
 pub mod Shifts
 pub mod Stacks
+pub mod Starts
 pub mod Steps
 pub mod Tests
 pub mod Uses
