@@ -5,10 +5,10 @@
 --     with_cells_at_still      other cells there
 --     loaded_still, stored_still      a load through a pointer that is not stale, and a store
 -- The cells that are reached ask nothing of the pointer: a purged block keeps its cells.
-use Rattle.std.proofs.Common.{◌≡◌, ℤ, ℕ, pos, zero, suc, ◌+◌, ◌-◌, Bool, false, List, [], ◌∷◌, ◌++◌, map, take, drop, length, slice_get, slice_set, Option, Some, None, option_map, Result, Ok, Err, refl, sym, ap, ◌∙◌}
+use Rattle.std.proofs.Common.{◌≡◌, ℤ, ℕ, pos, zero, suc, ◌+◌, ◌-◌, false, List, [], ◌∷◌, ◌++◌, map, take, drop, length, slice_get, slice_set, Option, Some, None, option_map, Result, refl, sym, ap, ◌∙◌}
 use Rattle.std.proofs.lemmas.List.{take-map, drop-map, length-map, map-append}
 use Rattle.std.proofs.lemmas.Option.{slice_get-map}
-use Rattle.hs_heap.specs.Blocks.{Block, standing, by_standing, master_of}
+use Rattle.hs_heap.specs.Blocks.{Block, standing, by_standing}
 use Rattle.hs_heap.specs.Memory.{block_at, put_block}
 use Rattle.hs_heap.specs.declared.cell.Cell.{Cell}
 use Rattle.hs_heap.specs.declared.cell.Pointer.{Pointer}
@@ -146,9 +146,9 @@ cells_loaded_still access its machine used =
     (value_in access (cells_at its (length_of access) machine)) (value_in access (cells_at (unmoved its) (length_of access) (still_machine machine)))
     machine (still_machine machine) machine
     (ap (λ ss. ss ++ load_stops access (cells_at (unmoved its) (length_of access) (still_machine machine)))
-      (use_stops_still its (length_of access) machine used)
-      ∙ ap (λ ss. use_stops its (length_of access) machine ++ ss)
-      (ap (load_stops access) (cells_at_still its (length_of access) machine) ∙ load_stops_still access (cells_at its (length_of access) machine)))
+    (use_stops_still its (length_of access) machine used)
+    ∙ ap (λ ss. use_stops its (length_of access) machine ++ ss)
+    (ap (load_stops access) (cells_at_still its (length_of access) machine) ∙ load_stops_still access (cells_at its (length_of access) machine)))
     (ap (value_in access) (cells_at_still its (length_of access) machine) ∙ value_in_still access (cells_at its (length_of access) machine)) refl
 
 -- a load
@@ -173,6 +173,6 @@ stored_still access its value machine used =
     (with_cells_at its (cells_for access value) machine)
     (with_cells_at (unmoved its) (cells_for access (still_value value)) (still_machine machine)) machine
     (ap (λ why. why ∷ use_stops (unmoved its) (length_of access) (still_machine machine)) (store_stop_still access value)
-      ∙ ap (λ ss. store_stop access value ∷ ss) (use_stops_still its (length_of access) machine used)) refl
+    ∙ ap (λ ss. store_stop access value ∷ ss) (use_stops_still its (length_of access) machine used)) refl
     (ap (λ cells. with_cells_at (unmoved its) cells (still_machine machine)) (cells_for_still access value)
-      ∙ with_cells_at_still its (cells_for access value) machine)
+    ∙ with_cells_at_still its (cells_for access value) machine)

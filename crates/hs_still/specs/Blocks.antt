@@ -2,10 +2,9 @@
 --     still_result f its         what it gives, mapped
 --     IsStill f role             the law of a role
 --     lock_still, .., reallocated_still, size_of_still, state_of_still
-use Rattle.std.proofs.Common.{◌≡◌, ℕ, zero, suc, ◌+◌, ◌-◌, ◌==◌, Bool, true, false, List, [], ◌∷◌, ◌++◌, map, take, length, replicate, Result, Ok, Err, refl, sym, ap, ◌∙◌, if◌then◌else◌}
+use Rattle.std.proofs.Common.{◌≡◌, ℕ, zero, suc, ◌+◌, ◌-◌, ◌==◌, Bool, true, false, [], ◌∷◌, ◌++◌, take, length, replicate, Result, Ok, Err, refl, sym, ap, ◌∙◌, if◌then◌else◌}
 use Rattle.std.proofs.lemmas.List.{take-map, length-map, map-append}
 use Rattle.hs_heap.specs.Blocks.{Block, new_block, standing, by_standing, changed, with_lock, with_purge_bit, with_state, without_cells, last_life, emptied, ended, disposed, bit, size_of, state_of, resized, renewed, reallocated}
-use Rattle.hs_heap.specs.declared.cell.Cell.{Cell}
 use Rattle.hs_heap.specs.declared.cell.Cell.TheVariants.{Undefined}
 use Rattle.hs_heap.specs.declared.presence.Presence.{Presence}
 use Rattle.hs_heap.specs.declared.presence.Presence.TheVariants.{Present, Emptied, Purged, Disposed}
@@ -123,7 +122,7 @@ reallocated_still size block is =
     (by_standing (renewed size (still_block block)) (renewed size (still_block block)) (standing (unpurged block.presence)))
     (changed_still (λ b. b) block refl is)
     (ap (λ it. by_standing it it (standing (unpurged block.presence))) same
-      ∙ role_still still_block (renewed size block) (renewed size block) (still_block (renewed size block)) block refl is)
+    ∙ role_still still_block (renewed size block) (renewed size block) (still_block (renewed size block)) block refl is)
   where
     same : renewed size (still_block block) ≡ still_block (renewed size block)
     same = ap (λ cells. record (still_block (renewed size block)) { cells = cells }) (sym (undefined_cells size))

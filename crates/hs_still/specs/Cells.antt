@@ -182,10 +182,15 @@ whole_still class (a ∷ []) = refl
 whole_still class (a ∷ b ∷ []) = refl
 whole_still class (a ∷ b ∷ c ∷ []) = refl
 whole_still class (a ∷ b ∷ c ∷ d ∷ []) =
-    rw (part_still class 0 a, part_still class 1 b, part_still class 2 c, part_still class 3 d,
+    rw (
+      part_still class 0 a,
+      part_still class 1 b,
+      part_still class 2 c,
+      part_still class 3 d,
       joined_still (part_in class 0 a) (part_in class 1 b),
       joined_still (joined (part_in class 0 a) (part_in class 1 b)) (part_in class 2 c),
-      joined_still (joined (joined (part_in class 0 a) (part_in class 1 b)) (part_in class 2 c)) (part_in class 3 d)) refl
+      joined_still (joined (joined (part_in class 0 a) (part_in class 1 b)) (part_in class 2 c)) (part_in class 3 d),
+    ) refl
 whole_still class (a ∷ b ∷ c ∷ d ∷ e ∷ cells) = refl
 
 pointer_at_still : (class : ℕ) (cells : List Cell) → pointer_at class (still_cells cells) ≡ optional_pointer (pointer_at class cells)

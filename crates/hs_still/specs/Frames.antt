@@ -1,7 +1,7 @@
 -- Calls that begin and end on the still machine. They test nothing for being stale or purged.
 --     opened_still, closed_still
 --     and_then_still           one operation after another
-use Rattle.std.proofs.Common.{◌≡◌, ℕ, suc, pos, ◌+◌, ◌-◌, nat_le, Bool, true, false, ◌&&◌, List, [], ◌∷◌, ◌++◌, map, length, take, replicate, slice_get, slice_set, Option, Some, None, option_map, refl, sym, ap, ◌∙◌, if◌then◌else◌}
+use Rattle.std.proofs.Common.{◌≡◌, ℕ, suc, pos, ◌+◌, Bool, true, false, List, [], ◌∷◌, map, length, take, replicate, slice_get, slice_set, Option, Some, None, option_map, refl, sym, ap, ◌∙◌, if◌then◌else◌}
 use Rattle.std.proofs.lemmas.List.{length-map, map-append}
 use Rattle.std.proofs.lemmas.Option.{slice_get-map}
 use Rattle.hs_heap.specs.declared.cell.Cell.{Cell}
@@ -10,7 +10,7 @@ use Rattle.hs_heap.specs.declared.cell.Pointer.TheVariants.{Fixed}
 use Rattle.hs_meaning.specs.Accesses.{stored}
 use Rattle.hs_meaning.specs.Classes.{class_of_type}
 use Rattle.hs_meaning.specs.Frames.{has_frame, in_frame, given_to, given_all, opened_if, opened, without_objects, back_to, closed}
-use Rattle.hs_meaning.specs.Machine.{Machine, Object, Binding, slot, object_at, automatic, Done, done, stopped, and_then, with_object, bytes_where, is_automatic, ended_object}
+use Rattle.hs_meaning.specs.Machine.{Machine, Object, Binding, slot, object_at, automatic, Done, done, stopped, and_then, with_object, is_automatic, ended_object}
 use Rattle.hs_meaning.specs.Objects.{bindings, objects_for}
 use Rattle.hs_meaning.specs.Settings.{Setting, access_of_type}
 use Rattle.hs_meaning.specs.Values.{Value}
@@ -92,7 +92,7 @@ objects_still types (variable ∷ rest) =
     either_mapped still_object (is_slot types variable) (objects_for types rest)
     (object_with (replicate (size_of types variable.type_id) Undefined) ∷ objects_for types rest) (objects_still types rest)
     (ap (λ cells. object_with cells ∷ objects_for types rest) (sym (undefined_cells (size_of types variable.type_id)))
-      ∙ ap (λ them. still_object (object_with (replicate (size_of types variable.type_id) Undefined)) ∷ them) (objects_still types rest))
+    ∙ ap (λ them. still_object (object_with (replicate (size_of types variable.type_id) Undefined)) ∷ them) (objects_still types rest))
 
 has_frame_still : (new : List Object) (machine : Machine) → has_frame new (still_machine machine) ≡ has_frame new machine
 has_frame_still new machine =

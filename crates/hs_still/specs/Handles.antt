@@ -4,7 +4,7 @@
 --     live_bytes_still, bytes_where_still                        bytes that are counted
 --     handle_if_still, with_block_still, object_if_still, with_object_if_still      what is made
 --     dispose_stop_still, disposed_object_still                  objects that are disposed
-use Rattle.std.proofs.Common.{◌≡◌, ℤ, ℕ, suc, pos, ◌+◌, ◌-◌, ◌==◌, nat_le, nat_lt, Bool, true, false, not, ◌&&◌, List, [], ◌∷◌, ◌++◌, map, length, replicate, slice_get, Option, Some, None, option_map, Result, Ok, Err, refl, sym, ap, ◌∙◌, if◌then◌else◌}
+use Rattle.std.proofs.Common.{◌≡◌, ℤ, ℕ, pos, ◌+◌, ◌-◌, ◌==◌, nat_le, nat_lt, Bool, true, false, not, ◌&&◌, List, [], ◌∷◌, ◌++◌, map, length, replicate, slice_get, Option, Some, None, option_map, Result, Ok, Err, refl, sym, ap, ◌∙◌, if◌then◌else◌}
 use Rattle.std.proofs.lemmas.List.{length-map, map-append}
 use Rattle.std.proofs.lemmas.Option.{slice_get-map}
 use Rattle.std.specs.List.{fold, list_any}
@@ -16,10 +16,10 @@ use Rattle.hs_heap.specs.declared.cell.Pointer.{Pointer}
 use Rattle.hs_heap.specs.declared.cell.Pointer.TheVariants.{Nil, Fixed, Handle, Spot}
 use Rattle.hs_heap.specs.declared.stop.HeapStop.{HeapStop}
 use Rattle.hs_meaning.specs.Handles.{handle_stop_in, handle_stop, with_result, changed_in, changed_by, answer_in, answer_of_block, answer_by, is_size, size_in, size_for, is_granted, asked, has_room_after, reshaped_in, reshaped_by, if_granted, makes_block, makes_object, handle_if, object_if, with_block, with_object_if, may_dispose, dispose_stop, disposed_object}
-use Rattle.hs_meaning.specs.Machine.{Machine, Object, Storage, allocated, is_allocated, ended_object, bytes_if, bytes_where, has_room_for, with_blocks, with_object, new_object}
+use Rattle.hs_meaning.specs.Machine.{Machine, Object, Storage, allocated, is_allocated, ended_object, bytes_if, bytes_where, has_room_for, with_blocks, new_object}
 use Rattle.hs_meaning.specs.Numbers.{signed}
 use Rattle.hs_meaning.specs.Stops.{stops_if, heap_stop}
-use Rattle.hs_meaning.specs.Values.{Value, pointer, bits_in, unmoved}
+use Rattle.hs_meaning.specs.Values.{Value, pointer, unmoved}
 use Rattle.hs_meaning.specs.declared.outcome.Stop.TheVariants as stop
 use Rattle.hs_still.specs.Accesses.{map_set, put_block_still, with_object_still}
 use Rattle.hs_still.specs.Blocks.{still_result, IsStill, same_number, undefined_cells, new_block_still}
@@ -166,7 +166,7 @@ module _ (lives : Block → Bool) (alike : (block : Block) → lives (still_bloc
       ap (λ r. if lives (still_block block) && has_room_after n r (still_machine machine) then with_result n r (still_machine machine) else still_machine machine)
       (is block used)
       ∙ ap (λ z. if z && has_room_after n (still_result still_block (role block)) (still_machine machine)
-        then with_result n (still_result still_block (role block)) (still_machine machine) else still_machine machine) (alike block)
+      then with_result n (still_result still_block (role block)) (still_machine machine) else still_machine machine) (alike block)
       ∙ ap (λ z. if lives block && z then with_result n (still_result still_block (role block)) (still_machine machine) else still_machine machine)
       (room_after_still n (role block) machine)
       ∙ ap (λ m. if lives block && has_room_after n (role block) machine then m else still_machine machine) (with_result_still n (role block) machine)

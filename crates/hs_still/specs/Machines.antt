@@ -16,7 +16,6 @@ use Rattle.hs_meaning.specs.Evaluation.{Location, in_slot, at_address}
 use Rattle.hs_meaning.specs.Machine.{Machine, Object, Binding, slot, object_at, Done, done, stopped}
 use Rattle.hs_meaning.specs.Steps.{State as RunState, Ran, went, over}
 use Rattle.hs_meaning.specs.Values.{Value, number, pointer, state, structure, unmoved}
-use Rattle.hs_meaning.specs.declared.outcome.Outcome.{Outcome}
 
 -- ---- values
 

@@ -2,7 +2,7 @@
 --     MapsAt f step still s       from the still state the one comes to the still image of what the other comes to
 --     thens, gives, over_maps     one after the other; a step that does nothing; the end of the run
 --     act_maps, turn_maps, decides, used_maps, variable_maps, address_maps
-use Rattle.std.proofs.Common.{◌≡◌, ℕ, zero, suc, pos, Bool, true, false, ◌||◌, List, [], ◌∷◌, Option, Some, None, option_map, refl, sym, ap, ◌∙◌}
+use Rattle.std.proofs.Common.{◌≡◌, ℕ, zero, suc, Bool, true, false, ◌||◌, Option, Some, None, option_map, refl, sym, ap, ◌∙◌}
 use Rattle.hs_base.specs.declared.pos.Pos.{Pos}
 use Rattle.hs_heap.specs.Shift.{Powers}
 use Rattle.hs_meaning.specs.Accesses.{by_stop}

@@ -1,8 +1,8 @@
 -- All operations on the still machine.
 --     operate_still            an operation of which no operand that it tests is stale or purged
 --     untested_still           an operation that tests no operand
-use Rattle.std.proofs.Common.{◌≡◌, ℕ, Bool, true, false, List, [], ◌∷◌, map, slice_get, Option, Some, None, refl, ap, ◌∙◌}
-use Rattle.hs_meaning.specs.Accesses.{loaded, stored, unless_stopped}
+use Rattle.std.proofs.Common.{◌≡◌, Bool, true, false, List, [], ◌∷◌, map, slice_get, Option, Some, None, refl, ap, ◌∙◌}
+use Rattle.hs_meaning.specs.Accesses.{unless_stopped}
 use Rattle.hs_meaning.specs.Machine.{Machine}
 use Rattle.hs_meaning.specs.Operations.{Operation, load, store, routine, operation_stops, operation_value, operation_machine, as_kind, by_role, is_plain, called_by, called_as, called, operate}
 use Rattle.hs_meaning.specs.Roles.{role_stops, role_value, role_machine}
@@ -42,7 +42,7 @@ by_role_still types its prototype values machine used =
     (role_machine its values machine) (role_machine its (map still_value values) (still_machine machine)) machine
     (role_stops_still its values machine used)
     (ap (as_kind (number_kind types prototype.result)) (role_value_still its values machine used)
-      ∙ as_kind_still (number_kind types prototype.result) (role_value its values machine))
+    ∙ as_kind_still (number_kind types prototype.result) (role_value its values machine))
     (role_machine_still its values machine used)
 
 plain_uses : (its : Role) (values : List Value) (machine : Machine) → is_plain its ≡ true → CallUses its values machine → AllUsed values machine

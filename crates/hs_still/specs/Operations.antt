@@ -1,18 +1,15 @@
 -- Operations that are no load, no store and no routine, on the still machine.
 --     binding_still, value_of_slot_still, with_value_still      variables
 --     operation_stops_still, operation_value_still, operation_machine_still
-use Rattle.std.proofs.Common.{◌≡◌, ℕ, pos, ◌==◌, ◌&&◌, Bool, true, false, List, [], ◌∷◌, map, slice_get, Option, Some, None, option_map, refl, ap, ◌∙◌}
+use Rattle.std.proofs.Common.{◌≡◌, pos, ◌==◌, true, false, List, [], ◌∷◌, map, Option, Some, None, option_map, refl, ap, ◌∙◌}
 use Rattle.std.proofs.lemmas.Option.{slice_get-map}
 use Rattle.hs_heap.specs.declared.cell.Pointer.{Pointer}
 use Rattle.hs_heap.specs.declared.cell.Pointer.TheVariants.{Nil, Fixed, Handle, Spot}
 use Rattle.hs_meaning.specs.Machine.{Machine, Binding, slot, object_at, binding_of, value_of_slot, with_value}
-use Rattle.hs_meaning.specs.Numbers.{sign_of, arithmetic_of, divides, answer_of, truth}
-use Rattle.hs_meaning.specs.Operations.{Operation, get, set, load, store, convert, sign, not_, arithmetic, comparison, is_nil, compare, difference, offset, step, routine, slot_stop, convert_stop, converted_value, is_nil_pointer, step_stops, stepped, operation_stops, operation_value, operation_machine}
-use Rattle.hs_meaning.specs.Pointers.{compare_stops, difference_stops, pointer_answer, difference_of, moved_stop, moved_by, stride_bytes}
-use Rattle.hs_meaning.specs.Stops.{stops_if}
-use Rattle.hs_meaning.specs.Values.{Value, number, pointer, state, structure, bits_in, pointer_in, number_stop, pointer_stop, or_nothing, unmoved}
-use Rattle.hs_meaning.specs.declared.outcome.Stop.{Stop}
-use Rattle.hs_meaning.specs.declared.outcome.Stop.TheVariants as stop
+use Rattle.hs_meaning.specs.Numbers.{sign_of, arithmetic_of, answer_of, truth}
+use Rattle.hs_meaning.specs.Operations.{Operation, get, set, convert, sign, not_, arithmetic, comparison, is_nil, compare, difference, offset, step, slot_stop, convert_stop, converted_value, is_nil_pointer, step_stops, stepped, operation_stops, operation_value, operation_machine}
+use Rattle.hs_meaning.specs.Pointers.{moved_by, stride_bytes}
+use Rattle.hs_meaning.specs.Values.{Value, number, pointer, state, structure, bits_in, pointer_in, pointer_stop, or_nothing, unmoved}
 use Rattle.hs_still.specs.Accesses.{map_set}
 use Rattle.hs_still.specs.Cells.{bits_still, pointer_still, number_stop_still, pointer_stop_still, or_nothing_still}
 use Rattle.hs_still.specs.Machines.{still_value, still_optional, still_binding, still_machine}
@@ -63,8 +60,13 @@ convert_stop_still (structure cells) = refl
 
 step_stops_still : (stride : Stride) (its by : Value) → step_stops stride (still_value its) (still_value by) ≡ step_stops stride its by
 step_stops_still stride its by =
-    rw (number_stop_still by, pointer_stop_still its, bits_still by, pointer_still its,
-      moved_stop_still (stride_bytes stride (bits_in by)) (pointer_in its)) refl
+    rw (
+      number_stop_still by,
+      pointer_stop_still its,
+      bits_still by,
+      pointer_still its,
+      moved_stop_still (stride_bytes stride (bits_in by)) (pointer_in its),
+    ) refl
 
 -- why an operation stops
 pub operation_stops_still : (its : Operation) (values : List Value) (machine : Machine) → OperationUses its values machine

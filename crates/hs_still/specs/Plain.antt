@@ -8,11 +8,11 @@ use Rattle.hs_heap.specs.declared.cell.Cell.{Cell}
 use Rattle.hs_heap.specs.declared.cell.Cell.TheVariants.{Byte}
 use Rattle.hs_heap.specs.declared.cell.Pointer.{Pointer}
 use Rattle.hs_heap.specs.declared.cell.Pointer.TheVariants.{Nil, Fixed, Handle, Spot}
-use Rattle.hs_meaning.specs.Accesses.{use_stops, with_cells_at}
+use Rattle.hs_meaning.specs.Accesses.{with_cells_at}
 use Rattle.hs_meaning.specs.Handles.{handle_if, object_if}
 use Rattle.hs_meaning.specs.Machine.{Machine, Object, Done, done, allocated, has_room_for, new_object, with_blocks}
 use Rattle.hs_meaning.specs.Plain.{gone_stop, used_stop, pointer_used, pointers_used, byte_stop, argument_stops, word_of, words_of, line_of, answers, later_words, bytes_of_words, words_for, argument, fill_size, fill_stops, filled, next_word, one_word_less, made_size, made_block, made_object, points_to_pointer, pointed_size, new_value, pointer_result, result_by, result_of, then_unless, with_line, after_line, plain}
-use Rattle.hs_meaning.specs.Stops.{Stops, stops_if, first_stop}
+use Rattle.hs_meaning.specs.Stops.{stops_if, first_stop}
 use Rattle.hs_meaning.specs.Values.{Value, number, pointer, state, structure, pointer_in, unmoved}
 use Rattle.hs_meaning.specs.declared.outcome.Stop.{Stop}
 use Rattle.hs_meaning.specs.declared.outcome.Stop.TheVariants as stop
@@ -27,7 +27,6 @@ use Rattle.hs_still.specs.Uses.{Current, Used, use_stops_still}
 use Rattle.hs_table.specs.declared.routine.Routine.{Routine}
 use Rattle.hs_tree.specs.Kinds.{number_kind, pointed, size_at}
 use Rattle.hs_tree.specs.declared.function.Prototype.{Prototype}
-use Rattle.hs_types.specs.Integers.{converted}
 use Rattle.hs_types.specs.TypeTables.{TypeTable}
 use Rattle.hs_types.specs.declared.integer.Integer.{Integer}
 use Rattle.hs_types.specs.declared.row.TypeId.{TypeId}
@@ -141,7 +140,7 @@ filled_still : (target : Option Value) (size : ℕ) (machine : Machine)
 filled_still None size machine = refl
 filled_still (Some value) size machine =
     ap (λ p. with_words (later_words (words_for size) machine.words)
-      (with_cells_at p (map Byte (filling size machine.words)) (still_machine machine))) (pointer_still value)
+    (with_cells_at p (map Byte (filling size machine.words)) (still_machine machine))) (pointer_still value)
     ∙ ap (λ cells. with_words (later_words (words_for size) machine.words) (with_cells_at (unmoved (pointer_in value)) cells (still_machine machine)))
     (sym (bytes_still (filling size machine.words)))
     ∙ ap (with_words (later_words (words_for size) machine.words))
@@ -187,9 +186,9 @@ pointer_result_still types size target is_zero machine = by_test (points_to_poin
   where
     by_test : (z : Bool)
         → (if z then new_value true (made_size size (pointed_size types target)) is_zero (still_machine machine)
-          else new_value false (made_size size (size_at types target)) is_zero (still_machine machine))
+        else new_value false (made_size size (size_at types target)) is_zero (still_machine machine))
         ≡ still_done still_value (if z then new_value true (made_size size (pointed_size types target)) is_zero machine
-          else new_value false (made_size size (size_at types target)) is_zero machine)
+        else new_value false (made_size size (size_at types target)) is_zero machine)
     by_test true = new_value_still true (made_size size (pointed_size types target)) is_zero machine
     by_test false = new_value_still false (made_size size (size_at types target)) is_zero machine
 
@@ -246,7 +245,7 @@ module _ (types : TypeTable) (routine : Routine) (prototype : Prototype) (values
       (words_still types prototype.parameters values)
       ∙ ap (then_unless (first_stop (argument_stops routine.fills values machine)) (still_machine machine))
       (after_line_still (with_line (line_of routine.name types prototype.parameters values) machine)
-        (fill_line (argument routine.fills values) (line_of routine.name types prototype.parameters values) machine
-          (argument_used routine.fills values machine used)))
+      (fill_line (argument routine.fills values) (line_of routine.name types prototype.parameters values) machine
+      (argument_used routine.fills values machine used)))
       ∙ then_unless_still still_value (first_stop (argument_stops routine.fills values machine)) machine
       (after_line types routine prototype values (with_line (line_of routine.name types prototype.parameters values) machine))

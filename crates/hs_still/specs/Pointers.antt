@@ -3,18 +3,15 @@
 --     compare_stops_still, difference_stops_still
 --     answer_still, difference_still       what a comparison answers, and a difference
 --     moved_still, moved_stop_still        a pointer that goes on, and why it does not
-use Rattle.std.proofs.Common.{◌≡◌, ℤ, ℕ, ◌&&◌, Bool, true, false, not, [], ◌∷◌, Option, Some, None, option_map, refl, ap, ◌∙◌, if◌then◌else◌}
+use Rattle.std.proofs.Common.{◌≡◌, ℤ, ℕ, not, Option, Some, None, option_map, refl, ap, ◌∙◌}
 use Rattle.hs_heap.specs.Blocks.{Block}
 use Rattle.hs_heap.specs.Memory.{block_at}
 use Rattle.hs_heap.specs.declared.cell.Pointer.{Pointer}
 use Rattle.hs_heap.specs.declared.cell.Pointer.TheVariants.{Nil, Fixed, Handle, Spot}
 use Rattle.hs_heap.specs.declared.cell.Spot as spot
 use Rattle.hs_meaning.specs.Machine.{Machine}
-use Rattle.hs_meaning.specs.Numbers.{bits_of}
-use Rattle.hs_meaning.specs.Pointers.{current_in, current_stop, offsets_of, are_apart, orders, compare_stops, difference_stops, order_in, pointer_answer, bytes_between, difference_of, moved_stop, moved_by}
-use Rattle.hs_meaning.specs.Stops.{stops_if}
+use Rattle.hs_meaning.specs.Pointers.{current_in, current_stop, offsets_of, compare_stops, difference_stops, order_in, pointer_answer, difference_of, moved_stop, moved_by}
 use Rattle.hs_meaning.specs.Values.{unmoved}
-use Rattle.hs_meaning.specs.declared.outcome.Stop.TheVariants as stop
 use Rattle.hs_still.specs.Cells.{one_still}
 use Rattle.hs_still.specs.Machines.{still_block, still_machine}
 use Rattle.hs_still.specs.Uses.{CurrentIn, Current, block_at_still, disposed_still, same_epoch}

@@ -1,23 +1,20 @@
 -- The roles of routines on the still machine.
 --     role_stops_still, role_value_still, role_machine_still
-use Rattle.std.proofs.Common.{◌≡◌, ℕ, ◌%◌, Bool, true, false, not, List, [], ◌∷◌, ◌++◌, map, Result, refl, ap, ◌∙◌}
+use Rattle.std.proofs.Common.{◌≡◌, ◌%◌, Bool, true, false, List, [], ◌∷◌, map, Result, refl, ap, ◌∙◌}
 use Rattle.hs_heap.specs.Blocks.{Block, emptied, disposed, size_of, resized, with_lock, with_purge_bit, state_of, with_state, reallocated, has_life}
 use Rattle.hs_heap.specs.declared.cell.Pointer.{Pointer}
 use Rattle.hs_heap.specs.declared.cell.Pointer.TheVariants.{Nil, Fixed, Handle, Spot}
 use Rattle.hs_heap.specs.declared.stop.HeapStop.{HeapStop}
-use Rattle.hs_meaning.specs.Accesses.{use_stops, cells_at, with_cells_at}
-use Rattle.hs_meaning.specs.Handles.{changed_by, if_granted, asked, reshaped_by, any_life, makes_block, makes_object, handle_if, object_if, with_block, with_object_if, dispose_stop, disposed_object, is_size, size_for}
+use Rattle.hs_meaning.specs.Accesses.{cells_at}
+use Rattle.hs_meaning.specs.Handles.{changed_by, if_granted, asked, reshaped_by, any_life, makes_block, makes_object, handle_if, object_if, with_block, with_object_if, size_for}
 use Rattle.hs_meaning.specs.Machine.{Machine}
-use Rattle.hs_meaning.specs.Numbers.{signed}
 use Rattle.hs_meaning.specs.Roles.{is_handle, state_stop, state_in, put, handle_stops, move_stops, role_stops, role_value, role_machine}
-use Rattle.hs_meaning.specs.Stops.{stops_if}
-use Rattle.hs_meaning.specs.Values.{Value, number, pointer, state, structure, bits_in, pointer_in, number_stop, pointer_stop, unmoved}
-use Rattle.hs_meaning.specs.declared.outcome.Stop.TheVariants as stop
+use Rattle.hs_meaning.specs.Values.{Value, number, pointer, state, structure, pointer_in, number_stop, pointer_stop, unmoved}
 use Rattle.hs_still.specs.Accesses.{cells_at_still, with_cells_at_still}
 use Rattle.hs_still.specs.Blocks.{IsStill, same_number, lock_still, purge_still, state_still, emptied_still, disposed_role_still, resized_still, reallocated_still, size_of_still, state_of_still}
 use Rattle.hs_still.specs.Cells.{bits_still, pointer_still, number_stop_still, pointer_stop_still}
 use Rattle.hs_still.specs.Handles.{handle_stop_still, changed_by_still, answer_by_still, size_for_still, if_granted_still, reshaped_by_still, unpurged_asked, makes_block_still, makes_object_still, handle_if_still, object_if_still, with_block_still, with_object_if_still, dispose_stop_still, disposed_object_still}
-use Rattle.hs_still.specs.Machines.{still_cells, still_value, still_block, still_machine}
+use Rattle.hs_still.specs.Machines.{still_value, still_block, still_machine}
 use Rattle.hs_still.specs.Tests.{RoleUses}
 use Rattle.hs_still.specs.Uses.{Current, Unpurged, use_stops_still}
 use Rattle.hs_table.specs.declared.role.Role.{Role}
@@ -52,8 +49,14 @@ handle_stops_still f role is value machine used =
 move_stops_still : (from to : Pointer) (count : Value) (machine : Machine) → Current from machine → Current to machine
     → move_stops (unmoved from) (unmoved to) (still_value count) (still_machine machine) ≡ move_stops from to count machine
 move_stops_still from to count machine first second =
-    rw (number_stop_still count, is_handle_still from, is_handle_still to, bits_still count,
-      use_stops_still from (size_for count) machine first, use_stops_still to (size_for count) machine second) refl
+    rw (
+      number_stop_still count,
+      is_handle_still from,
+      is_handle_still to,
+      bits_still count,
+      use_stops_still from (size_for count) machine first,
+      use_stops_still to (size_for count) machine second,
+    ) refl
 
 -- ---- why they stop
 

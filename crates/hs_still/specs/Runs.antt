@@ -11,16 +11,14 @@ use Rattle.hs_code_run.specs.Runs.{Comes, halted, onward, starting_point, begun,
 use Rattle.hs_code_run.specs.Steps.{stepped}
 use Rattle.hs_heap.specs.declared.decision.Decision.{Decision}
 use Rattle.hs_meaning.specs.Frames.{opened}
-use Rattle.hs_meaning.specs.Machine.{Machine}
-use Rattle.hs_meaning.specs.Objects.{starting_machine}
 use Rattle.hs_meaning.specs.Runs.{Ending, starting}
 use Rattle.hs_meaning.specs.Settings.{Setting}
-use Rattle.hs_meaning.specs.Steps.{State as RunState, Ran, went, over, Step, give, acts, then_with}
+use Rattle.hs_meaning.specs.Steps.{State as RunState, Ran, went, over, give, then_with}
 use Rattle.hs_meaning.specs.declared.input.Input.{Input}
 use Rattle.hs_meaning.specs.declared.outcome.Outcome.{Outcome}
 use Rattle.hs_still.specs.Frames.{same_unit, opened_still}
-use Rattle.hs_still.specs.Machines.{still_machine, still_state, still_point, still_ran}
-use Rattle.hs_still.specs.Maps.{MapsAt, thens, gives, act_maps}
+use Rattle.hs_still.specs.Machines.{still_state, still_point, still_ran}
+use Rattle.hs_still.specs.Maps.{thens, gives, act_maps}
 use Rattle.hs_still.specs.Starts.{starting_still}
 use Rattle.hs_still.specs.Steps.{StepUses, step_still}
 
@@ -91,8 +89,8 @@ pub begun_still : (program : CodeProgram) (choices : List Bool) (function : Code
 begun_still program choices function s =
     (thens same_unit still_point s (λ it. give (starting_point function choices))
     (act_maps same_unit function.opening (opened program.setting function.parameters function.variables [])
-      (opened program.setting function.parameters function.variables []) s
-      (opened_still program.setting function.parameters function.variables [] s.machine))
+    (opened program.setting function.parameters function.variables []) s
+    (opened_still program.setting function.parameters function.variables [] s.machine))
     (λ it t. gives still_point (starting_point function choices) (starting_point function choices) t refl)).is
 
 -- a run begins with a state that is still, but for its schedule
@@ -129,7 +127,7 @@ comes_with_still program input schedule choices turns None outcome after comes u
 comes_with_still program input schedule choices turns (Some function) outcome after comes uses =
     subst (λ ran. ComesFrom program ran outcome (still_state after))
     (sym (begun_still program choices function (starting program.setting input schedule turns))
-      ∙ ap (begun program choices function) (starting_state program.setting input schedule turns))
+    ∙ ap (begun program choices function) (starting_state program.setting input schedule turns))
     (comes_from_still program (begun program choices function (starting program.setting input schedule turns)) outcome after comes uses)
 
 -- If no step of a run tests an operand that is stale or purged, then the run without a schedule ends as it does, with the same output.

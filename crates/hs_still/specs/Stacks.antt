@@ -1,6 +1,6 @@
 -- Stacks of values on the still machine: what is taken from them, and what is left.
 --     taken_still, below_still, holds_still, brought_still
-use Rattle.std.proofs.Common.{◌≡◌, ℕ, zero, suc, Bool, List, [], ◌∷◌, map, Option, Some, None, refl, ap, ◌∙◌}
+use Rattle.std.proofs.Common.{◌≡◌, ℕ, zero, suc, List, [], ◌∷◌, map, Option, Some, None, refl, ap, ◌∙◌}
 use Rattle.hs_code_run.specs.Steps.{taken_onto, taken, below, holds, under, picked, on_top, brought}
 use Rattle.hs_meaning.specs.Values.{Value}
 use Rattle.hs_still.specs.Machines.{still_value}

@@ -1,7 +1,7 @@
 -- What was never moved is its own still image, and so is the machine with which a run begins.
 --     machine_itself       a machine on which nothing was moved or purged
 --     starting_still       the machine before `main` is called
-use Rattle.std.proofs.Common.{◌≡◌, ℕ, List, [], ◌∷◌, map, Option, Some, None, refl, sym, ap, ◌∙◌}
+use Rattle.std.proofs.Common.{◌≡◌, List, [], ◌∷◌, map, Some, None, refl, sym, ap, ◌∙◌}
 use Rattle.std.specs.List.{AllByRecursion}
 use Rattle.hs_heap.specs.Blocks.{Block}
 use Rattle.hs_heap.specs.declared.cell.Cell.{Cell}
@@ -17,7 +17,7 @@ use Rattle.hs_meaning.specs.Objects.{starting_machine}
 use Rattle.hs_meaning.specs.Settings.{Setting}
 use Rattle.hs_meaning.specs.Values.{Value, number, pointer, state, structure, unmoved}
 use Rattle.hs_meaning.specs.declared.input.Input.{Input}
-use Rattle.hs_still.specs.Machines.{still_cell, still_cells, still_value, still_optional, unpurged, still_block, still_object, still_binding, still_machine}
+use Rattle.hs_still.specs.Machines.{still_cell, still_cells, still_value, unpurged, still_block, still_object, still_binding, still_machine}
 
 -- what is mapped to itself, each
 all_itself : {A : Type 0} → (P : A → Type 0) (f : A → A) → ((it : A) → P it → f it ≡ it) → (xs : List A) → AllByRecursion P xs → map f xs ≡ xs

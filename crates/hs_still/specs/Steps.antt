@@ -3,7 +3,7 @@
 --     tests_at program its          the operation tests an operand
 --     step_still                    the step on the still point and the still state
 --     untested_step                 the same of an operation that tests no operand, which asks nothing
-use Rattle.std.proofs.Common.{◌≡◌, ℕ, zero, suc, pos, ◌==◌, not, Bool, true, false, ◌||◌, List, [], ◌∷◌, map, slice_get, Option, Some, None, refl, sym, ap, ◌∙◌}
+use Rattle.std.proofs.Common.{◌≡◌, ℕ, ◌==◌, Bool, true, false, List, [], ◌∷◌, map, slice_get, Option, Some, None, refl, ap, ◌∙◌}
 use Rattle.hs_base.specs.declared.pos.Pos.{Pos}
 use Rattle.hs_code.specs.declared.function_code.Placed.{Placed}
 use Rattle.hs_code.specs.declared.op.Object.{Object}
@@ -12,23 +12,21 @@ use Rattle.hs_code.specs.declared.op.Op.{Op}
 use Rattle.hs_code.specs.declared.op.Op.TheVariants as op
 use Rattle.hs_code_run.specs.Codes.{CodeFunction, CodeProgram, Waiting, Point}
 use Rattle.hs_code_run.specs.Steps.{stepped, stepped_at, by_stack, by_operation, operates_if, routine_called, function_called, returned_to, entered, operation_of, routine_arguments, taken, below, holds, brought, address_at, onward, onto, onto_if, case_for, next_choice, later_choices}
-use Rattle.hs_meaning.specs.Evaluation.{Location, variable_at, address_of, decided_by, powers_of}
 use Rattle.hs_meaning.specs.Frames.{opened}
-use Rattle.hs_meaning.specs.Machine.{Machine, Binding, Done, done}
+use Rattle.hs_meaning.specs.Machine.{Machine, Binding, done}
 use Rattle.hs_meaning.specs.Numbers.{signed}
 use Rattle.hs_meaning.specs.Operations as operation
 use Rattle.hs_meaning.specs.Operations.{Operation, operate}
 use Rattle.hs_meaning.specs.Runs.{own_locals, closes}
-use Rattle.hs_meaning.specs.Steps.{State as RunState, Ran, Step, ◌>>=◌, ◌>>◌, give, ends, acts, either, decided, used, turn}
+use Rattle.hs_meaning.specs.Steps.{State as RunState, Step, ◌>>=◌, ◌>>◌, give, ends, acts, used}
 use Rattle.hs_meaning.specs.Values.{Value}
 use Rattle.hs_meaning.specs.declared.outcome.Outcome.TheVariants.{Finished}
 use Rattle.hs_still.specs.Frames.{same_unit, opened_still, closed_still}
-use Rattle.hs_still.specs.Machines.{still_value, still_binding, still_machine, still_state, still_waiting, still_point, still_location, still_done, still_ran}
+use Rattle.hs_still.specs.Machines.{still_value, still_binding, still_machine, still_state, still_waiting, still_point, still_location, still_ran}
 use Rattle.hs_still.specs.Maps.{MapsAt, thens, gives, over_maps, act_maps, turn_maps, decides, used_maps, variable_maps, address_maps}
 use Rattle.hs_still.specs.Operate.{operate_still}
 use Rattle.hs_still.specs.Stacks.{taken_still, below_still, holds_still, brought_still}
 use Rattle.hs_still.specs.Tests.{UsedBy, tests, untested}
-use Rattle.hs_tree.specs.declared.function.BoundRoutine.{BoundRoutine}
 
 -- ---- what a step tests
 
@@ -88,12 +86,12 @@ module _ (program : CodeProgram) (at : Pos) (point : Point) (s : RunState) where
   operates_still true count its uses =
       thens still_value still_point s _
       (act_maps still_value at (operate program.setting its (taken count point.frame.stack))
-        (operate program.setting its (taken count (map still_value point.frame.stack))) s
-        (ap (λ values. operate program.setting its values (still_machine s.machine)) (taken_still count point.frame.stack)
-          ∙ operate_still program.setting its (taken count point.frame.stack) s.machine uses))
+      (operate program.setting its (taken count (map still_value point.frame.stack))) s
+      (ap (λ values. operate program.setting its values (still_machine s.machine)) (taken_still count point.frame.stack)
+      ∙ operate_still program.setting its (taken count point.frame.stack) s.machine uses))
       (λ value t. gives still_point (onward point (value ∷ below count point.frame.stack))
-        (onward (still_point point) (still_value value ∷ below count (map still_value point.frame.stack))) t
-        (ap (λ stack. onward (still_point point) (still_value value ∷ stack)) (below_still count point.frame.stack)))
+      (onward (still_point point) (still_value value ∷ below count (map still_value point.frame.stack))) t
+      (ap (λ stack. onward (still_point point) (still_value value ∷ stack)) (below_still count point.frame.stack)))
   operates_still false count its uses = over_maps still_point s
 
   -- the same if there are as many values
@@ -103,7 +101,7 @@ module _ (program : CodeProgram) (at : Pos) (point : Point) (s : RunState) where
   held_still count its uses =
       record {
         is = ap (λ b. operates_if program at (still_point point) b count its (still_state s)) (holds_still count point.frame.stack)
-          ∙ (operates_still (holds count point.frame.stack) count its uses).is;
+            ∙ (operates_still (holds count point.frame.stack) count its uses).is;
       }
 
   routine_still : (place : ℕ) (count : Option ℕ) → ArgumentsUsed program place count point.frame.stack s.machine
@@ -136,18 +134,18 @@ module _ (program : CodeProgram) (at : Pos) (point : Point) (s : RunState) where
       act_maps same_unit at (opened program.setting function.parameters function.variables (taken function.parameters point.frame.stack))
       (opened program.setting function.parameters function.variables (taken function.parameters (map still_value point.frame.stack))) t
       (ap (λ values. opened program.setting function.parameters function.variables values (still_machine t.machine))
-        (taken_still function.parameters point.frame.stack)
-        ∙ opened_still program.setting function.parameters function.variables (taken function.parameters point.frame.stack) t.machine)
+      (taken_still function.parameters point.frame.stack)
+      ∙ opened_still program.setting function.parameters function.variables (taken function.parameters point.frame.stack) t.machine)
 
   called_still : (function : Option CodeFunction) → Both (function_called program at point function) (function_called program at (still_point point) function)
   called_still None = over_maps still_point s
   called_still (Some function) =
       thens same_unit still_point s (λ it. acts at own_locals >>= (λ locals. opens function (still_point point) >> enters function locals)) (turn_maps s)
       (λ it t. thens (λ locals. map still_binding locals) still_point t (λ locals. opens function (still_point point) >> enters function locals)
-        (act_maps (λ locals. map still_binding locals) at own_locals own_locals t refl)
-        (λ locals u. thens same_unit still_point u (λ it. enters function (map still_binding locals)) (opens_still function u)
-          (λ it v. gives still_point (entered program at point function locals)
-            (entered program at (still_point point) function (map still_binding locals)) v (entered_still function locals))))
+      (act_maps (λ locals. map still_binding locals) at own_locals own_locals t refl)
+      (λ locals u. thens same_unit still_point u (λ it. enters function (map still_binding locals)) (opens_still function u)
+      (λ it v. gives still_point (entered program at point function locals)
+      (entered program at (still_point point) function (map still_binding locals)) v (entered_still function locals))))
 
   -- the call that waited goes on
   abbrev resumed : Value → Waiting → List Waiting → Point
@@ -164,7 +162,7 @@ module _ (program : CodeProgram) (at : Pos) (point : Point) (s : RunState) where
       thens same_unit still_point s (λ it. used at (still_value value) >>= finishes)
       (act_maps same_unit at (closes []) (closes []) s (ap (done tt) (closed_still [] s.machine)))
       (λ it t. thens (λ bits. bits) still_point t finishes (used_maps at value t)
-        (λ bits u. over_maps still_point u {outcome = Finished (signed bits)}))
+      (λ bits u. over_maps still_point u {outcome = Finished (signed bits)}))
   returned_still value (caller ∷ rest) =
       thens same_unit still_point s (λ it. give (still_point (resumed value caller rest)))
       (act_maps same_unit at (closes caller.locals) (closes (map still_binding caller.locals)) s (ap (done tt) (closed_still caller.locals s.machine)))
@@ -191,17 +189,17 @@ module _ (program : CodeProgram) (at : Pos) (point : Point) (s : RunState) where
   by_stack_still op.Nil stack uses = moves _ _ refl
   by_stack_still (op.Address its) stack uses =
       thens still_value still_point s _ (address_still its) (λ value t. gives still_point (onward point (value ∷ stack))
-        (onward (still_point point) (still_value value ∷ map still_value stack)) t refl)
+      (onward (still_point point) (still_value value ∷ map still_value stack)) t refl)
   by_stack_still op.Drop (value ∷ stack) uses = moves _ _ refl
   by_stack_still op.Dup (value ∷ stack) uses = moves _ _ refl
   by_stack_still op.Tuck (value ∷ under ∷ stack) uses = moves _ _ refl
   by_stack_still (op.Jump target) stack uses = moves _ _ refl
   by_stack_still (op.Zero target) (value ∷ stack) uses =
       thens (λ bits. bits) still_point s _ (used_maps at value s) (λ bits t. gives still_point (onto_if (bits == 0) point target stack)
-        (onto_if (bits == 0) (still_point point) target (map still_value stack)) t (onto_if_still (bits == 0) target stack))
+      (onto_if (bits == 0) (still_point point) target (map still_value stack)) t (onto_if_still (bits == 0) target stack))
   by_stack_still (op.Choose goal) (value ∷ stack) uses =
       thens (λ bits. bits) still_point s _ (used_maps at value s) (λ bits t. gives still_point (onto point (case_for bits goal point.frame.code.cases) stack)
-        (onto (still_point point) (case_for bits goal point.frame.code.cases) (map still_value stack)) t refl)
+      (onto (still_point point) (case_for bits goal point.frame.code.cases) (map still_value stack)) t refl)
   by_stack_still (op.Shift place) stack uses =
       thens same_unit still_point s _ (decides (slice_get program.setting.routines place) s)
       (λ it t. gives still_point (onward point stack) (onward (still_point point) (map still_value stack)) t refl)

@@ -4,12 +4,12 @@
 --     untested                               an operation without them asks nothing
 -- A pointer into a block is tested for its epoch, and a handle for its block being purged. Offsets, steps, tests for NIL, slots and numbers test
 -- neither, and so do DisposePtr, new blocks and objects, and bytes that are read or put out.
-use Rattle.std.proofs.Common.{◌≡◌, ℕ, Bool, true, false, List, [], ◌∷◌, slice_get, Option, Some, None}
+use Rattle.std.proofs.Common.{◌≡◌, Bool, true, false, List, [], ◌∷◌, slice_get, Option, Some, None}
 use Rattle.hs_heap.specs.declared.cell.Pointer.{Pointer}
 use Rattle.hs_meaning.specs.Machine.{Machine}
-use Rattle.hs_meaning.specs.Operations.{Operation, get, set, load, store, convert, sign, not_, arithmetic, comparison, is_nil, compare, difference, offset, step, routine}
+use Rattle.hs_meaning.specs.Operations.{Operation, load, store, compare, difference, routine}
 use Rattle.hs_meaning.specs.Settings.{Setting}
-use Rattle.hs_meaning.specs.Values.{Value, number, pointer, state, structure, pointer_in, Access, of_number, of_pointer, of_struct}
+use Rattle.hs_meaning.specs.Values.{Value, pointer, pointer_in, Access, of_number, of_pointer, of_struct}
 use Rattle.hs_still.specs.Uses.{Current, Unpurged, Used}
 use Rattle.hs_table.specs.declared.role.Role.{Role}
 use Rattle.hs_table.specs.declared.role.Role.TheVariants.{Plain, NewHandle, DisposeHandle, GetSize, SetSize, Lock, Unlock, Purge, NoPurge, GetState, SetState, Empty, Realloc, NewPtr, DisposePtr, BlockMove, Getchar, Putchar}

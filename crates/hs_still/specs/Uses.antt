@@ -5,7 +5,7 @@
 --     unless_still               what an operation comes to, by its stops
 --     use_stops_still            why cells are not reached through a pointer
 --     block_at_still             the block of a number
-use Rattle.std.proofs.Common.{◌≡◌, ℤ, ℕ, zero, suc, ◌==◌, Bool, true, false, not, List, [], ◌∷◌, map, slice_get, Option, Some, None, option_map, refl, sym, ap, ◌∙◌, arith, if◌then◌else◌}
+use Rattle.std.proofs.Common.{◌≡◌, ℤ, ℕ, zero, suc, ◌==◌, true, false, not, List, [], ◌∷◌, map, slice_get, Option, Some, None, option_map, refl, ap, ◌∙◌, arith}
 use Rattle.std.proofs.lemmas.Bool.Decides.{nat_tests}
 use Rattle.std.proofs.lemmas.List.{length-map}
 use Rattle.std.proofs.lemmas.Option.{slice_get-map}
@@ -17,7 +17,7 @@ use Rattle.hs_heap.specs.declared.cell.Spot as spot
 use Rattle.hs_heap.specs.declared.presence.Presence.{Presence}
 use Rattle.hs_heap.specs.declared.presence.Presence.TheVariants.{Present, Emptied, Purged, Disposed}
 use Rattle.hs_meaning.specs.Accesses.{is_inside, object_stops, block_stops, use_stops, by_stop, unless_stopped}
-use Rattle.hs_meaning.specs.Machine.{Machine, Object, Done, has_ended}
+use Rattle.hs_meaning.specs.Machine.{Machine, Object, has_ended}
 use Rattle.hs_meaning.specs.Stops.{Stops, stops_if, first_stop, heap_stop}
 use Rattle.hs_meaning.specs.Values.{unmoved}
 use Rattle.hs_meaning.specs.declared.outcome.Stop.{Stop}
