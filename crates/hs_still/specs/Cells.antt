@@ -143,7 +143,8 @@ unmoved_twice (Fixed object offset) = refl
 unmoved_twice (Handle block) = refl
 unmoved_twice (Spot its) = refl
 
-no_epoch : (a : Pointer) → epoch_of (unmoved a) ≡ 0
+-- it is of the first epoch
+pub no_epoch : (a : Pointer) → epoch_of (unmoved a) ≡ 0
 no_epoch Nil = refl
 no_epoch (Fixed object offset) = refl
 no_epoch (Handle block) = refl

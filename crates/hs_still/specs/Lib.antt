@@ -5,6 +5,7 @@ pub mod Frames
 pub mod Handles
 pub mod Machines
 pub mod Maps
+pub mod Misuses
 pub mod Operate
 pub mod Operations
 pub mod Plain

@@ -5,13 +5,14 @@
 --     comes_still             a whole run
 --     begun_still             how it begins
 --     runs_still              a run with a schedule is the run without one
+--     run_is_no_misuse        and it does not end in a misuse
 use Rattle.std.proofs.Common.{◌≡◌, ℕ, zero, suc, Bool, List, [], slice_get, Option, Some, None, refl, sym, ap, ◌∙◌, subst}
 use Rattle.hs_code_run.specs.Codes.{CodeFunction, CodeProgram, Point}
 use Rattle.hs_code_run.specs.Runs.{Comes, halted, onward, starting_point, begun, ComesFrom, ComesWith, CodeRun, steps}
 use Rattle.hs_code_run.specs.Steps.{stepped}
 use Rattle.hs_heap.specs.declared.decision.Decision.{Decision}
 use Rattle.hs_meaning.specs.Frames.{opened}
-use Rattle.hs_meaning.specs.Runs.{Ending, starting}
+use Rattle.hs_meaning.specs.Runs.{Ending, IsMisuse, starting}
 use Rattle.hs_meaning.specs.Settings.{Setting}
 use Rattle.hs_meaning.specs.Steps.{State as RunState, Ran, went, over, give, then_with}
 use Rattle.hs_meaning.specs.declared.input.Input.{Input}
@@ -19,6 +20,7 @@ use Rattle.hs_meaning.specs.declared.outcome.Outcome.{Outcome}
 use Rattle.hs_still.specs.Frames.{same_unit, opened_still}
 use Rattle.hs_still.specs.Machines.{still_state, still_point, still_ran}
 use Rattle.hs_still.specs.Maps.{thens, gives, act_maps}
+use Rattle.hs_still.specs.Misuses.{EndsInNoMisuse, step_is_no_misuse, begun_is_no_misuse}
 use Rattle.hs_still.specs.Starts.{starting_still}
 use Rattle.hs_still.specs.Steps.{StepUses, step_still}
 
@@ -140,3 +142,32 @@ runs_still program input schedule choices turns ending uses run =
       comes = comes_with_still program input schedule choices turns (slice_get program.functions program.main) ending.outcome run.after run.comes uses;
       output = run.output;
     }
+
+-- ---- no misuse
+
+-- a run from any point
+pub comes_to_no_misuse : (program : CodeProgram) (point : Point) (s after : RunState) (outcome : Outcome) → Comes program point s outcome after
+    → AllUsedFrom program point s → ¬ (IsMisuse outcome)
+comes_to_no_misuse program point s after outcome (halted _ _ _ _ is) uses =
+    subst EndsInNoMisuse is (step_is_no_misuse program point s (uses point s (here point s)))
+comes_to_no_misuse program point s after outcome (onward _ next _ t _ _ is rest) uses =
+    comes_to_no_misuse program next t after outcome rest (λ last u reaches. uses last u (later point next last s t u is reaches))
+
+comes_from_no_misuse : (program : CodeProgram) (ran : Ran Point) (outcome : Outcome) (after : RunState) → EndsInNoMisuse ran
+    → ComesFrom program ran outcome after → AllUsedAfter program ran → ¬ (IsMisuse outcome)
+comes_from_no_misuse program (went point s) outcome after none comes uses = comes_to_no_misuse program point s after outcome comes uses
+comes_from_no_misuse program (over ended s) outcome after none is uses = subst (λ it. ¬ (IsMisuse it)) is.0 none
+
+comes_with_no_misuse : (program : CodeProgram) (input : Input) (schedule : List Decision) (choices : List Bool) (turns : ℕ) (function : Option CodeFunction)
+    (outcome : Outcome) (after : RunState) → ComesWith program input schedule choices turns function outcome after
+    → AllUsedWith program input schedule choices turns function → ¬ (IsMisuse outcome)
+comes_with_no_misuse program input schedule choices turns None outcome after comes uses = absurd comes
+comes_with_no_misuse program input schedule choices turns (Some function) outcome after comes uses =
+    comes_from_no_misuse program (begun program choices function (starting program.setting input schedule turns)) outcome after
+    (begun_is_no_misuse program choices function (starting program.setting input schedule turns)) comes uses
+
+-- If no step of a run tests an operand that is stale or purged, then it does not end in a misuse.
+pub run_is_no_misuse : (program : CodeProgram) (input : Input) (schedule : List Decision) (choices : List Bool) (turns : ℕ) (ending : Ending)
+    → RunUses program input schedule choices turns → CodeRun program input schedule choices turns ending → ¬ (IsMisuse ending.outcome)
+run_is_no_misuse program input schedule choices turns ending uses run =
+    comes_with_no_misuse program input schedule choices turns (slice_get program.functions program.main) ending.outcome run.after run.comes uses

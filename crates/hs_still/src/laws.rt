@@ -6,7 +6,7 @@ ghost use Rattle.hs_heap.specs.Shift.{Powers};
 ghost use Rattle.hs_heap.specs.declared.decision.Decision.{Decision};
 ghost use Rattle.hs_meaning.specs.Machine.{Machine};
 ghost use Rattle.hs_meaning.specs.Operations.{Operation, operate};
-ghost use Rattle.hs_meaning.specs.Runs.{Ending};
+ghost use Rattle.hs_meaning.specs.Runs.{Ending, IsMisuse};
 ghost use Rattle.hs_meaning.specs.Settings.{Setting};
 ghost use Rattle.hs_meaning.specs.Steps.{State, after_decision};
 ghost use Rattle.hs_meaning.specs.Values.{Value};
@@ -49,4 +49,12 @@ pub fn a_run_is_the_run_without_a_schedule()
         → RunUses program input schedule choices turns
         → CodeRun program input schedule choices turns ending
         → CodeRun program input [] choices turns ending }
+{}
+
+/// Nor does such a run end in a misuse: it does not stop because something is stale or purged.
+pub fn such_a_run_ends_in_no_misuse()
+    ensures { (program : CodeProgram) (input : Input) (schedule : List Decision) (choices : List Bool) (turns : ℕ) (ending : Ending)
+        → RunUses program input schedule choices turns
+        → CodeRun program input schedule choices turns ending
+        → ¬ (IsMisuse ending.outcome) }
 {}

@@ -8,5 +8,5 @@ mod laws;
 pub use laws::{
     a_run_is_the_run_without_a_schedule, a_step_does_the_same_on_the_still_machine,
     a_step_that_tests_nothing_asks_nothing, an_operation_that_tests_nothing_asks_nothing,
-    no_decision_changes_the_still_state,
+    no_decision_changes_the_still_state, such_a_run_ends_in_no_misuse,
 };
