@@ -1,7 +1,7 @@
 -- Worked rows: each kind of operation that `tests` lists does something else on the still machine if an operand is stale or purged. So the law of a
 -- step is false without its premise, and no operation is listed that needs none.
 --     moved, purged          one block of four bytes that was moved once, and one that was purged
---     old, handle            a pointer that was read before that, and the handle of the block
+--     old, current, handle   a pointer that was read before that, one of the new epoch, and the handle of the block
 --     Differs why its still  the moving machine stops for that, and the still one does not stop
 use Rattle.std.proofs.Common.{◌≡◌, pos, true, false, List, [], ◌∷◌, map, Option, Some, None, refl}
 use Rattle.hs_heap.specs.declared.cell.Cell.TheVariants.{Byte}
@@ -57,6 +57,10 @@ purged = with_one Purged
 abbrev old : Value
 old = pointer (Spot (record { block = 1; life = 0; epoch = 0; offset = pos 0 }))
 
+-- of the epoch that the block has now
+abbrev current : Value
+current = pointer (Spot (record { block = 1; life = 0; epoch = 1; offset = pos 0 }))
+
 -- of the block
 abbrev handle : Value
 handle = pointer (Handle 1)
@@ -83,6 +87,10 @@ module _ (setting : Setting) where
 
   master_differs : OperationDiffers stop.Purged (load (of_pointer 0)) (handle ∷ []) purged
   master_differs = (refl, refl)
+
+  -- No run has such a pointer: a block that is purged gets another epoch, and its master pointer is not read. So `Current` asks for both.
+  range_differs : OperationDiffers stop.Range (load (of_pointer 0)) (current ∷ []) purged
+  range_differs = (refl, refl)
 
   store_differs : OperationDiffers stop.Stale (store (of_pointer 0)) (old ∷ handle ∷ []) moved
   store_differs = (refl, refl)
