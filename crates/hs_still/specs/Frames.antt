@@ -76,7 +76,8 @@ either_mapped : {A : Type 0} → (f : A → A) (z : Bool) (xs ys : List A) → x
 either_mapped f true xs ys is so = is
 either_mapped f false xs ys is so = so
 
-bindings_still : (types : TypeTable) (next : ℕ) (variables : List VariableDecl) → bindings types next variables ≡ map still_binding (bindings types next variables)
+bindings_still : (types : TypeTable) (next : ℕ) (variables : List VariableDecl)
+    → bindings types next variables ≡ map still_binding (bindings types next variables)
 bindings_still types next [] = refl
 bindings_still types next (variable ∷ rest) =
     either_mapped still_binding (is_slot types variable) (slot None ∷ bindings types next rest) (object_at next ∷ bindings types (suc next) rest)

@@ -163,7 +163,8 @@ module _ (lives : Block → Bool) (alike : (block : Block) → lives (still_bloc
       → reshaped_in lives role n (option_map still_block b) (still_machine machine) ≡ still_machine (reshaped_in lives role n b machine)
   reshaped_in_still n None machine used = refl
   reshaped_in_still n (Some block) machine used =
-      ap (λ r. if lives (still_block block) && has_room_after n r (still_machine machine) then with_result n r (still_machine machine) else still_machine machine)
+      ap (λ r. if lives (still_block block) && has_room_after n r (still_machine machine) then with_result n r (still_machine machine)
+      else still_machine machine)
       (is block used)
       ∙ ap (λ z. if z && has_room_after n (still_result still_block (role block)) (still_machine machine)
       then with_result n (still_result still_block (role block)) (still_machine machine) else still_machine machine) (alike block)
@@ -260,7 +261,8 @@ dispose_stop_still (Handle block) machine = refl
 dispose_stop_still (Spot its) machine = refl
 
 -- the object has ended
-pub disposed_object_still : (its : Pointer) (machine : Machine) → disposed_object (unmoved its) (still_machine machine) ≡ still_machine (disposed_object its machine)
+pub disposed_object_still : (its : Pointer) (machine : Machine)
+    → disposed_object (unmoved its) (still_machine machine) ≡ still_machine (disposed_object its machine)
 disposed_object_still Nil machine = refl
 disposed_object_still (Fixed object at) machine = with_object_still object ended_object machine
 disposed_object_still (Handle block) machine = refl

@@ -3,6 +3,7 @@ pub mod Blocks
 pub mod Cells
 pub mod Frames
 pub mod Handles
+pub mod Images
 pub mod Machines
 pub mod Maps
 pub mod Misuses

@@ -31,7 +31,8 @@ then_still f g (went it s) next still each = (each it s).is
 then_still f g (over outcome s) next still each = refl
 
 -- one after the other
-pub thens : {A B : Type 0} → (f : A → A) (g : B → B) (s : RunState) → {first other : Step A} → {next : A → Step B} → (still : A → Step B) → MapsAt f first other s
+pub thens : {A B : Type 0} → (f : A → A) (g : B → B) (s : RunState) → {first other : Step A} → {next : A → Step B}
+    → (still : A → Step B) → MapsAt f first other s
     → ((it : A) (t : RunState) → MapsAt g (next it) (still (f it)) t) → MapsAt g (first >>= next) (other >>= still) s
 thens f g s {first = first} {next = next} still maps each =
     record { is = ap (then_with still) maps.is ∙ then_still f g (first s) next still each }
@@ -108,5 +109,6 @@ address_of_still (in_slot name) machine = refl
 address_of_still (at_address its) machine = refl
 
 -- its address
-pub address_maps : (at : Pos) (place : Location) (s : RunState) → MapsAt still_value (acts at (address_of place)) (acts at (address_of (still_location place))) s
+pub address_maps : (at : Pos) (place : Location) (s : RunState)
+    → MapsAt still_value (acts at (address_of place)) (acts at (address_of (still_location place))) s
 address_maps at place s = act_maps still_value at (address_of place) (address_of (still_location place)) s (address_of_still place s.machine)

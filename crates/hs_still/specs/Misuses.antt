@@ -1,11 +1,9 @@
 -- No misuse: a step of which no operand that it tests is stale or purged does not stop at such a use. On the still machine nothing is stale or purged,
 -- and the step on it is the same.
---     image_is_still           nothing was moved or purged on the still machine
 --     operation_is_no_misuse   an operation
 --     step_is_no_misuse        a step of code
 --     begun_is_no_misuse       the begin of a run
-use Rattle.std.proofs.Common.{ℕ, zero, suc, ◌||◌, Bool, true, false, List, [], ◌∷◌, map, slice_get, Option, Some, None, refl, subst}
-use Rattle.std.specs.List.{AllByRecursion}
+use Rattle.std.proofs.Common.{ℕ, zero, suc, ◌||◌, Bool, true, false, List, [], ◌∷◌, map, slice_get, Option, Some, None, subst}
 use Rattle.hs_base.specs.declared.pos.Pos.{Pos}
 use Rattle.hs_code.specs.declared.function_code.Placed.{Placed}
 use Rattle.hs_code.specs.declared.op.Object.{Object}
@@ -15,19 +13,13 @@ use Rattle.hs_code.specs.declared.op.Op.TheVariants as op
 use Rattle.hs_code_run.specs.Codes.{CodeFunction, CodeProgram, Waiting, Point}
 use Rattle.hs_code_run.specs.Runs.{starting_point, begun}
 use Rattle.hs_code_run.specs.Steps.{stepped, stepped_at, by_stack, by_operation, operates_if, routine_called, function_called, returned_to, entered, operation_of, routine_arguments, taken, holds, address_at}
-use Rattle.hs_heap.specs.Blocks.{Block}
-use Rattle.hs_heap.specs.declared.cell.Cell.{Cell}
-use Rattle.hs_heap.specs.declared.cell.Cell.TheVariants.{Undefined, Byte, State, Part}
-use Rattle.hs_heap.specs.declared.presence.Presence.{Presence}
-use Rattle.hs_heap.specs.declared.presence.Presence.TheVariants.{Present, Emptied, Purged, Disposed}
 use Rattle.hs_meaning.specs.Evaluation.{Location, in_slot, at_address, located, variable_at, address_of, decided_by, powers_of}
 use Rattle.hs_meaning.specs.Frames.{opened}
-use Rattle.hs_meaning.specs.Laws.Unmoved.{IsUnmovedCell, AreUnmoved, IsUnmoved, IsUnmovedBinding, IsUnpurged, IsUnmovedBlock, IsUnmovedObject, IsStillMachine, IsStillDone}
+use Rattle.hs_meaning.specs.Laws.Unmoved.{IsUnmoved, IsStillDone}
 use Rattle.hs_meaning.specs.Laws.Unmoved.Fine.{Anything}
 use Rattle.hs_meaning.specs.Laws.Unmoved.Frames as unmoved_frames
-use Rattle.hs_meaning.specs.Laws.Unmoved.Lists.{all_map}
 use Rattle.hs_meaning.specs.Laws.Unmoved.Operations.{operated}
-use Rattle.hs_meaning.specs.Machine.{Machine, Object as MachineObject, Binding, slot, object_at, Done, done, stopped, binding_of}
+use Rattle.hs_meaning.specs.Machine.{Machine, Binding, slot, object_at, Done, done, stopped, binding_of}
 use Rattle.hs_meaning.specs.Operations as operation
 use Rattle.hs_meaning.specs.Operations.{Operation, operate}
 use Rattle.hs_meaning.specs.Runs.{IsMisuseStop, IsMisuse, own_locals, closes}
@@ -37,63 +29,15 @@ use Rattle.hs_meaning.specs.Values.{Value, number, pointer, state, structure}
 use Rattle.hs_meaning.specs.declared.outcome.Outcome.{Outcome}
 use Rattle.hs_meaning.specs.declared.outcome.Outcome.TheVariants.{Finished}
 use Rattle.hs_meaning.specs.Numbers.{signed}
-use Rattle.hs_still.specs.Cells.{no_epoch}
 use Rattle.hs_still.specs.Frames.{same_unit, opened_still}
-use Rattle.hs_still.specs.Machines.{still_cell, still_cells, still_value, unpurged, still_block, still_object, still_binding, still_machine, still_done}
+use Rattle.hs_still.specs.Images.{values_unmoved, image_is_still}
+use Rattle.hs_still.specs.Machines.{still_value, still_machine, still_done}
 use Rattle.hs_still.specs.Operate.{operate_still}
 use Rattle.hs_still.specs.Steps.{TakenUsed, ArgumentsUsed, OpUses, UsesAt, StepUses}
 use Rattle.hs_still.specs.Tests.{UsedBy}
 use Rattle.hs_tree.specs.declared.function.BoundRoutine.{BoundRoutine}
 use Rattle.hs_tree.specs.declared.head.Variable.{Variable}
 use Rattle.hs_tree.specs.declared.head.VariableDecl.{VariableDecl}
-
--- ---- the still machine
-
-cell_unmoved : (cell : Cell) → IsUnmovedCell (still_cell cell)
-cell_unmoved Undefined = tt
-cell_unmoved (Byte byte) = tt
-cell_unmoved (State byte) = tt
-cell_unmoved (Part at its class) = no_epoch its
-
-cells_unmoved : (cells : List Cell) → AreUnmoved (still_cells cells)
-cells_unmoved cells = all_map IsUnmovedCell still_cell cell_unmoved cells
-
-value_unmoved : (value : Value) → IsUnmoved (still_value value)
-value_unmoved (number bits) = tt
-value_unmoved (pointer its) = no_epoch its
-value_unmoved (state byte) = tt
-value_unmoved (structure cells) = cells_unmoved cells
-
--- values of which each has no epoch
-pub values_unmoved : (values : List Value) → AllByRecursion IsUnmoved (map still_value values)
-values_unmoved values = all_map IsUnmoved still_value value_unmoved values
-
-binding_unmoved : (binding : Binding) → IsUnmovedBinding (still_binding binding)
-binding_unmoved (slot None) = tt
-binding_unmoved (slot (Some value)) = value_unmoved value
-binding_unmoved (object_at place) = tt
-
-object_unmoved : (its : MachineObject) → IsUnmovedObject (still_object its)
-object_unmoved its = cells_unmoved its.cells
-
-presence_unpurged : (it : Presence) → IsUnpurged (unpurged it)
-presence_unpurged Present = tt
-presence_unpurged Emptied = tt
-presence_unpurged Purged = tt
-presence_unpurged Disposed = tt
-
-block_unmoved : (block : Block) → IsUnmovedBlock (still_block block)
-block_unmoved block = record { epoch = refl; presence = presence_unpurged block.presence; cells = cells_unmoved block.cells }
-
--- nothing was moved or purged on the still machine
-pub image_is_still : (machine : Machine) → IsStillMachine (still_machine machine)
-image_is_still machine =
-    record {
-      blocks = all_map IsUnmovedBlock still_block block_unmoved machine.blocks;
-      objects = all_map IsUnmovedObject still_object object_unmoved machine.objects;
-      globals = all_map IsUnmovedBinding still_binding binding_unmoved machine.globals;
-      locals = all_map IsUnmovedBinding still_binding binding_unmoved machine.locals;
-    }
 
 -- ---- operations
 

@@ -78,7 +78,8 @@ called_still types (Some it) values machine used = called_as_still types it.rout
 -- ---- all operations
 
 other_still : (its : Operation) (values : List Value) (machine : Machine) → OperationUses its values machine
-    → unless_stopped (operation_stops its (map still_value values) (still_machine machine)) (operation_value its (map still_value values) (still_machine machine))
+    → unless_stopped (operation_stops its (map still_value values) (still_machine machine))
+    (operation_value its (map still_value values) (still_machine machine))
     (operation_machine its (map still_value values) (still_machine machine)) (still_machine machine)
     ≡ still_done still_value (unless_stopped (operation_stops its values machine) (operation_value its values machine)
     (operation_machine its values machine) machine)

@@ -43,7 +43,8 @@ used_stop_still is_filled Nil machine used = refl
 used_stop_still is_filled (Fixed object at) machine used =
     ap gone_stop (slice_get-map still_object machine.objects object) ∙ gone_stop_still (slice_get machine.objects object)
 used_stop_still is_filled (Handle block) machine used =
-    ap (λ why. first_stop (why ∷ stops_if is_filled stop.BadPointer ∷ [])) (handle_stop_still same_number size_of size_of_still (Handle block) machine used.1)
+    ap (λ why. first_stop (why ∷ stops_if is_filled stop.BadPointer ∷ []))
+    (handle_stop_still same_number size_of size_of_still (Handle block) machine used.1)
 used_stop_still is_filled (Spot its) machine used = current_stop_still (Spot its) machine used.0
 
 pointer_used_still : (is_filled : Bool) (value : Value) (machine : Machine) → Used (pointer_in value) machine
@@ -235,7 +236,8 @@ module _ (types : TypeTable) (routine : Routine) (prototype : Prototype) (values
 
   -- a plain routine
   pub plain_still : (machine : Machine) → AllUsed values machine
-      → plain types routine prototype (map still_value values) (still_machine machine) ≡ still_done still_value (plain types routine prototype values machine)
+      → plain types routine prototype (map still_value values) (still_machine machine)
+      ≡ still_done still_value (plain types routine prototype values machine)
   plain_still machine used =
       ap (λ ss. then_unless (first_stop ss) (still_machine machine) (after_line types routine prototype (map still_value values)
       (with_line (line_of routine.name types prototype.parameters (map still_value values)) (still_machine machine))))

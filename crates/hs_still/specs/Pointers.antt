@@ -20,12 +20,14 @@ use Rattle.hs_tree.specs.declared.operators.Comparison.TheVariants.{Less, Greate
 
 -- ---- tests
 
-current_in_still : (its : spot.Spot) (b : Option Block) → CurrentIn its b → current_in (record its { epoch = 0 }) (option_map still_block b) ≡ current_in its b
+current_in_still : (its : spot.Spot) (b : Option Block) → CurrentIn its b
+    → current_in (record its { epoch = 0 }) (option_map still_block b) ≡ current_in its b
 current_in_still its None used = refl
 current_in_still its (Some block) used = rw (disposed_still block.presence, same_epoch its block used.0) refl
 
 -- why a pointer is no more one
-pub current_stop_still : (its : Pointer) (machine : Machine) → Current its machine → current_stop (unmoved its) (still_machine machine) ≡ current_stop its machine
+pub current_stop_still : (its : Pointer) (machine : Machine) → Current its machine
+    → current_stop (unmoved its) (still_machine machine) ≡ current_stop its machine
 current_stop_still Nil machine used = refl
 current_stop_still (Fixed object at) machine used = refl
 current_stop_still (Handle block) machine used = refl

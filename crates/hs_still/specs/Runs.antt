@@ -2,6 +2,7 @@
 --     steps_agree             a step from two states of one still state
 --     UsedFor, steps_still    so many steps
 --     Reaches                 the run comes to a point and a state
+--     all_used                what holds of every state that it reaches
 --     comes_still             a whole run
 --     begun_still             how it begins
 --     runs_still              a run with a schedule is the run without one
@@ -71,6 +72,15 @@ pub data Reaches (program : CodeProgram) : Point → RunState → Point → RunS
 -- no step of the run tests an operand that is stale or purged
 abbrev pub AllUsedFrom : CodeProgram → Point → RunState → Type 0
 AllUsedFrom program point s = (next : Point) (t : RunState) → Reaches program point s next t → StepUses program next t
+
+-- So it is if a fact holds of the first point and state, each step keeps it, and it says that no operand that the step tests is stale or purged.
+pub all_used : (program : CodeProgram) (fact : Point → RunState → Type 0)
+    → ((point next : Point) (s t : RunState) → fact point s → stepped program point s ≡ went next t → fact next t)
+    → ((point : Point) (s : RunState) → fact point s → StepUses program point s)
+    → (point : Point) (s : RunState) → fact point s → AllUsedFrom program point s
+all_used program fact goes uses point s so next t (here _ _) = uses point s so
+all_used program fact goes uses point s so last u (later _ next _ _ t _ is rest) =
+    all_used program fact goes uses next t (goes point next s t so is) last u rest
 
 -- a whole run
 pub comes_still : (program : CodeProgram) (point : Point) (s after : RunState) (outcome : Outcome) → Comes program point s outcome after

@@ -27,7 +27,8 @@ module _ (powers : Powers) (decision : Decision) where
       (and_parts (powers.purges && is_named decision.purges n && is_loose block) block.purgeable is).0).1
 
   block_still : (n : ℕ) (block : Block) (purge move : Bool) → is_purged powers decision n block ≡ purge
-      → still_block (if purge then record block { epoch = block.epoch + 1; presence = Purged } else if move then record block { epoch = block.epoch + 1 } else block)
+      → still_block (if purge then record block { epoch = block.epoch + 1; presence = Purged }
+      else if move then record block { epoch = block.epoch + 1 } else block)
       ≡ still_block block
   block_still n block true move is =
       ap (λ it. record { cells = still_cells block.cells; life = block.life; epoch = 0; locked = block.locked; purgeable = block.purgeable; presence = it })

@@ -20,7 +20,8 @@ use Rattle.hs_meaning.specs.declared.input.Input.{Input}
 use Rattle.hs_still.specs.Machines.{still_cell, still_cells, still_value, unpurged, still_block, still_object, still_binding, still_machine}
 
 -- what is mapped to itself, each
-all_itself : {A : Type 0} → (P : A → Type 0) (f : A → A) → ((it : A) → P it → f it ≡ it) → (xs : List A) → AllByRecursion P xs → map f xs ≡ xs
+all_itself : {A : Type 0} → (P : A → Type 0) (f : A → A) → ((it : A) → P it → f it ≡ it) → (xs : List A) → AllByRecursion P xs
+    → map f xs ≡ xs
 all_itself P f each [] all = refl
 all_itself P f each (x ∷ xs) all = ap (λ y. y ∷ map f xs) (each x all.0) ∙ ap (λ ys. x ∷ ys) (all_itself P f each xs all.1)
 

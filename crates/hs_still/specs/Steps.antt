@@ -180,6 +180,7 @@ module _ (program : CodeProgram) (at : Pos) (point : Point) (s : RunState) where
   onto_if_still true target stack = refl
   onto_if_still false target stack = refl
 
+  -- with other choices to come
   abbrev with_choices : List Bool → Point → Point
   with_choices choices its = record its { choices = choices }
 
@@ -207,7 +208,8 @@ module _ (program : CodeProgram) (at : Pos) (point : Point) (s : RunState) where
   by_stack_still (op.Call place) stack uses = called_still (slice_get program.functions place)
   by_stack_still op.Return (value ∷ stack) uses = returned_still value point.waiting
   by_stack_still op.Turn stack uses =
-      thens same_unit still_point s _ (turn_maps s) (λ it t. gives still_point (onward point stack) (onward (still_point point) (map still_value stack)) t refl)
+      thens same_unit still_point s _ (turn_maps s)
+      (λ it t. gives still_point (onward point stack) (onward (still_point point) (map still_value stack)) t refl)
   by_stack_still op.Mark stack uses = moves _ _ refl
   by_stack_still (op.Pick target) stack uses =
       moves (with_choices (later_choices point.choices) (onto_if (next_choice point.choices) point target stack))
@@ -241,7 +243,8 @@ taken_untested : (program : CodeProgram) (its : Option (ℕ × Operation)) (stac
 taken_untested program None stack machine is = tt
 taken_untested program (Some its) stack machine is = untested program.setting its.1 (taken its.0 stack) machine is
 
-op_untested : (program : CodeProgram) (its : Op) (stack : List Value) (machine : Machine) → op_tests program its ≡ false → OpUses program its stack machine
+op_untested : (program : CodeProgram) (its : Op) (stack : List Value) (machine : Machine) → op_tests program its ≡ false
+    → OpUses program its stack machine
 op_untested program (op.Routine place) stack machine is =
     arguments_untested program place (routine_arguments (slice_get program.setting.routines place)) stack machine is
 op_untested program its stack machine is = taken_untested program (operation_of its) stack machine is

@@ -2,10 +2,11 @@
 --     Current its machine        a pointer into a block is not stale, and its block is not purged
 --     Unpurged its machine       the block of a handle is not purged
 --     Used its machine           both
+--     current_there, unpurged_there      of a block that is there
 --     unless_still               what an operation comes to, by its stops
 --     use_stops_still            why cells are not reached through a pointer
 --     block_at_still             the block of a number
-use Rattle.std.proofs.Common.{◌≡◌, ℤ, ℕ, zero, suc, ◌==◌, true, false, not, List, [], ◌∷◌, map, slice_get, Option, Some, None, option_map, refl, ap, ◌∙◌, arith}
+use Rattle.std.proofs.Common.{◌≡◌, ℤ, ℕ, zero, suc, ◌==◌, true, false, not, List, [], ◌∷◌, map, slice_get, Option, Some, None, option_map, refl, ap, ◌∙◌, arith, subst, sym}
 use Rattle.std.proofs.lemmas.Bool.Decides.{nat_tests}
 use Rattle.std.proofs.lemmas.List.{length-map}
 use Rattle.std.proofs.lemmas.Option.{slice_get-map}
@@ -54,6 +55,16 @@ Unpurged (Spot its) machine = Unit {0}
 -- neither stale nor purged
 abbrev pub Used : Pointer → Machine → Type 0
 Used its machine = Current its machine × Unpurged its machine
+
+-- a pointer into a block that is there is current if it has the epoch of the block, and the block is not purged
+pub current_there : (its : spot.Spot) (machine : Machine) (block : Block) → block_at machine.blocks its.block ≡ Some block
+    → its.epoch ≡ block.epoch → is_purged block.presence ≡ false → Current (Spot its) machine
+current_there its machine block there epoch alive = subst (CurrentIn its) (sym there) (epoch, alive)
+
+-- the handle of a block that is there and is not purged
+pub unpurged_there : (n : ℕ) (machine : Machine) (block : Block) → block_at machine.blocks n ≡ Some block → is_purged block.presence ≡ false
+    → Unpurged (Handle n) machine
+unpurged_there n machine block there alive = subst UnpurgedIn (sym there) alive
 
 -- ---- what an operation comes to
 

@@ -26,7 +26,8 @@ pub fn no_decision_changes_the_still_state()
 pub fn an_operation_that_tests_nothing_asks_nothing()
     ensures { (setting : Setting) (its : Operation) (values : List Value) (machine : Machine)
         → tests setting its ≡ false
-        → operate setting its (map still_value values) (still_machine machine) ≡ still_done still_value (operate setting its values machine) }
+        → operate setting its (map still_value values) (still_machine machine)
+        ≡ still_done still_value (operate setting its values machine) }
 {}
 
 /// The same of a step of code: calls, returns, jumps, turns and decisions test no operand.
@@ -45,7 +46,8 @@ pub fn a_step_does_the_same_on_the_still_machine()
 
 /// If no step of a run tests an operand that is stale or purged, then the run without a schedule ends as it does, with the same output.
 pub fn a_run_is_the_run_without_a_schedule()
-    ensures { (program : CodeProgram) (input : Input) (schedule : List Decision) (choices : List Bool) (turns : ℕ) (ending : Ending)
+    ensures { (program : CodeProgram) (input : Input) (schedule : List Decision) (choices : List Bool)
+        (turns : ℕ) (ending : Ending)
         → RunUses program input schedule choices turns
         → CodeRun program input schedule choices turns ending
         → CodeRun program input [] choices turns ending }
@@ -53,7 +55,8 @@ pub fn a_run_is_the_run_without_a_schedule()
 
 /// Nor does such a run end in a misuse: it does not stop because something is stale or purged.
 pub fn such_a_run_ends_in_no_misuse()
-    ensures { (program : CodeProgram) (input : Input) (schedule : List Decision) (choices : List Bool) (turns : ℕ) (ending : Ending)
+    ensures { (program : CodeProgram) (input : Input) (schedule : List Decision) (choices : List Bool)
+        (turns : ℕ) (ending : Ending)
         → RunUses program input schedule choices turns
         → CodeRun program input schedule choices turns ending
         → ¬ (IsMisuse ending.outcome) }
