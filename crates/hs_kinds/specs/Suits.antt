@@ -172,9 +172,12 @@ module _ (program : CodeProgram) (point : Point) (s : State) (function : CodeFun
     suits (op.Pick target) after is = tt
     suits (op.Bring place) after is = tt
 
--- the next operation is there and suits
+-- the next operation is there and suits, in the function of the program whose code it is
 pub record IsSuited (program : CodeProgram) (point : Point) (s : State) : Type 0 where
+  pub place : ℕ
   pub function : CodeFunction
+  pub of_program : slice_get program.functions place ≡ Some function
+  pub code : function.code ≡ point.frame.code
   pub its : Placed
   pub there : slice_get point.frame.code.ops point.frame.at ≡ Some its
   pub suited : Suits program point s function its.op
@@ -187,7 +190,10 @@ stepped_suits program typed point s so = by (operands program typed point s so)
     by : HasOperands (scope_of program so.call.function) point.frame.code point.frame.at so.call.kinds → IsSuited program point s
     by has =
         record {
+          place = so.call.place;
           function = so.call.function;
+          of_program = so.call.there;
+          code = so.call.code;
           its = has.its;
           there = has.there;
           suited = suits program point s so.call.function so.call.kinds so.call.values so.globals so.call.fits has.its.op has.after has.operands;
