@@ -4,7 +4,8 @@
 use Rattle.std.specs.Prelude.{ℕ, Bool, true, false, not, ◌&&◌, ◌||◌, List, [], ◌∷◌, ◌++◌, length, slice_get, Option, Some, None, is_none, Ok, if◌then◌else◌}
 use Rattle.hs_declarations.specs.Fronts.{front, item_type, tag_alone, lone_tag, declares_any, storage_place, place_of_start}
 use Rattle.hs_linkage.specs.declared.translator.Linked.{Linked}
-use Rattle.hs_linkage.specs.Linkage.{is_function, clash_of, linked, completed_link, define_object, new_object, renamed}
+use Rattle.hs_linkage.specs.declared.translator.Translator.{Translator}
+use Rattle.hs_linkage.specs.Linkage.{is_function, clash_of, mark_of, linked, completed_link, define_object, new_object, renamed}
 use Rattle.hs_linkage.specs.Objects.{is_defined, local_as}
 use Rattle.hs_linkage.specs.Works.{Work, ◌>>=◌, ◌>>◌, pass, stop, typing, unless}
 use Rattle.hs_declarations.specs.declared.fronts.Front.{Front}
@@ -21,6 +22,8 @@ use Rattle.hs_tokens.specs.declared.place.Place.{Place}
 use Rattle.hs_tree.specs.Trees.{Starting, TypedItem}
 use Rattle.hs_tree.specs.declared.head.Variable.TheVariants as variable
 use Rattle.hs_typer.specs.Declarators.{declare, word_of}
+use Rattle.hs_typer.specs.Declaring.{note_tentative}
+use Rattle.hs_typer.specs.declared.marks.Tentative.{Tentative}
 use Rattle.hs_typer.specs.declared.type_error.TypeError.TheVariants.{Untyped}
 use Rattle.hs_typer.specs.declared.typer.Entity.{Entity}
 use Rattle.hs_typer.specs.declared.typer.Entity.TheVariants as entity
@@ -94,12 +97,34 @@ is_internal_link (Some it) = it.internal
 abbrev pub keeps_linkage : Option Storage → Word → Work (Unit {0})
 keeps_linkage storage word = unless (Untyped word.place) (λ m. is_none storage && is_internal_link (find word.text m.links))
 
+-- `extern` is the storage word
+abbrev pub is_extern : Option Storage → Bool
+is_extern None = false
+is_extern (Some storage.Typedef) = false
+is_extern (Some storage.Extern) = true
+is_extern (Some storage.Static) = false
+
+-- 3.7.2: an object that a declaration makes, whose struct has no body yet
+abbrev pub awaits_body : Option Storage → TypeId → Option Initialising → Translator → Bool
+awaits_body storage id it m =
+    is_none it && not (is_extern storage) && not (is_complete m.typer.types id || is_open m.typer.types id)
+
+-- where the declaration is, and its type
+abbrev pub tentative_of : Word → TypeId → Translator → Tentative
+tentative_of word id m = record { at = word.place; mark = mark_of m; type_id = id }
+
+-- It is noted, as the struct may get its body before the end of the unit.
+abbrev pub tentative : Option Storage → Word → TypeId → Option Initialising → Work (Unit {0})
+tentative storage word id it m =
+    if awaits_body storage id it m then typing (note_tentative (tentative_of word id m)) m else Ok (tt, m)
+
 -- an object of file scope; `static` is whether that is the storage word
 abbrev pub file_object_as : Bool → Option Storage → Word → TypeId → Option Initialising → Work (Unit {0})
 file_object_as static storage word id it = do
   is_object word id
   may_be_tentative static word id it
   keeps_linkage storage word
+  tentative storage word id it
   its ← linked static word id
   object_with_start static word it its
 

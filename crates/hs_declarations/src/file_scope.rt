@@ -1,7 +1,7 @@
 //! Declarations of file scope (X3.159-1989 3.5 and 3.7.2).
 
 ghost use Rattle.std.specs.Prelude.{◌≡◌, map, option_map, option_copied};
-ghost use Rattle.hs_declarations.specs.Declarations.{may_be_tentative, is_internal_link, keeps_linkage, file_object_as, file_object, with_inline_words, function_declared, file_entity, is_static, is_typedef_word, file_item_as, file_item, file_items, declared_alone, nothing_named, file_items_as, file_declared_at, file_declared};
+ghost use Rattle.hs_declarations.specs.Declarations.{may_be_tentative, is_internal_link, keeps_linkage, is_extern, tentative, file_object_as, file_object, with_inline_words, function_declared, file_entity, is_static, is_typedef_word, file_item_as, file_item, file_items, declared_alone, nothing_named, file_items_as, file_declared_at, file_declared};
 ghost use Rattle.hs_declarations.specs.Fronts.{lone_tag};
 ghost use Rattle.hs_linkage.specs.Works.{Works};
 ghost use Rattle.hs_syntax.specs.Views.{view_declaration, view_item, view_initialiser, specification_of};
@@ -12,10 +12,10 @@ use crate::fronts::{
 use crate::starts::{must_be_object, object_with_start};
 use crate::typedefs::typedef_items;
 use hs_initialisers::inline_words;
-use hs_linkage::{Linked, Translator, is_complete, is_function, linked};
+use hs_linkage::{Linked, Translator, is_complete, is_function, is_open, linked, mark_of};
 use hs_syntax::{Decl, Initialiser, Item, Specifier, Storage, Word};
 use hs_tokens::Place;
-use hs_typer::{TypeError, word_of};
+use hs_typer::{Tentative, TypeError, word_of};
 use hs_types::TypeId;
 use std::alloc::Global;
 
@@ -71,8 +71,41 @@ fn file_object_as(
     must_be_object(m, word, id)?;
     may_be_tentative(m, internal, word, id, it)?;
     keeps_linkage(m, storage, word)?;
+    note_tentative(m, storage, word, id, it)?;
     let its = linked(alloc, m, internal, word, id)?;
     object_with_start(alloc, m, internal, word, it, its)
+}
+
+/// Whether the storage word is `extern`.
+fn is_extern(storage: Option<Storage>) -> bool
+    ensures { result ≡ is_extern storage }
+{
+    match storage {
+        Some(Storage::Extern) => true,
+        Some(Storage::Typedef | Storage::Static) | None => false,
+    }
+}
+
+/// Notes an object that a declaration of file scope makes, if its struct has no body yet: at the end of the unit it must have one (3.7.2).
+fn note_tentative(
+    m: &mut Translator,
+    storage: Option<Storage>,
+    word: &Word,
+    id: TypeId,
+    it: Option<&Initialiser>,
+) -> Result<(), TypeError>
+    ensures { Works (λ it. it) m.new (tentative storage word.now id (option_map view_initialiser (option_copied it.entry)) m.old) result }
+{
+    let types = &m.typer.types;
+    if it.is_none() && !is_extern(storage) && !(is_complete(types, id) || is_open(types, id)) {
+        let mark = mark_of(m)?;
+        m.typer.tentatives.push(Tentative {
+            at: word.place,
+            mark,
+            type_id: id,
+        })?;
+    }
+    Ok(())
 }
 
 /// An object of file scope, by its storage word.

@@ -15,7 +15,7 @@ use Rattle.hs_fitting.specs.Registering.{linked_in}
 use Rattle.hs_fitting.specs.Strict.{SameBy, AreStrict, same_self, same_turned, same_then, strict_self, strict_then}
 use Rattle.hs_linkage.specs.Definitions.{same_name, first_place, is_definition_of}
 use Rattle.hs_linkage.specs.Externals.{type_of_entity}
-use Rattle.hs_linkage.specs.Linkage.{with_type_id, declared_as, is_routine_entity}
+use Rattle.hs_linkage.specs.Linkage.{mark_of, with_type_id, declared_as, is_routine_entity}
 use Rattle.hs_linkage.specs.declared.definitions.Definition.{Definition}
 use Rattle.hs_linkage.specs.declared.externals.External.{External}
 use Rattle.hs_linkage.specs.declared.translator.Linked.{Linked}
@@ -67,14 +67,14 @@ module _ (program : TypedProgram) (here : List ℕ → Bool) (its : Claims) (var
     where
       by_linkage : (b : Bool) → IsAmong other (if b then m.externals else declared_as word id it.entity m m.externals)
       by_linkage true = is
-      by_linkage false = entities_stay word m.typer.origins.unit (with_type_id id it.entity) m.externals other is
+      by_linkage false = entities_stay word m.typer.origins.unit (mark_of m) (with_type_id id it.entity) m.externals other is
 
   -- and those of routines
   routines_stay : (other : External) → IsAmong other m.routines → IsAmong other after.routines
   routines_stay other is = by_routine (is_routine_entity it.entity)
     where
       by_routine : (b : Bool) → IsAmong other (if b then declared_as word id it.entity m m.routines else m.routines)
-      by_routine true = entities_stay word m.typer.origins.unit (with_type_id id it.entity) m.routines other is
+      by_routine true = entities_stay word m.typer.origins.unit (mark_of m) (with_type_id id it.entity) m.routines other is
       by_routine false = is
 
   -- What was accounted for still is.
@@ -142,7 +142,7 @@ module _ (program : TypedProgram) (here : List ℕ → Bool) (its : Claims) (var
     -- with external linkage, by this declaration
     by_noted : it.internal ≡ false → IsAccountedAs false program.types claiming.claims after other number
     by_noted is =
-        let noted = entity_noted word m.typer.origins.unit (with_type_id id it.entity) m.externals in (
+        let noted = entity_noted word m.typer.origins.unit (mark_of m) (with_type_id id it.entity) m.externals in (
           noted.0,
           subst (λ b. IsAmong noted.0 (if b then m.externals else declared_as word id it.entity m m.externals)) (sym is) noted.1,
           id,
@@ -168,7 +168,7 @@ module _ (program : TypedProgram) (here : List ℕ → Bool) (its : Claims) (var
   routine_accounted : (made : TypeId) (number : ℕ) → it.entity ≡ entity.Function made (bound.Routine number) → (other : TypeId) → Same other made
       → IsAccounted program.types claiming.claims after (entity.Function other (bound.Routine number))
   routine_accounted made number same other strict =
-      let noted = entity_noted word m.typer.origins.unit (with_type_id id it.entity) m.routines in (
+      let noted = entity_noted word m.typer.origins.unit (mark_of m) (with_type_id id it.entity) m.routines in (
         noted.0,
         subst (λ b. IsAmong noted.0 (if b then declared_as word id it.entity m m.routines else m.routines))
             (sym (ap is_routine_entity same)) noted.1,

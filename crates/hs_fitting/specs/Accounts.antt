@@ -18,6 +18,7 @@ use Rattle.hs_operand_types.specs.declared.operand.Bound.TheVariants as bound
 use Rattle.hs_syntax.specs.declared.word.Word.{Word}
 use Rattle.hs_tree.specs.declared.head.Variable.TheVariants as variable
 use Rattle.hs_typer.specs.contracts.typer.EntityPartialEq.TheImpl as entity_eq
+use Rattle.hs_typer.specs.declared.marks.Mark.{Mark}
 use Rattle.hs_typer.specs.declared.typer.Entity.{Entity}
 use Rattle.hs_typer.specs.declared.typer.Entity.TheVariants as entity
 use Rattle.hs_typer.specs.declared.typer.Typer.{Typer}
@@ -144,17 +145,17 @@ same_entities (entity.Typedef x) (entity.Constant b) same = absurd cc
 same_entities (entity.Typedef x) (entity.Variable other y) same = absurd cc
 same_entities (entity.Typedef x) (entity.Function y other) same = absurd cc
 
-module _ (word : Word) (unit : ℕ) (it : Entity) (its : List External) where
+module _ (word : Word) (unit : ℕ) (mark : Mark) (it : Entity) (its : List External) where
   -- those that were noted
-  pub entities_stay : (other : External) → IsAmong other its → IsAmong other (with_external word unit it its)
+  pub entities_stay : (other : External) → IsAmong other its → IsAmong other (with_external word unit mark it its)
   entities_stay other is = by_test (says_same (newest_external word.text its) it)
     where
-      by_test : (b : Bool) → IsAmong other (if b then its else external_of word unit it ∷ its)
+      by_test : (b : Bool) → IsAmong other (if b then its else external_of word unit mark it ∷ its)
       by_test true = is
       by_test false = inr is
 
   -- and this one
-  pub entity_noted : (other : External) × IsAmong other (with_external word unit it its) × (other.entity ≡ it)
+  pub entity_noted : (other : External) × IsAmong other (with_external word unit mark it its) × (other.entity ≡ it)
   entity_noted = by_test (says_same (newest_external word.text its) it) refl
     where
       newest : (o : Option Entity) → newest_external word.text its ≡ o → says_same o it ≡ true → (other : External) × IsAmong other its × (other.entity ≡ it)
@@ -164,6 +165,6 @@ module _ (word : Word) (unit : ℕ) (it : Entity) (its : List External) where
           (one.0, one.1, one.3 ∙ same_entities old it is)
 
       by_test : (b : Bool) → says_same (newest_external word.text its) it ≡ b
-          → (other : External) × IsAmong other (if b then its else external_of word unit it ∷ its) × (other.entity ≡ it)
+          → (other : External) × IsAmong other (if b then its else external_of word unit mark it ∷ its) × (other.entity ≡ it)
       by_test true same = newest (newest_external word.text its) refl same
-      by_test false same = (external_of word unit it, inl refl, refl)
+      by_test false same = (external_of word unit mark it, inl refl, refl)

@@ -15,7 +15,7 @@ use Rattle.hs_operand_types.specs.Conversions.{same_type}
 use Rattle.hs_operands.specs.Laws.Numbers.{same-is}
 use Rattle.hs_operand_types.specs.Types.{inside_both, both_are}
 use Rattle.hs_tree.specs.Kinds.{Category, category_of, category_of_row}
-use Rattle.hs_typer.specs.Origins.{are_one_brace, are_one_tag, origins_agree, has_body, structs_agree, leaves_agree, objects_agree_within, objects_agree}
+use Rattle.hs_typer.specs.Origins.{are_one_brace, stands_for, origins_agree, has_body, structs_agree, leaves_agree, objects_agree_within, objects_agree}
 use Rattle.hs_typer.specs.declared.origins.Brace.{Brace}
 use Rattle.hs_typer.specs.declared.origins.Origin.{Origin}
 use Rattle.hs_typer.specs.declared.origins.Origins.{Origins}
@@ -39,7 +39,7 @@ struct_leaves test old o a b m n x y known known' at at' is =
         let equal : m ≡ n = cc in
         first (m == n) (is_same m n (m == n) refl equal)
       where
-        first : (b : Bool) → b ≡ true → (b || origins_agree (has_body old m && has_body old n) (slice_get o.structs m) (slice_get o.structs n)) ≡ true
+        first : (b : Bool) → b ≡ true → (b || origins_agree o (has_body old m && has_body old n) m n (slice_get o.structs m) (slice_get o.structs n)) ≡ true
         first true is = refl
         first false is = absurd cc
 
@@ -79,37 +79,39 @@ OriginsAre o complete m n a b =
 
 -- of two origins that agree
 origins_are : (o : Origins) (complete : Bool) (m n : ℕ) (a b : Origin) → slice_get o.structs m ≡ Some a → slice_get o.structs n ≡ Some b
-    → origins_agree complete (Some a) (Some b) ≡ true → OriginsAre o complete m n a b
+    → origins_agree o complete m n (Some a) (Some b) ≡ true → OriginsAre o complete m n a b
 origins_are o complete m n a b at at' is =
-    either (either_test (are_one_brace a.brace b.brace) (are_one_tag a.tag b.tag && not (a.unit == b.unit) && not complete) is)
+    either (either_test (are_one_brace a.brace b.brace) ((stands_for o m == stands_for o n) && not (a.unit == b.unit) && not complete) is)
   where
     not_true : (b : Bool) → not b ≡ true → b ≡ false
     not_true true is = absurd cc
     not_true false is = refl
 
-    either : (are_one_brace a.brace b.brace ≡ true) ⊎ ((are_one_tag a.tag b.tag && not (a.unit == b.unit) && not complete) ≡ true)
-        → OriginsAre o complete m n a b
+    either : (are_one_brace a.brace b.brace ≡ true)
+        ⊎ (((stands_for o m == stands_for o n) && not (a.unit == b.unit) && not complete) ≡ true) → OriginsAre o complete m n a b
     either (inl braces) =
         let one = brace_there a.brace b.brace braces in inl (inr (one.0, (a, at, one.1), (b, at', one.2)))
     either (inr others) =
-        let tests = both_tests (are_one_tag a.tag b.tag && not (a.unit == b.unit)) (not complete) others in
-        inr (not_true (a.unit == b.unit) (both_tests (are_one_tag a.tag b.tag) (not (a.unit == b.unit)) tests.0).1, not_true complete tests.1)
+        let tests = both_tests ((stands_for o m == stands_for o n) && not (a.unit == b.unit)) (not complete) others in
+        inr
+        (not_true (a.unit == b.unit) (both_tests (stands_for o m == stands_for o n) (not (a.unit == b.unit)) tests.0).1, not_true complete tests.1)
 
 -- two structs that agree: one, or two origins
 pub structs_are : (old : TypeTable) (o : Origins) (m n : ℕ) → structs_agree old o m n ≡ true
     → AreOneIn o m n ⊎ ((a : Origin) × (b : Origin) × (slice_get o.structs m ≡ Some a) × (slice_get o.structs n ≡ Some b)
     × OriginsAre o (has_body old m && has_body old n) m n a b)
-structs_are old o m n is = either (either_test (m == n) (origins_agree (has_body old m && has_body old n) (slice_get o.structs m) (slice_get o.structs n)) is)
+structs_are old o m n is = either (either_test (m == n)
+    (origins_agree o (has_body old m && has_body old n) m n (slice_get o.structs m) (slice_get o.structs n)) is)
   where
     by_origins : (x y : Option Origin) → slice_get o.structs m ≡ x → slice_get o.structs n ≡ y
-        → origins_agree (has_body old m && has_body old n) x y ≡ true
+        → origins_agree o (has_body old m && has_body old n) m n x y ≡ true
         → (a : Origin) × (b : Origin) × (slice_get o.structs m ≡ Some a) × (slice_get o.structs n ≡ Some b)
         × OriginsAre o (has_body old m && has_body old n) m n a b
     by_origins None y at at' is = absurd cc
     by_origins (Some a) None at at' is = absurd cc
     by_origins (Some a) (Some b) at at' is = (a, b, at, at', origins_are o (has_body old m && has_body old n) m n a b at at' is)
 
-    either : ((m == n) ≡ true) ⊎ (origins_agree (has_body old m && has_body old n) (slice_get o.structs m) (slice_get o.structs n) ≡ true)
+    either : ((m == n) ≡ true) ⊎ (origins_agree o (has_body old m && has_body old n) m n (slice_get o.structs m) (slice_get o.structs n) ≡ true)
         → AreOneIn o m n ⊎ ((a : Origin) × (b : Origin) × (slice_get o.structs m ≡ Some a) × (slice_get o.structs n ≡ Some b)
         × OriginsAre o (has_body old m && has_body old n) m n a b)
     either (inl same) = inl (inl (same_number m n same))

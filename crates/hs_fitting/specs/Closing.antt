@@ -13,13 +13,14 @@ use Rattle.hs_fitting.specs.Registering.{linked_in}
 use Rattle.hs_fitting.specs.Strict.{SameBy, AreOneIn, AreApart, AreClosed, closed_later, same_so, same_turned}
 use Rattle.hs_linkage.specs.Definitions.{same_name}
 use Rattle.hs_linkage.specs.Externals.{type_of_entity, agrees_in, all_agree, newest_external, external_of, says_same, with_external, unfit}
-use Rattle.hs_linkage.specs.Linkage.{with_type_id, declared_as, is_routine_entity}
+use Rattle.hs_linkage.specs.Linkage.{with_type_id, mark_of, declared_as, is_routine_entity}
 use Rattle.hs_linkage.specs.declared.externals.External.{External}
 use Rattle.hs_linkage.specs.declared.translator.Linked.{Linked}
 use Rattle.hs_linkage.specs.declared.translator.StaticObject.{StaticObject}
 use Rattle.hs_linkage.specs.declared.translator.Translator.{Translator}
 use Rattle.hs_syntax.specs.declared.word.Word.{Word}
 use Rattle.hs_typer.specs.Origins.{agree}
+use Rattle.hs_typer.specs.declared.marks.Mark.{Mark}
 use Rattle.hs_typer.specs.declared.typer.Entity.{Entity}
 use Rattle.hs_typer.specs.declared.typer.Typer.{Typer}
 use Rattle.hs_types.specs.TypeTables.{TypeTable, Grows}
@@ -48,11 +49,11 @@ unit_self n true is fails = cc
 unit_self n false is fails = absurd (grind (arith, nat_tests, is))
 
 -- what is noted in this unit is not of an earlier one
-older_among : (word : Word) (unit : ℕ) (it : Entity) (its : List External) (x : External) → (x.unit == unit) ≡ false
-    → IsAmong x (with_external word unit it its) → IsAmong x its
-older_among word unit it its x older is = by_test (says_same (newest_external word.text its) it) is
+older_among : (word : Word) (unit : ℕ) (mark : Mark) (it : Entity) (its : List External) (x : External) → (x.unit == unit) ≡ false
+    → IsAmong x (with_external word unit mark it its) → IsAmong x its
+older_among word unit mark it its x older is = by_test (says_same (newest_external word.text its) it) is
   where
-    by_test : (b : Bool) → IsAmong x (if b then its else external_of word unit it ∷ its) → IsAmong x its
+    by_test : (b : Bool) → IsAmong x (if b then its else external_of word unit mark it ∷ its) → IsAmong x its
     by_test true among = among
     by_test false (inl same) = absurd (unit_self unit (unit == unit) refl (subst (λ n. (n == unit) ≡ false) (sym (ap (λ x. x.unit) same)) older))
     by_test false (inr among) = among
@@ -73,7 +74,7 @@ closed_linked m word id it objects later base same types are =
         by_linkage : (b : Bool) → IsAmong x (if b then m.externals else declared_as word id it.entity m m.externals)
             → IsAmong x m.externals
         by_linkage true is = is
-        by_linkage false is = older_among word m.typer.origins.unit (with_type_id id it.entity) m.externals x older is
+        by_linkage false is = older_among word m.typer.origins.unit (mark_of m) (with_type_id id it.entity) m.externals x older is
 
     routine_before : (x : External) → (x.unit == m.typer.origins.unit) ≡ false → IsAmong x (linked_in m word id it objects).routines
         → IsAmong x m.routines
@@ -81,7 +82,7 @@ closed_linked m word id it objects later base same types are =
       where
         by_routine : (b : Bool) → IsAmong x (if b then declared_as word id it.entity m m.routines else m.routines)
             → IsAmong x m.routines
-        by_routine true is = older_among word m.typer.origins.unit (with_type_id id it.entity) m.routines x older is
+        by_routine true is = older_among word m.typer.origins.unit (mark_of m) (with_type_id id it.entity) m.routines x older is
         by_routine false is = is
 
 -- ---- at the end of a unit

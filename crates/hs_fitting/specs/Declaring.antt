@@ -2,7 +2,7 @@
 --     file_declared_moved             a declaration of file scope
 --     link_moved, linked_moved, ..    its parts, for those of blocks
 use Rattle.std.proofs.Common.{ℕ, Bool, true, false, not, ◌&&◌, List, [], ◌∷◌, ◌++◌, Option, Some, None, Ok, if◌then◌else◌, refl}
-use Rattle.hs_declarations.specs.Declarations.{is_object, can_start, is_first, object_started, started_as, object_with_start, may_be_tentative, keeps_linkage, file_object, with_inline_words, function_declared, file_entity, is_static, is_typedef_word, file_item_as, file_item, file_items, typedef_as, typedef_item, typedef_types, typedef_named, typedefs_named, typedef_items, nothing_named, file_declared_at, file_declared}
+use Rattle.hs_declarations.specs.Declarations.{is_object, can_start, is_first, object_started, started_as, object_with_start, may_be_tentative, keeps_linkage, awaits_body, tentative_of, tentative, file_object, with_inline_words, function_declared, file_entity, is_static, is_typedef_word, file_item_as, file_item, file_items, typedef_as, typedef_item, typedef_types, typedef_named, typedefs_named, typedef_items, nothing_named, file_declared_at, file_declared}
 use Rattle.hs_declarations.specs.Fronts.{front, item_type, tag_alone, tag_alone_as, lone_tag, declares_any, storage_place, place_of_start}
 use Rattle.hs_declarations.specs.declared.fronts.Front.{Front}
 use Rattle.hs_expressions.specs.Expressions.{first_place}
@@ -10,7 +10,7 @@ use Rattle.hs_expressions.specs.Laws.{IsConstant, IsScoped}
 use Rattle.hs_expressions.specs.Laws.Always.{Always, Anything, gives_always, refuses_always, looks_always, on_types_always, then_always}
 use Rattle.hs_expressions.specs.Laws.Extending.{specified_always, derivations_always}
 use Rattle.hs_expressions.specs.Laws.Grown.{formed_grows}
-use Rattle.hs_expressions.specs.Laws.Leaves.{tagged_struct_reaches, declare_always}
+use Rattle.hs_expressions.specs.Laws.Leaves.{note_tentative_always, tagged_struct_reaches, declare_always}
 use Rattle.hs_expressions.specs.Laws.Reached.{IsAllowedAt, more_one, reaches_names}
 use Rattle.hs_fitting.specs.Initialising.{initialised_always, inline_words_always}
 use Rattle.hs_fitting.specs.Moves.{Moves, moves_self}
@@ -31,6 +31,7 @@ use Rattle.hs_tree.specs.declared.constant.Part.{Part}
 use Rattle.hs_syntax.specs.declared.operators.Storage.{Storage}
 use Rattle.hs_tree.specs.declared.head.Variable.TheVariants as variable
 use Rattle.hs_typer.specs.Declarators.{declare, formed, place_of, word_of}
+use Rattle.hs_typer.specs.Declaring.{note_tentative}
 use Rattle.hs_typer.specs.Specifiers.{no_specifiers, type_from, new_tagged_struct}
 use Rattle.hs_typer.specs.declared.type_error.TypeError.TheVariants.{Untyped}
 use Rattle.hs_typer.specs.declared.typer.Entity.{Entity}
@@ -183,13 +184,23 @@ with_start_moved : (static : Bool) (word : Word) (it : Option Initialising) (its
 with_start_moved static word None its = passes_moved tt
 with_start_moved static word (Some it) its = started_as_moved static word it its
 
+pub tentative_moved : (storage : Option Storage) (word : Word) (id : TypeId) (it : Option Initialising) → Moved (tentative storage word id it)
+tentative_moved storage word id it = record { from = λ m scoped. by_test (awaits_body storage id it m) m scoped }
+  where
+    by_test : (b : Bool) (m : Translator) → IsScoped m.typer
+        → Moving {A = Unit {0}} m (if b then typing (note_tentative (tentative_of word id m)) m else Ok (tt, m))
+    by_test true m scoped =
+        (typing_moved IsConstant (note_tentative (tentative_of word id m)) (note_tentative_always (tentative_of word id m))).from m scoped
+    by_test false m scoped = moves_self m scoped
+
 file_object_moved : (storage : Option Storage) (word : Word) (id : TypeId) (it : Option Initialising) → Moved (file_object storage word id it)
 file_object_moved storage word id it =
     then_moved (is_object word id) (unless_moved _ _)
     (λ may. then_moved (may_be_tentative (is_static storage) word id it) (unless_moved _ _)
     (λ may'. then_moved (keeps_linkage storage word) (unless_moved _ _)
-    (λ keeps. then_moved (linked (is_static storage) word id) (linked_moved (is_static storage) word id)
-    (λ its. with_start_moved (is_static storage) word it its))))
+    (λ keeps. then_moved (tentative storage word id it) (tentative_moved storage word id it)
+    (λ noted. then_moved (linked (is_static storage) word id) (linked_moved (is_static storage) word id)
+    (λ its. with_start_moved (is_static storage) word it its)))))
 
 words_moved : (it : Option Initialising) → Moved (with_inline_words it)
 words_moved None = passes_moved tt

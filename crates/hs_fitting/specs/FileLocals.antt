@@ -3,7 +3,7 @@
 --     passes_still, typing_still, ..  one step; then_still, either_still: one after another
 --     file_declared_locals            of a declaration of file scope
 use Rattle.std.proofs.Common.{◌≡◌, ℕ, Bool, true, false, not, ◌&&◌, List, [], ◌∷◌, ◌++◌, Option, Some, None, Result, Ok, Err, refl, subst, ◌∙◌, if◌then◌else◌}
-use Rattle.hs_declarations.specs.Declarations.{is_object, can_start, is_first, object_started, started_as, object_with_start, may_be_tentative, keeps_linkage, file_object, with_inline_words, function_declared, file_entity, is_static, is_typedef_word, file_item_as, file_item, file_items, typedef_as, typedef_item, typedef_types, typedef_named, typedefs_named, typedef_items, nothing_named, file_declared_at, file_declared}
+use Rattle.hs_declarations.specs.Declarations.{is_object, can_start, is_first, object_started, started_as, object_with_start, may_be_tentative, keeps_linkage, awaits_body, tentative_of, tentative, file_object, with_inline_words, function_declared, file_entity, is_static, is_typedef_word, file_item_as, file_item, file_items, typedef_as, typedef_item, typedef_types, typedef_named, typedefs_named, typedef_items, nothing_named, file_declared_at, file_declared}
 use Rattle.hs_declarations.specs.Fronts.{front, item_type, tag_alone, lone_tag, declares_any, storage_place, place_of_start}
 use Rattle.hs_declarations.specs.declared.fronts.Front.{Front}
 use Rattle.hs_expressions.specs.Expressions.{first_place}
@@ -22,6 +22,7 @@ use Rattle.hs_tree.specs.declared.constant.Part.{Part}
 use Rattle.hs_syntax.specs.declared.operators.Storage.{Storage}
 use Rattle.hs_tree.specs.declared.head.Variable.TheVariants as variable
 use Rattle.hs_typer.specs.Declarators.{declare, word_of}
+use Rattle.hs_typer.specs.Declaring.{note_tentative}
 use Rattle.hs_typer.specs.Steps.{Step}
 use Rattle.hs_typer.specs.declared.type_error.TypeError.{TypeError}
 use Rattle.hs_typer.specs.declared.type_error.TypeError.TheVariants.{Untyped}
@@ -202,14 +203,24 @@ with_start_still : (static : Bool) (word : Word) (it : Option Initialising) (its
 with_start_still static word None its = passes_still tt
 with_start_still static word (Some it) its = started_as_still static word it its
 
+-- an object whose type is not complete is noted
+tentative_still : (storage : Option Storage) (word : Word) (id : TypeId) (it : Option Initialising) → Still (tentative storage word id it)
+tentative_still storage word id it = record { from = λ m. by_test (awaits_body storage id it m) m }
+  where
+    by_test : (b : Bool) (m : Translator)
+        → Stilled {A = Unit {0}} m (if b then typing (note_tentative (tentative_of word id m)) m else Ok (tt, m))
+    by_test true m = (typing_still (note_tentative (tentative_of word id m))).from m
+    by_test false m = (refl, refl)
+
 -- an object
 file_object_still : (storage : Option Storage) (word : Word) (id : TypeId) (it : Option Initialising) → Still (file_object storage word id it)
 file_object_still storage word id it =
     then_still (is_object word id) (unless_still _ _)
     (λ may. then_still (may_be_tentative (is_static storage) word id it) (unless_still _ _)
     (λ whole. then_still (keeps_linkage storage word) (unless_still _ _)
-    (λ keeps. then_still (linked (is_static storage) word id) (linked_still (is_static storage) word id)
-    (λ its. with_start_still (is_static storage) word it its))))
+    (λ keeps. then_still (tentative storage word id it) (tentative_still storage word id it)
+    (λ noted. then_still (linked (is_static storage) word id) (linked_still (is_static storage) word id)
+    (λ its. with_start_still (is_static storage) word it its)))))
 
 -- the words of an inline trap
 words_still : (it : Option Initialising) → Still (with_inline_words it)

@@ -2,18 +2,19 @@
 --     then_plain, any_typing          steps of which no fact is wanted
 --     given_walks                     facts that do not change
 --     file_declared_walks             a declaration of file scope
-use Rattle.std.proofs.Common.{◌≡◌, ℕ, Bool, true, false, not, ◌&&◌, ◌||◌, List, [], ◌∷◌, ◌++◌, slice_get, Option, Some, None, is_none, refl, sym, ap, subst, ◌∙◌, if◌then◌else◌}
+use Rattle.std.proofs.Common.{◌≡◌, ℕ, Bool, true, false, not, ◌&&◌, ◌||◌, List, [], ◌∷◌, ◌++◌, slice_get, Option, Some, None, Ok, is_none, refl, sym, ap, subst, ◌∙◌, if◌then◌else◌}
 use Rattle.std.specs.List.{AllByRecursion}
 use Rattle.hs_base.specs.Options.{some_same}
 use Rattle.hs_base.specs.Tests.{true_false, not_false}
 use Rattle.hs_base.specs.Entries.{all_appended}
-use Rattle.hs_declarations.specs.Declarations.{is_object, can_start, is_first, object_started, started_as, object_with_start, may_be_tentative, is_internal_link, keeps_linkage, file_object, function_declared, file_entity, is_static, is_typedef_word, file_item_as, file_item, file_items, typedef_as, typedef_item, typedef_types, typedef_named, typedefs_named, typedef_items, file_items_as, file_declared_at, file_declared}
+use Rattle.hs_declarations.specs.Declarations.{is_object, can_start, is_first, object_started, started_as, object_with_start, may_be_tentative, is_internal_link, keeps_linkage, awaits_body, tentative_of, tentative, file_object, function_declared, file_entity, is_static, is_typedef_word, file_item_as, file_item, file_items, typedef_as, typedef_item, typedef_types, typedef_named, typedefs_named, typedef_items, file_items_as, file_declared_at, file_declared}
 use Rattle.hs_declarations.specs.Fronts.{front, item_type, lone_tag, place_of_start}
 use Rattle.hs_declarations.specs.declared.fronts.Front.{Front}
 use Rattle.hs_expressions.specs.Expressions.{first_place}
-use Rattle.hs_expressions.specs.Laws.{IsConstant}
+use Rattle.hs_expressions.specs.Laws.{IsConstant, IsScoped}
 use Rattle.hs_fitting.specs.BlockWalks.{either_known_walks, nothing_named_walks, function_declared_walks, object_walks}
-use Rattle.hs_fitting.specs.Claims.{Claims, Endures, Proceeds, category_at}
+use Rattle.hs_fitting.specs.Claims.{Claims, Endures, Proceeds, Stands, category_at}
+use Rattle.hs_fitting.specs.Declaring.{tentative_moved}
 use Rattle.hs_fitting.specs.Initialised.{initialised_walks}
 use Rattle.hs_fitting.specs.Known.{own_here, typing_fully, typing_walks}
 use Rattle.hs_fitting.specs.Lasting.{endures_moves}
@@ -21,12 +22,13 @@ use Rattle.hs_fitting.specs.LinkedNames.{IsReferred, kept_walks, define_object_w
 use Rattle.hs_fitting.specs.Moves.{Moves}
 use Rattle.hs_fitting.specs.Moving.{Moved}
 use Rattle.hs_fitting.specs.Noting.{Notes}
+use Rattle.hs_fitting.specs.NotingCalm.{note_tentative_notes}
 use Rattle.hs_fitting.specs.NotingDeclaring.{front_notes}
 use Rattle.hs_fitting.specs.OwnWalks.{OwnId, own_kept, own_over, own_through, item_own_walks, initialised_also}
 use Rattle.hs_fitting.specs.Owned.{IsOwn}
 use Rattle.hs_fitting.specs.Owning.{Owning, front_own}
 use Rattle.hs_fitting.specs.Storage.{front_static}
-use Rattle.hs_fitting.specs.Walk.{Anywhere, Nothing, Walks, passes_walks, stops_walks, unless_walks, then_walks, so_walks}
+use Rattle.hs_fitting.specs.Walk.{Anywhere, Nothing, Walking, Walks, stays_walked, passes_walks, stops_walks, unless_walks, then_walks, so_walks}
 use Rattle.hs_fitting.specs.Whole.{MayStart}
 use Rattle.hs_initialisers.specs.Initialisers.{initialised}
 use Rattle.hs_linkage.specs.Definitions.{has_static}
@@ -46,6 +48,8 @@ use Rattle.hs_names.specs.Scopes.{find}
 use Rattle.hs_syntax.specs.declared.operators.Storage.{Storage}
 use Rattle.hs_tree.specs.declared.head.Variable.TheVariants as variable
 use Rattle.hs_typer.specs.Declarators.{word_of}
+use Rattle.hs_typer.specs.Declaring.{note_tentative}
+use Rattle.hs_typer.specs.declared.marks.Tentative.{Tentative}
 use Rattle.hs_typer.specs.Steps.{Step}
 use Rattle.hs_typer.specs.declared.type_error.TypeError.TheVariants.{Untyped}
 use Rattle.hs_typer.specs.declared.typer.Entity.{Entity}
@@ -194,6 +198,33 @@ module _ {here : List ℕ → Bool} {program : TypedProgram} {function : TypedFu
       so_walks (λ its m is. ((λ other. is.0, is.1), is.0)) (λ its m it is. is) (λ it is. is)
       (kept_walks (λ its m. IsNoFunction program.types id) (λ its later m n proceeds moves is. is) (linked_walks static word id inside))
 
+  -- an object whose type is not complete is noted
+  noted_walks : (id : TypeId) (entry : Tentative)
+      → Walks here program function (λ its m. IsNoFunction program.types id × OwnId id its m) (typing (note_tentative entry))
+      (λ its m done. IsNoFunction program.types id × OwnId id its m) (λ done. Unit {0})
+  noted_walks id entry =
+      so_walks (λ its m is. (tt, is)) (λ its m done is. is.1) (λ done is. is)
+      (kept_walks (λ its m. IsNoFunction program.types id × OwnId id its m)
+      (λ its later m n proceeds moves is. (is.0, own_kept program.types id its later m n proceeds moves is.1))
+      (any_typing {pre = Anywhere} (note_tentative entry) (λ Q. note_tentative_notes Q program.types entry)))
+
+  tentative_walks : (storage : Option Storage) (word : Word) (id : TypeId) (it : Option Initialising)
+      → Walks here program function (λ its m. IsNoFunction program.types id × OwnId id its m) (tentative storage word id it)
+      (λ its m done. IsNoFunction program.types id × OwnId id its m) (λ done. Unit {0})
+  tentative_walks storage word id it =
+      record {
+        moved = tentative_moved storage word id it;
+        from = λ its m scoped counts stands met. by_test (awaits_body storage id it m) its m scoped counts stands met;
+      }
+    where
+      by_test : (b : Bool) (its : Claims) (m : Translator) → IsScoped m.typer → m.typer.counts ≡ true → Stands program here its m.locals m
+          → IsNoFunction program.types id × OwnId id its m
+          → Walking {A = Unit {0}} here program function its m (λ its m done. IsNoFunction program.types id × OwnId id its m) (λ done. Unit {0})
+          (if b then typing (note_tentative (tentative_of word id m)) m else Ok (tt, m))
+      by_test true its m scoped counts stands met = (noted_walks id (tentative_of word id m)).from its m scoped counts stands met
+      by_test false its m scoped counts stands met =
+          stays_walked here program function (λ its m done. IsNoFunction program.types id × OwnId id its m) (λ done. Unit {0}) tt its m stands met tt
+
   -- an object of file scope
   file_object_walks : (storage : Option Storage) (word : Word) (id : TypeId) (it : Option Initialising)
       → (is_static storage ≡ true → here word.text ≡ true)
@@ -204,8 +235,9 @@ module _ {here : List ℕ → Bool} {program : TypedProgram} {function : TypedFu
       (unless_walks (Untyped word.place) (λ m. is_static storage && is_none it && not (is_complete m.typer.types id)) (λ its m met failed. met))
       (λ whole. then_plain {after = λ its m done. IsNoFunction program.types id × OwnId id its m} (keeps_linkage storage word)
       (unless_walks (Untyped word.place) (λ m. is_none storage && is_internal_link (find word.text m.links)) (λ its m met failed. met))
-      (λ keeps. then_plain (linked (is_static storage) word id) (object_linked_walks (is_static storage) word id inside)
-      (λ its. with_start_walks (is_static storage) word it id its inside))))
+      (λ keeps. then_plain (tentative storage word id it) (tentative_walks storage word id it)
+      (λ noted. then_plain (linked (is_static storage) word id) (object_linked_walks (is_static storage) word id inside)
+      (λ its. with_start_walks (is_static storage) word it id its inside)))))
 
   -- ---- declarators
 

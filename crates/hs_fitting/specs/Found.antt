@@ -11,6 +11,7 @@ use Rattle.hs_linkage.specs.Externals.{newest_external, external_of, says_same, 
 use Rattle.hs_linkage.specs.declared.externals.External.{External}
 use Rattle.hs_names.specs.Scopes.{Scoped, Declared, newest, entity_of, find, declared}
 use Rattle.hs_syntax.specs.declared.word.Word.{Word}
+use Rattle.hs_typer.specs.declared.marks.Mark.{Mark}
 use Rattle.hs_typer.specs.declared.typer.Entity.{Entity}
 
 -- ---- names
@@ -109,10 +110,10 @@ module _ {E : Type 0} where
 abbrev pub IsThere : List ℕ → List External → Type 0
 IsThere name its = IsTrue (is_some (newest_external name its))
 
-module _ (word : Word) (unit : ℕ) (it : Entity) where
+module _ (word : Word) (unit : ℕ) (mark : Mark) (it : Entity) where
   -- it is the newest one, or it is as the newest one
   newest_if : (its : List External) (b : Bool) → says_same (newest_external word.text its) it ≡ b
-      → IsThere word.text (if b then its else external_of word unit it ∷ its)
+      → IsThere word.text (if b then its else external_of word unit mark it ∷ its)
   newest_if its true is = old (newest_external word.text its) is
     where
       old : (o : Option Entity) → says_same o it ≡ true → IsTrue (is_some o)
@@ -125,11 +126,11 @@ module _ (word : Word) (unit : ℕ) (it : Entity) where
       first false o is = absurd cc
 
   -- so it is there
-  pub external_there : (its : List External) → IsThere word.text (with_external word unit it its)
+  pub external_there : (its : List External) → IsThere word.text (with_external word unit mark it its)
   external_there its = newest_if its (says_same (newest_external word.text its) it) refl
 
   -- others are still there
-  stays_if : (name : List ℕ) (its : List External) (b : Bool) → IsThere name its → IsThere name (if b then its else external_of word unit it ∷ its)
+  stays_if : (name : List ℕ) (its : List External) (b : Bool) → IsThere name its → IsThere name (if b then its else external_of word unit mark it ∷ its)
   stays_if name its true is = is
   stays_if name its false is = behind (same_name word.text name) (newest_external name its) is
     where
@@ -138,16 +139,16 @@ module _ (word : Word) (unit : ℕ) (it : Entity) where
       behind false o is = is
 
   -- other names
-  pub external_stays : (name : List ℕ) (its : List External) → IsThere name its → IsThere name (with_external word unit it its)
+  pub external_stays : (name : List ℕ) (its : List External) → IsThere name its → IsThere name (with_external word unit mark it its)
   external_stays name its is = stays_if name its (says_same (newest_external word.text its) it) is
 
   -- what is so of all, and of it
-  all_if : (holds : External → Type 0) (its : List External) (b : Bool) → holds (external_of word unit it) → AllByRecursion holds its
-      → AllByRecursion holds (if b then its else external_of word unit it ∷ its)
+  all_if : (holds : External → Type 0) (its : List External) (b : Bool) → holds (external_of word unit mark it) → AllByRecursion holds its
+      → AllByRecursion holds (if b then its else external_of word unit mark it ∷ its)
   all_if holds its true is are = are
   all_if holds its false is are = (is, are)
 
   -- where it is new
-  pub external_all : (holds : External → Type 0) (its : List External) → holds (external_of word unit it) → AllByRecursion holds its
-      → AllByRecursion holds (with_external word unit it its)
+  pub external_all : (holds : External → Type 0) (its : List External) → holds (external_of word unit mark it) → AllByRecursion holds its
+      → AllByRecursion holds (with_external word unit mark it its)
   external_all holds its is are = all_if holds its (says_same (newest_external word.text its) it) is are

@@ -40,6 +40,7 @@ pub mod Inner
 pub mod KeptOpening
 pub mod Known
 pub mod Lasting
+pub mod Lateness
 pub mod Leaving
 pub mod LinkedNames
 pub mod Linking

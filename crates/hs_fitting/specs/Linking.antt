@@ -23,7 +23,7 @@ use Rattle.hs_fitting.specs.Owned.{IsOwn}
 use Rattle.hs_fitting.specs.Owning.{IsOwnName}
 use Rattle.hs_fitting.specs.Registering.{linked_in, externals_there, routines_stay, routines_there, routines_all, met_by, registered_by, registered_first, routine_is}
 use Rattle.hs_linkage.specs.Externals.{newest_external, type_of_entity}
-use Rattle.hs_linkage.specs.Linkage.{with_type_id, declared_as, agrees_with_all, clash_of, compatible_routines, is_routine_entity, link_as, link, noted, is_function}
+use Rattle.hs_linkage.specs.Linkage.{mark_of, with_type_id, declared_as, agrees_with_all, clash_of, compatible_routines, is_routine_entity, link_as, link, noted, is_function}
 use Rattle.hs_linkage.specs.Works.{◌>>◌}
 use Rattle.hs_linkage.specs.declared.definitions.Definition.{Definition}
 use Rattle.hs_linkage.specs.declared.externals.External.{External}
@@ -166,7 +166,7 @@ module _ (program : TypedProgram) (here : List ℕ → Bool) (its : Claims) (var
           (if b then m.externals else declared_as word id it.entity m m.externals)
       by_linkage true is = older
       by_linkage false is =
-          external_all word m.typer.origins.unit (with_type_id id it.entity) (IsExternal program.types claiming.claims (linked_in m word id it objects))
+          external_all word m.typer.origins.unit (mark_of m) (with_type_id id it.entity) (IsExternal program.types claiming.claims (linked_in m word id it objects))
           m.externals
           (record {
             refers = typed_refers;

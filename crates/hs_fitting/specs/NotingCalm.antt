@@ -7,7 +7,7 @@ use Rattle.std.specs.Prelude.{◌&&◌, not, slice_get, length}
 use Rattle.hs_expressions.specs.Laws.{IsConstant}
 use Rattle.hs_expressions.specs.Laws.Always.{Always}
 use Rattle.hs_expressions.specs.Laws.Grown.{Growing, GrowsTo, arrayed_grows, completed_grows, enumerated_grows}
-use Rattle.hs_expressions.specs.Laws.Leaves.{string_always, addressed_always, struct_type_always, enumeration_type_always, tagged_struct_always, begun_struct_always, opened_struct_always, begun_enumeration_always, completed_enumeration_always}
+use Rattle.hs_expressions.specs.Laws.Leaves.{string_always, addressed_always, note_tentative_always, struct_type_always, enumeration_type_always, tagged_struct_always, begun_struct_always, opened_struct_always, begun_enumeration_always, completed_enumeration_always}
 use Rattle.hs_expressions.specs.Operations.{address_as, addressed}
 use Rattle.hs_fitting.specs.Noting.{AllowsName, NamesAllow, IsOperandOf, AreCallsOf, Noting, Notes}
 use Rattle.hs_fitting.specs.Rightness.{AreRight, Righting, RightsTo, right_row, right_struct, right_enumeration, right_self, arrayed_rights, completed_rights, enumerated_rights}
@@ -17,10 +17,12 @@ use Rattle.hs_operand_types.specs.Operands.{TypedOperand}
 use Rattle.hs_syntax.specs.declared.word.Word.{Word}
 use Rattle.hs_tokens.specs.declared.place.Place.{Place}
 use Rattle.hs_tree.specs.Trees.{LeftValue, type_of_left}
-use Rattle.hs_typer.specs.Origins.{brace_of, kept_for, times_at, first_name, is_plain, joined, met, closed, tags_agree}
+use Rattle.hs_typer.specs.Declaring.{note_tentative}
+use Rattle.hs_typer.specs.Origins.{brace_of, kept_for, times_at, first_name, is_plain, begun_nowhere, joined, met, closed, tags_agree}
 use Rattle.hs_typer.specs.Primaries.{string_bytes, string_in, string_as, string_of}
 use Rattle.hs_typer.specs.Specifiers.{struct_type, enumeration_type, tagged_struct_as, tagged_struct, has_open_body, begun_struct_as, begun_struct, body_opened, opened_struct, body_closed, begun_enumeration_as, begun_enumeration, with_body_in, struct_with_body, completed_struct, enumeration_with_body, completed_enumeration}
 use Rattle.hs_typer.specs.Steps.{Step, then_with, lifted}
+use Rattle.hs_typer.specs.declared.marks.Tentative.{Tentative}
 use Rattle.hs_typer.specs.declared.origins.Brace.{Brace}
 use Rattle.hs_typer.specs.declared.type_error.TypeError.{TypeError}
 use Rattle.hs_typer.specs.declared.type_error.TypeError.TheVariants.{Untyped, Clash}
@@ -122,7 +124,8 @@ joined_calm at it brace (Some first) s =
 closed_calm : (at : Place) (it : Tag) (s : Typer) → Calm (λ it. Unit {0}) s (closed at it s)
 closed_calm at it s =
     if_calm (λ it. Unit {0}) (is_plain at.origin) s
-    (joined at it (brace_of at (times_at at s.origins)) (kept_for (brace_of at (times_at at s.origins)) s.origins.firsts) s) (Ok (tt, s))
+    (joined at it (brace_of at (times_at at s.origins)) (kept_for (brace_of at (times_at at s.origins)) s.origins.firsts) s)
+    (Ok (tt, record s { origins = begun_nowhere it s.origins }))
     (joined_calm at it (brace_of at (times_at at s.origins)) (kept_for (brace_of at (times_at at s.origins)) s.origins.firsts) s)
     (refl, refl, refl, grows_self s.types, right_self s.types, tt)
 
@@ -169,6 +172,12 @@ module _ (Q : ℕ → TypeId → Type 0) (final : TypeTable) where
   calm_notes : {A : Type 0} → (holds : A → Type 0) (step : Step A) → Always IsConstant step → ((s : Typer) → Calm holds s (step s))
       → Notes Q final IsConstant holds step
   calm_notes holds step is calm = record { always = is; gives = λ s names. calm_noting holds s (step s) names (calm s) }
+
+  -- an object whose type is not complete
+  pub note_tentative_notes : (it : Tentative) → Notes Q final IsConstant (λ it. Unit {0}) (note_tentative it)
+  note_tentative_notes it =
+      calm_notes (λ it. Unit {0}) (note_tentative it) (note_tentative_always it)
+      (λ s. (refl, refl, refl, grows_self s.types, right_self s.types, tt))
 
   -- the type of a struct
   pub struct_type_notes : (number : ℕ) → Notes Q final IsConstant (λ it. Unit {0}) (struct_type number)

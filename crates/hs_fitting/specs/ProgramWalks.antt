@@ -36,10 +36,11 @@ use Rattle.hs_fitting.specs.Works.{Given}
 use Rattle.hs_functions.specs.Units.{externals, unit_ended, unit_of, units_of}
 use Rattle.hs_linkage.specs.Definitions.{is_internal, definitions_in, all_definitions}
 use Rattle.hs_linkage.specs.Externals.{unfit}
-use Rattle.hs_linkage.specs.Linkage.{unless_unfit, rechecked_all}
+use Rattle.hs_fitting.specs.Lateness.{all_fit}
+use Rattle.hs_linkage.specs.Linkage.{unless_late, first_late}
 use Rattle.hs_linkage.specs.Works.{before_units, work_with, ◌>>◌, pass}
 use Rattle.hs_linkage.specs.declared.definitions.Definition.{Definition}
-use Rattle.hs_linkage.specs.declared.externals.External.{External}
+use Rattle.hs_linkage.specs.declared.late.Late.{Late}
 use Rattle.hs_linkage.specs.declared.translator.Translator.{Translator}
 use Rattle.hs_syntax.specs.Trees.{ExternalDeclaration}
 use Rattle.hs_table.specs.declared.routine.Routine.{Routine}
@@ -100,6 +101,8 @@ ended_at m =
         names = record { declarations = []; level = 0 };
         tags = record { declarations = []; level = 0 };
         origins = record m.typer.origins { unit = suc m.typer.origins.unit; times = [] };
+        begun = [];
+        tentatives = [];
       };
       links = record { declarations = []; level = 0 };
       internals = [];
@@ -359,28 +362,16 @@ module _ (program : TypedProgram) (sound : IsRight program.types) (anyone : Type
 
   -- ---- its answer
 
-  after_checked : (all : List TypedFunction) (n : Translator) → GoingRight program (is_internal unit) its m done (Ok (all, n))
-      → unfit n.typer.types n.typer.origins n.externals n.externals ≡ None
-      → (o : Option External) → unfit n.typer.types n.typer.origins n.routines n.routines ≡ o
-      → AllFit m (work_with {A = Unit {0}} {B = List TypedFunction} (λ again. unit_ended >> pass all) (unless_unfit o n))
+  after_checked : (all : List TypedFunction) (n : Translator) → GoingRight program (is_internal unit) its m done (Ok (all, n)) → (o : Option Late)
+      → first_late n ≡ o
+      → AllFit m (work_with {A = Unit {0}} {B = List TypedFunction} (λ again. unit_ended >> pass all) (unless_late o n))
       → Given (AreNamed done (defined_names (definitions_in (length before) unit unit)))
-      (work_with {A = Unit {0}} {B = List TypedFunction} (λ again. unit_ended >> pass all) (unless_unfit o n))
+      (work_with {A = Unit {0}} {B = List TypedFunction} (λ again. unit_ended >> pass all) (unless_late o n))
       → Coming program units (before ++ unit ∷ []) its m done
-      (work_with {A = Unit {0}} {B = List TypedFunction} (λ again. unit_ended >> pass all) (unless_unfit o n))
-  after_checked all n going external None same fits named = λ grows. came all n (going grows) named fits grows same external
-  after_checked all n going external (Some it) same fits named = tt
-
-  -- what external linkage comes to is looked at first
-  after_first : (all : List TypedFunction) (n : Translator) → GoingRight program (is_internal unit) its m done (Ok (all, n)) → (o : Option External)
-      → unfit n.typer.types n.typer.origins n.externals n.externals ≡ o
-      → AllFit m (work_with {A = Unit {0}} {B = List TypedFunction} (λ again. unit_ended >> pass all) ((unless_unfit o >> rechecked_all n.routines) n))
-      → Given (AreNamed done (defined_names (definitions_in (length before) unit unit)))
-      (work_with {A = Unit {0}} {B = List TypedFunction} (λ again. unit_ended >> pass all) ((unless_unfit o >> rechecked_all n.routines) n))
-      → Coming program units (before ++ unit ∷ []) its m done
-      (work_with {A = Unit {0}} {B = List TypedFunction} (λ again. unit_ended >> pass all) ((unless_unfit o >> rechecked_all n.routines) n))
-  after_first all n going None external fits named =
-      after_checked all n going external (unfit n.typer.types n.typer.origins n.routines n.routines) refl fits named
-  after_first all n going (Some it) external fits named = tt
+      (work_with {A = Unit {0}} {B = List TypedFunction} (λ again. unit_ended >> pass all) (unless_late o n))
+  after_checked all n going None same fits named =
+      let fit = all_fit n same in λ grows. came all n (going grows) named fits grows fit.1 fit.0
+  after_checked all n going (Some it) same fits named = tt
 
   after_externals : (given : Result (List TypedFunction × Translator) TypeError) → GoingRight program (is_internal unit) its m done given
       → AllFit m (work_with (λ all. Rattle.hs_linkage.specs.Linkage.rechecked >> (unit_ended >> pass all)) given)
@@ -388,8 +379,7 @@ module _ (program : TypedProgram) (sound : IsRight program.types) (anyone : Type
       (work_with (λ all. Rattle.hs_linkage.specs.Linkage.rechecked >> (unit_ended >> pass all)) given)
       → Coming program units (before ++ unit ∷ []) its m done
       (work_with (λ all. Rattle.hs_linkage.specs.Linkage.rechecked >> (unit_ended >> pass all)) given)
-  after_externals (Ok q) going fits named =
-      after_first q.0 q.1 going (unfit q.1.typer.types q.1.typer.origins q.1.externals q.1.externals) refl fits named
+  after_externals (Ok q) going fits named = after_checked q.0 q.1 going (first_late q.1) refl fits named
   after_externals (Err why) going fits named = tt
 
   pub unit_right : Coming program units (before ++ unit ∷ []) its m done (unit_of done unit m)

@@ -10,7 +10,7 @@ use Rattle.hs_fitting.specs.Claims.{IsBoundIn, IsRoutineOf, IsInternalLink, IsRe
 use Rattle.hs_fitting.specs.Found.{link_here, link_either, IsThere, external_there, external_stays, external_all}
 use Rattle.hs_linkage.specs.Definitions.{same_name, first_place, is_definition_of}
 use Rattle.hs_linkage.specs.Externals.{external_of}
-use Rattle.hs_linkage.specs.Linkage.{with_type_id, declared_as, is_routine_entity}
+use Rattle.hs_linkage.specs.Linkage.{with_type_id, mark_of, declared_as, is_routine_entity}
 use Rattle.hs_linkage.specs.declared.definitions.Definition.{Definition}
 use Rattle.hs_linkage.specs.declared.externals.External.{External}
 use Rattle.hs_linkage.specs.declared.translator.Linked.{Linked}
@@ -53,31 +53,31 @@ module _ (m : Translator) (word : Word) (id : TypeId) (it : Linked) (objects : L
   externals_stay : (name : List ℕ) (b : Bool) → IsThere name m.externals
       → IsThere name (if b then m.externals else declared_as word id it.entity m m.externals)
   externals_stay name true is = is
-  externals_stay name false is = external_stays word m.typer.origins.unit (with_type_id id it.entity) name m.externals is
+  externals_stay name false is = external_stays word m.typer.origins.unit (mark_of m) (with_type_id id it.entity) name m.externals is
 
   -- the new one
   pub externals_there : (b : Bool) → b ≡ false
       → IsThere word.text (if b then m.externals else declared_as word id it.entity m m.externals)
   externals_there true is = absurd cc
-  externals_there false is = external_there word m.typer.origins.unit (with_type_id id it.entity) m.externals
+  externals_there false is = external_there word m.typer.origins.unit (mark_of m) (with_type_id id it.entity) m.externals
 
   -- bound to a routine
   pub routines_stay : (name : List ℕ) (b : Bool) → IsThere name m.routines
       → IsThere name (if b then declared_as word id it.entity m m.routines else m.routines)
-  routines_stay name true is = external_stays word m.typer.origins.unit (with_type_id id it.entity) name m.routines is
+  routines_stay name true is = external_stays word m.typer.origins.unit (mark_of m) (with_type_id id it.entity) name m.routines is
   routines_stay name false is = is
 
   -- the new one
   pub routines_there : (b : Bool) → b ≡ true
       → IsThere word.text (if b then declared_as word id it.entity m m.routines else m.routines)
-  routines_there true is = external_there word m.typer.origins.unit (with_type_id id it.entity) m.routines
+  routines_there true is = external_there word m.typer.origins.unit (mark_of m) (with_type_id id it.entity) m.routines
   routines_there false is = absurd cc
 
   -- what is so of all
-  pub routines_all : (holds : External → Type 0) (b : Bool) → (b ≡ true → holds (external_of word m.typer.origins.unit (with_type_id id it.entity)))
+  pub routines_all : (holds : External → Type 0) (b : Bool) → (b ≡ true → holds (external_of word m.typer.origins.unit (mark_of m) (with_type_id id it.entity)))
       → AllByRecursion holds m.routines
       → AllByRecursion holds (if b then declared_as word id it.entity m m.routines else m.routines)
-  routines_all holds true is are = external_all word m.typer.origins.unit (with_type_id id it.entity) holds m.routines (is refl) are
+  routines_all holds true is are = external_all word m.typer.origins.unit (mark_of m) (with_type_id id it.entity) holds m.routines (is refl) are
   routines_all holds false is are = are
 
   -- ---- functions that were met

@@ -2,7 +2,7 @@
 -- be read (X3.159-1989 3.7.1).
 --     AllFit m given               the functions that are given, from m
 --     FunctionsFit, functions_fit  those of all units
-use Rattle.std.proofs.Common.{◌≡◌, ℕ, suc, List, [], ◌∷◌, length, IsTrue, Option, Some, None, Result, Ok, Err, refl, subst}
+use Rattle.std.proofs.Common.{ℕ, suc, List, [], ◌∷◌, length, IsTrue, Option, Some, None, Result, Ok, Err, refl}
 use Rattle.std.specs.List.{AllByRecursion}
 use Rattle.hs_base.specs.Entries.{all_appended, all_so}
 use Rattle.hs_expressions.specs.Laws.{IsScoped}
@@ -14,10 +14,9 @@ use Rattle.hs_fitting.specs.Passes.{AreWhole, Passes, passes_moves, passes_self,
 use Rattle.hs_functions.specs.Functions.{defined}
 use Rattle.hs_functions.specs.Units.{declared_if, place_of_declaration, external, with_function, externals, unit_ended, unit_of, units_of}
 use Rattle.hs_linkage.specs.Definitions.{all_definitions}
-use Rattle.hs_linkage.specs.Externals.{unfit}
-use Rattle.hs_linkage.specs.Linkage.{unless_unfit, rechecked_all, rechecked}
-use Rattle.hs_linkage.specs.Works.{Work, work_with, ◌>>◌, pass, before_units}
-use Rattle.hs_linkage.specs.declared.externals.External.{External}
+use Rattle.hs_linkage.specs.Linkage.{unless_late, first_late, rechecked}
+use Rattle.hs_linkage.specs.Works.{work_with, ◌>>◌, pass, before_units}
+use Rattle.hs_linkage.specs.declared.late.Late.{Late}
 use Rattle.hs_linkage.specs.declared.translator.Translator.{Translator}
 use Rattle.hs_syntax.specs.Trees as syntax
 use Rattle.hs_syntax.specs.Trees.{Declaration, ExternalDeclaration}
@@ -120,6 +119,8 @@ ended_passes : (m new : Translator) → Passes m new → Passes m (record new {
     names = record { declarations = []; level = 0 };
     tags = record { declarations = []; level = 0 };
     origins = record new.typer.origins { unit = suc new.typer.origins.unit; times = [] };
+    begun = [];
+    tentatives = [];
   };
   links = record { declarations = []; level = 0 };
   internals = [];
@@ -138,23 +139,14 @@ ended_passes m new passes =
     }
 
 -- which is looked at once more
-unfit_fits : (m n : Translator) (all : List TypedFunction) (it : Option External) (next : Work (Unit {0})) → Passes m n
-    → AllByRecursion (FitsDefinition n.typer.types) all
-    → ((given : Result (Unit {0} × Translator) TypeError) → next n ≡ given → AllFit m (work_with (λ again. unit_ended >> pass all) given))
-    → AllFit m (work_with (λ again. unit_ended >> pass all) ((unless_unfit it >> next) n))
-unfit_fits m n all None next passes fit after = after (next n) refl
-unfit_fits m n all (Some it) next passes fit after = tt
-
-last_fits : (m n : Translator) (all : List TypedFunction) (it : Option External) → Passes m n → AllByRecursion (FitsDefinition n.typer.types) all
-    → (given : Result (Unit {0} × Translator) TypeError) → unless_unfit it n ≡ given → AllFit m (work_with (λ again. unit_ended >> pass all) given)
-last_fits m n all None passes fit given same = subst (λ its. AllFit m (work_with (λ again. unit_ended >> pass all) its)) same (ended_passes m n passes, fit)
-last_fits m n all (Some it) passes fit given same = subst (λ its. AllFit m (work_with (λ again. unit_ended >> pass all) its)) same tt
+late_fits : (m n : Translator) (all : List TypedFunction) (it : Option Late) → Passes m n → AllByRecursion (FitsDefinition n.typer.types) all
+    → AllFit m (work_with (λ again. unit_ended >> pass all) (unless_late it n))
+late_fits m n all None passes fit = (ended_passes m n passes, fit)
+late_fits m n all (Some it) passes fit = tt
 
 checked_fits : (m : Translator) (given : Result (List TypedFunction × Translator) TypeError) → AllFit m given
     → AllFit m (work_with (λ all. rechecked >> (unit_ended >> pass all)) given)
-checked_fits m (Ok p) fits =
-    unfit_fits m p.1 p.0 (unfit p.1.typer.types p.1.typer.origins p.1.externals p.1.externals) (rechecked_all p.1.routines) fits.0 fits.1
-    (last_fits m p.1 p.0 (unfit p.1.typer.types p.1.typer.origins p.1.routines p.1.routines) fits.0 fits.1)
+checked_fits m (Ok p) fits = late_fits m p.1 p.0 (first_late p.1) fits.0 fits.1
 checked_fits m (Err why) fits = tt
 
 pub unit_fits : (done : List TypedFunction) (its : List ExternalDeclaration) (m : Translator) → IsScoped m.typer → AreWhole m.typer.types m.locals

@@ -64,6 +64,8 @@ unit_ended m =
           names = record { declarations = []; level = 0 };
           tags = record { declarations = []; level = 0 };
           origins = record m.typer.origins { unit = suc m.typer.origins.unit; times = [] };
+          begun = [];
+          tentatives = [];
         };
         links = record { declarations = []; level = 0 };
         internals = [];

@@ -14,7 +14,7 @@ use hs_names::Scopes;
 use hs_syntax::{Decl, External, Unit, first_of_specifiers};
 use hs_tokens::Place;
 use hs_tree::Function;
-use hs_typer::{Braces, TypeError, next_place, word_of};
+use hs_typer::{Braces, Log, TypeError, next_place, word_of};
 use std::alloc::Global;
 
 /// The most functions: the limits of a program are far below.
@@ -121,8 +121,10 @@ fn end_unit(alloc: Global, m: &mut Translator) -> Result<(), TypeError>
     m.typer.tags = Scopes::new(alloc);
     m.typer.origins.times = Braces::new(alloc);
     m.typer.origins.unit = next_place(m.typer.origins.unit)?;
+    m.typer.begun = Log::new(alloc);
     m.links = Scopes::new(alloc);
     m.internals = Externals::new(alloc);
+    m.typer.tentatives = Log::new(alloc);
     Ok(())
 }
 

@@ -34,6 +34,17 @@ pub onto-length : (older entries : List Entry) → length (onto older entries) �
 onto-length older [] = omega arith
 onto-length older (entry ∷ entries) = omega (arith, onto-length (entry ∷ older) entries)
 
+-- as many declarations as entries
+external-length : (older : List Entry) → length (externals_of older) ≡ length older
+external-length [] = refl
+external-length (it ∷ older) = ap suc (external-length older)
+
+none-before : (count : ℕ) → 0 + count ≡ count
+none-before count = omega arith
+
+pub entries-length : (entries : List Entry) → length (externals_of (newest_first entries)) ≡ length entries
+entries-length entries = external-length (newest_first entries) ∙ onto-length [] entries ∙ none-before (length entries)
+
 count-taken : (entries : List Entry) (k : ℕ) (it : Entry) → slice_get entries k ≡ Some it → length (take k entries) ≡ k
 count-taken [] k it at = absurd cc
 count-taken (first ∷ entries) zero it at = refl

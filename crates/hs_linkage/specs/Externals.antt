@@ -1,7 +1,7 @@
 -- Declarations with linkage, by their names, the newest first.
 --     all_agree types o name id its      each declaration of the name is of a type that is compatible with this one
 --     newest_external name its           the newest declaration of the name
---     with_external word unit it its     with one more
+--     with_external word unit mark it its      with one more
 --     unfit types o all its              the oldest one of this unit that does not fit all of them
 use Rattle.std.specs.Prelude.{ℕ, ◌==◌, Bool, false, not, ◌||◌, ◌&&◌, List, [], ◌∷◌, Option, Some, None, if◌then◌else◌}
 use Rattle.std.specs.List.{list_all}
@@ -10,6 +10,7 @@ use Rattle.hs_linkage.specs.declared.externals.External.{External}
 use Rattle.hs_syntax.specs.declared.word.Word.{Word}
 use Rattle.hs_typer.specs.Origins.{agree}
 use Rattle.hs_typer.specs.contracts.typer.EntityPartialEq.TheImpl as entity_eq
+use Rattle.hs_typer.specs.declared.marks.Mark.{Mark}
 use Rattle.hs_typer.specs.declared.origins.Origins.{Origins}
 use Rattle.hs_typer.specs.declared.typer.Entity.{Entity}
 use Rattle.hs_typer.specs.declared.typer.Entity.TheVariants as entity
@@ -37,9 +38,9 @@ abbrev pub newest_external : List ℕ → List External → Option Entity
 newest_external name [] = None
 newest_external name (it ∷ older) = if same_name it.name name then Some it.entity else newest_external name older
 
--- one more declaration of the name, in that unit
-abbrev pub external_of : Word → ℕ → Entity → External
-external_of word unit it = record { name = word.text; at = word.place; unit = unit; entity = it }
+-- one more declaration of the name, in that unit, at that place of it
+abbrev pub external_of : Word → ℕ → Mark → Entity → External
+external_of word unit mark it = record { name = word.text; at = word.place; unit = unit; mark = mark; entity = it }
 
 -- the newest declaration says the same
 abbrev pub says_same : Option Entity → Entity → Bool
@@ -47,8 +48,8 @@ says_same None it = false
 says_same (Some old) it = (entity_eq.ghosts).eq old it
 
 -- with one more, unless the newest one says the same
-abbrev pub with_external : Word → ℕ → Entity → List External → List External
-with_external word unit it its = if says_same (newest_external word.text its) it then its else external_of word unit it ∷ its
+abbrev pub with_external : Word → ℕ → Mark → Entity → List External → List External
+with_external word unit mark it its = if says_same (newest_external word.text its) it then its else external_of word unit mark it ∷ its
 
 -- compatible with each of the declarations of that name, if there is a type
 abbrev pub agree_if : TypeTable → Origins → List ℕ → Option TypeId → List External → Bool

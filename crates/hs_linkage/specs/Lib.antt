@@ -2,6 +2,7 @@ pub mod Chains
 pub mod Definitions
 pub mod Externals
 pub mod Indexes
+pub mod Late
 pub mod Linkage
 pub mod Objects
 pub mod Refusing

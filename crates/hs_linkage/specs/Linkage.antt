@@ -4,14 +4,16 @@
 --     link static word id                the object or the function that a declaration with linkage refers to
 --     linked static word id              which the name then means in its scope
 --     define_object place id parts       the object of that place starts with these parts
---     rechecked                          what the unit declared fits the other declarations also at its end
-use Rattle.std.specs.Prelude.{ℕ, Bool, true, false, not, ◌&&◌, ◌||◌, List, [], ◌∷◌, ◌++◌, length, slice_get, Option, Some, None, Ok, if◌then◌else◌}
+--     rechecked                          what is refused at the end of the unit
+use Rattle.std.specs.Prelude.{ℕ, ◌+◌, Bool, true, false, not, ◌&&◌, ◌||◌, List, [], ◌∷◌, ◌++◌, length, slice_get, Option, Some, None, Ok, if◌then◌else◌}
 use Rattle.hs_linkage.specs.Definitions.{same_name, first_place, is_definition_of}
 use Rattle.hs_linkage.specs.Externals.{type_of_entity, agrees_in, all_agree, newest_external, with_external, unfit}
+use Rattle.hs_linkage.specs.Late.{earlier, late_clash, unlike, late_body, late_object}
 use Rattle.hs_linkage.specs.Objects.{object_as, object_with}
 use Rattle.hs_linkage.specs.Works.{Work, ◌>>=◌, ◌>>◌, pass, stop, typing, knowing, unless}
 use Rattle.hs_linkage.specs.declared.definitions.Definition.{Definition}
 use Rattle.hs_linkage.specs.declared.externals.External.{External}
+use Rattle.hs_linkage.specs.declared.late.Late.{Late}
 use Rattle.hs_linkage.specs.declared.translator.Linked.{Linked}
 use Rattle.hs_linkage.specs.declared.translator.StaticObject.{StaticObject}
 use Rattle.hs_linkage.specs.declared.translator.Translator.{Translator}
@@ -26,6 +28,7 @@ use Rattle.hs_tree.specs.declared.constant.Part.{Part}
 use Rattle.hs_tree.specs.declared.head.Variable.TheVariants as variable
 use Rattle.hs_typer.specs.Declarators.{is_function_row, is_typedef}
 use Rattle.hs_typer.specs.Steps.{Step}
+use Rattle.hs_typer.specs.declared.marks.Mark.{Mark}
 use Rattle.hs_typer.specs.declared.type_error.TypeError.{TypeError}
 use Rattle.hs_typer.specs.declared.type_error.TypeError.TheVariants.{Untyped, Clash}
 use Rattle.hs_typer.specs.declared.typer.Entity.{Entity}
@@ -206,9 +209,17 @@ abbrev pub compatible_routines : Word → TypeId → Linked → Work (Unit {0})
 compatible_routines word id it =
     unless (clash_of word) (λ m. is_routine_entity it.entity && not (agrees_with_all m word.text id m.routines))
 
+-- how many declarations are kept so far
+abbrev pub kept_count : Translator → ℕ
+kept_count m = length m.externals + length m.routines + length m.typer.tentatives
+
+-- where a declaration is that comes next
+abbrev pub mark_of : Translator → Mark
+mark_of m = record { bodies = length m.typer.begun; declarations = kept_count m }
+
 -- one more declaration of an object or a function, with the type that the declaration gives it
 abbrev pub declared_as : Word → TypeId → Entity → Translator → List External → List External
-declared_as word id it m its = with_external word m.typer.origins.unit (with_type_id id it) its
+declared_as word id it m its = with_external word m.typer.origins.unit (mark_of m) (with_type_id id it) its
 
 -- the declaration is known
 abbrev pub noted : Word → TypeId → Linked → Work Entity
@@ -268,16 +279,26 @@ completed_link static word id = do
 abbrev pub define_object : ℕ → TypeId → List Part → Work (Unit {0})
 define_object place id parts m = Ok (tt, record m { objects = object_with id parts (slice_get m.objects place) m.objects place })
 
--- the declaration does not fit another one
-abbrev pub unless_unfit : Option External → Work (Unit {0})
-unless_unfit None = pass tt
-unless_unfit (Some it) = stop (Clash it.at it.name)
+-- a refusal, if there is one
+abbrev pub unless_late : Option Late → Work (Unit {0})
+unless_late None = pass tt
+unless_late (Some it) = stop it.why
 
--- those of this unit
-abbrev pub rechecked_all : List External → Work (Unit {0})
-rechecked_all its m = unless_unfit (unfit m.typer.types m.typer.origins its its) m
+-- of those of this unit
+abbrev pub late_external : Translator → List External → Option Late
+late_external m its = late_clash (unfit m.typer.types m.typer.origins its its)
 
--- At the end of a unit each of its declarations with external linkage fits the others of its name, now that its tags have got their bodies,
--- and so does each one of a function that is bound to a routine (own).
+-- of its bodies
+abbrev pub late_struct : Translator → Option Late
+late_struct m = late_body m.typer.types m.typer.origins (kept_count m) (unlike m.typer.types m.typer.origins 0 m.typer.begun)
+
+-- At the end of a unit its tags have got their bodies. So each of its bodies is one with the first one at its brace; each of its declarations with
+-- external linkage fits the others of its name, and so does each one of a function that is bound to a routine; and each object that it makes at
+-- file scope has a complete type (own; 3.7.2). The first refusal in the text:
+abbrev pub first_late : Translator → Option Late
+first_late m =
+    earlier (late_struct m)
+    (earlier (late_external m m.externals) (earlier (late_external m m.routines) (late_object m.typer.types m.typer.tentatives)))
+
 abbrev pub rechecked : Work (Unit {0})
-rechecked m = (rechecked_all m.externals >> rechecked_all m.routines) m
+rechecked m = unless_late (first_late m) m

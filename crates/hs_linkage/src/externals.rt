@@ -1,6 +1,6 @@
 //! Declarations with linkage, by their names.
 
-ghost use Rattle.std.specs.Prelude.{◌≡◌, ◌∷◌, ◌++◌, [], OnOk, OnErr, IfSome, IfNone, option_copied};
+ghost use Rattle.std.specs.Prelude.{◌≡◌, ◌∷◌, ◌++◌, [], length, OnOk, OnErr, IfSome, IfNone, option_copied};
 ghost use Rattle.hs_linkage.specs.Chains.{newest_first, externals_of, place, entry_at, IsChained};
 ghost use Rattle.hs_linkage.specs.Externals.{all_agree, agree_if, is_unfit, newest_external, says_same, unfit};
 
@@ -10,7 +10,7 @@ use hs_base::{Bytes, NoMemory};
 use hs_index::Index;
 use hs_syntax::Word;
 use hs_tokens::Place;
-use hs_typer::{Entity, Origins, copied};
+use hs_typer::{Entity, Mark, Origins, copied};
 use hs_types::{TypeId, Types};
 use std::alloc::Global;
 use std::marker::Model;
@@ -26,6 +26,8 @@ pub struct External {
     pub at: Place,
     /// The number of its unit.
     pub unit: u32,
+    /// Where it is in its unit.
+    pub mark: Mark,
     /// An object or a function.
     pub entity: Entity,
 }
@@ -70,6 +72,13 @@ impl Externals {
         }
     }
 
+    /// How many declarations there are.
+    pub(crate) fn len(&self) -> usize
+        ensures { result ≡ length self.now }
+    {
+        self.entries.len()
+    }
+
     /// The newest declaration of the name, if there is one.
     ///
     /// Example: `None` for any name that was not declared.
@@ -96,15 +105,16 @@ impl Externals {
         alloc: Global,
         word: &Word,
         unit: u32,
+        mark: Mark,
         entity: Entity,
     ) -> Result<(), NoMemory>
-        ensures noted { OnOk result (self.new ≡ with_external word.now unit entity self.old) }
+        ensures noted { OnOk result (self.new ≡ with_external word.now unit mark entity self.old) }
         ensures unchanged { OnErr result (self.new ≡ self.old) }
     {
         if says_same(self.newest(word.text.items()), entity) {
             return Ok(());
         }
-        self.push(alloc, word, unit, entity)
+        self.push(alloc, word, unit, mark, entity)
     }
 
     /// One more declaration. Fails if memory runs out.
@@ -113,9 +123,10 @@ impl Externals {
         alloc: Global,
         word: &Word,
         unit: u32,
+        mark: Mark,
         entity: Entity,
     ) -> Result<(), NoMemory>
-        ensures pushed { OnOk result (self.new ≡ external_of word.now unit entity ∷ self.old) }
+        ensures pushed { OnOk result (self.new ≡ external_of word.now unit mark entity ∷ self.old) }
         ensures unchanged { OnErr result (self.new ≡ self.old) }
     {
         let name = word.text.items();
@@ -128,6 +139,7 @@ impl Externals {
                 name,
                 at,
                 unit,
+                mark,
                 entity,
             },
         )

@@ -5,6 +5,7 @@
 mod definitions;
 mod entities;
 mod externals;
+mod late;
 mod linkage;
 mod linking;
 mod objects;
@@ -14,8 +15,9 @@ mod translator;
 
 pub use definitions::{Definition, Definitions};
 pub use externals::{External, Externals};
+pub use late::{Late, mark_of, rechecked};
 pub use linkage::{clash, link, new_object};
-pub use linking::{completed_link, linked, may_name, rechecked, renamed};
+pub use linking::{completed_link, linked, may_name, renamed};
 pub use objects::{Locals, Objects};
 pub use questions::{designates, is_complete, is_function, is_open};
 pub use translator::{Linked, StaticObject, Translator};

@@ -7,6 +7,7 @@ ghost use Rattle.hs_linkage.specs.Works.{Works};
 
 use crate::entities::{is_routine, seen_type, type_of, with_type};
 use crate::externals::Externals;
+use crate::late::mark_of;
 use crate::questions::{agrees, agrees_if, composite_of, is_function};
 use crate::translator::{Linked, StaticObject, Translator};
 use hs_base::NoMemory;
@@ -260,15 +261,16 @@ fn noted(
     ensures { Works (λ it. it) m.new (noted word.now id it m.old) result }
 {
     let unit = m.typer.origins.unit;
+    let mark = mark_of(m)?;
     let declared = with_type(id, it.entity);
     m.links.declare(alloc, word.text.items(), it)?;
     if it.internal {
-        m.internals.note(alloc, word, unit, declared)?;
+        m.internals.note(alloc, word, unit, mark, declared)?;
     } else {
-        m.externals.note(alloc, word, unit, declared)?;
+        m.externals.note(alloc, word, unit, mark, declared)?;
     }
     if is_routine(it.entity) {
-        m.routines.note(alloc, word, unit, declared)?;
+        m.routines.note(alloc, word, unit, mark, declared)?;
     }
     Ok(it.entity)
 }

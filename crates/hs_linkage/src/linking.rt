@@ -1,17 +1,16 @@
 //! Names with linkage, as declarations make them known (X3.159-1989 3.5 and 3.7.2).
 
 ghost use Rattle.std.specs.Prelude.{◌≡◌};
-ghost use Rattle.hs_linkage.specs.Linkage.{may_name, with_object_type, object_typed, renamed, linked, completed_link, rechecked_all, rechecked};
+ghost use Rattle.hs_linkage.specs.Linkage.{may_name, with_object_type, object_typed, renamed, linked, completed_link};
 ghost use Rattle.hs_linkage.specs.Works.{Works};
 ghost use Rattle.hs_typer.specs.Steps.{Steps};
 
 use crate::entities::{is_free, is_hidden, is_typedef};
-use crate::externals::Externals;
 use crate::linkage::link;
 use crate::translator::Translator;
 use hs_syntax::Word;
 use hs_tree::Variable;
-use hs_typer::{Entity, TypeError, Typer, copied};
+use hs_typer::{Entity, TypeError, Typer};
 use hs_types::TypeId;
 use std::alloc::Global;
 
@@ -99,29 +98,4 @@ pub fn completed_link(
     let it = link(alloc, m, internal, word, id)?;
     renamed(alloc, &mut m.typer, word, it)?;
     Ok(it)
-}
-
-/// Refuses the first of these declarations of the unit that does not fit another one.
-fn must_fit(alloc: Global, m: &Translator, its: &Externals) -> Result<(), TypeError>
-    ensures { Works (λ it. it) m.now (rechecked_all its.now m.now) result }
-{
-    match its.unfit(&m.typer.types, &m.typer.origins) {
-        Some(it) => {
-            let name = copied(alloc, it.name.items())?;
-            Err(TypeError::Clash(it.at, name))
-        }
-        None => Ok(()),
-    }
-}
-
-/// Refuses the first declaration of the unit with external linkage that does not fit another one of its name, in any unit, now that the
-/// tags of the unit have got their bodies, or else the first one of a function that is bound to a routine (own). Other declarations with
-/// internal linkage are not looked at again: they stand in one unit, where a tag is one type before and after its body.
-///
-/// Example: `struct S; extern struct S *p; struct S { char b; };` after another unit with another body of `S` and the same `p`.
-pub fn rechecked(alloc: Global, m: &Translator) -> Result<(), TypeError>
-    ensures { Works (λ it. it) m.now (rechecked m.now) result }
-{
-    must_fit(alloc, m, &m.externals)?;
-    must_fit(alloc, m, &m.routines)
 }

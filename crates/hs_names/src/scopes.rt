@@ -1,6 +1,6 @@
 //! Scopes.
 
-ghost use Rattle.std.specs.Prelude.{◌≡◌, [], ◌∷◌, ◌++◌, OnOk, OnErr, IfSome, IfNone, IfOk, IsTrue, map, option_map, option_copied, slice_get};
+ghost use Rattle.std.specs.Prelude.{◌≡◌, ◌==◌, [], ◌∷◌, ◌++◌, OnOk, OnErr, IfSome, IfNone, IfOk, IsTrue, map, option_map, option_copied, slice_get};
 ghost use Rattle.hs_names.specs.Entries.{declaration, named_at};
 ghost use Rattle.hs_names.specs.Lists.{IsLast};
 ghost use Rattle.hs_names.specs.Scopes.{find, find_here, declared, declared_outside, entered, left, cleared, inside, newest, is_newest_here, without_newest};
@@ -60,6 +60,15 @@ impl<E: Copy + Drop> Scopes<E> {
             index: Index::new(alloc),
             level: 0,
         }
+    }
+
+    /// Whether the outermost scope is the innermost one too: names are declared at file scope.
+    ///
+    /// Example: `true` of no scopes, and `false` after `enter`.
+    pub fn is_outermost(&self) -> bool
+        ensures { result ≡ (self.now.level == 0) }
+    {
+        self.level == 0
     }
 
     /// What the name means: its innermost declaration, if there is one (X3.159-1989 3.1.2.1).

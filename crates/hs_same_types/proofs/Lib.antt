@@ -1,3 +1,2 @@
 mod Along
 mod Rows
-mod Tagged

@@ -1,2 +1,1 @@
 pub mod Representatives
-pub mod Tags

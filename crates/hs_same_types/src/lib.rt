@@ -3,7 +3,6 @@
 #![tactic(auto)]
 
 mod structs;
-mod tags;
 mod types;
 
 pub use types::representatives;

@@ -81,9 +81,8 @@ fn types_of(alloc: Global, types: &Types, structs: &[u32]) -> Result<Vec<TypeId>
 
 /// What stands for each struct and each type of a program, at the end of its units (own; X3.159-1989 3.1.2.6). Fails if memory runs out.
 ///
-/// Structs are one if their bodies begin at the same brace of a file, in several units. A tag without a body in its unit goes with the first
-/// struct of that tag that has one. Other types are one if they are made of types that are one, in the same way; an enumeration counts as
-/// `int`.
+/// `Origins::stands_for` of `hs_typer` says which structs are one. Other types are one if they are made of types that are one, in the same
+/// way; an enumeration counts as `int`.
 ///
 /// Example: of a program with one unit each struct stands for itself.
 pub fn representatives(
@@ -93,7 +92,7 @@ pub fn representatives(
 ) -> Result<Representatives, NoMemory>
     ensures { IfOk result (λ same. same ≡ representatives types.now o.now) }
 {
-    let structs = structs_of(alloc, types, o)?;
+    let structs = structs_of(alloc, o)?;
     let all = types_of(alloc, types, &structs)?;
     Ok(Representatives {
         structs: Numbers::from_vec(structs),

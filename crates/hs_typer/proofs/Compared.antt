@@ -3,8 +3,7 @@ use Rattle.std.proofs.Common.{◌≡◌, ℕ, zero, suc, ◌-◌, Bool, true, fa
 use Rattle.std.specs.Prelude.{slice_get, ◌==◌}
 use native.Mathlib.Numerals.{unary_clauses}
 use Rattle.hs_operand_types.specs.Conversions.{same_type}
-use Rattle.hs_operand_types.specs.Types.{are_int}
-use Rattle.hs_typer.specs.Origins.{has_body, origins_agree, structs_agree, leaves_agree, objects_agree_within, objects_agree, lists_agree_by, lists_agree_within, mix_int_within}
+use Rattle.hs_typer.specs.Origins.{are_two, has_body, origins_agree, structs_agree, leaves_agree, objects_agree_within, objects_agree, lists_agree_by, lists_agree_within, mix_within}
 use Rattle.hs_typer.specs.Pairs.{IsInside, AreApart, both_more}
 use Rattle.hs_typer.specs.declared.agreement.Firsts.{Firsts}
 use Rattle.hs_typer.specs.declared.agreement.Pair.{Pair}
@@ -16,31 +15,31 @@ use Rattle.hs_types.specs.declared.row.Parameters.{Parameters}
 use Rattle.hs_types.specs.declared.row.Parameters.TheVariants.{Empty, More}
 use Rattle.hs_types.specs.declared.row.TypeId.{TypeId}
 
--- Two types that are no int and enumeration mix these if what is inside them does.
-pub mix_first : (types : TypeTable) (more : ℕ) (a b : TypeId) (next : Pair) → (more ≡ 0 → ⊥) → are_int (row_of types a) (row_of types b) ≡ false
+-- Two types that are no such two mix them if what is inside them does.
+pub mix_first : (types : TypeTable) (more : ℕ) (a b : TypeId) (next : Pair) → (more ≡ 0 → ⊥) → are_two (row_of types a) (row_of types b) ≡ false
     → IsInside (row_of types a) (row_of types b) next
-    → mix_int_within (more - 1) types next.left next.right ≡ mix_int_within more types a b
+    → mix_within (more - 1) types next.left next.right ≡ mix_within more types a b
 mix_first types zero a b next some leaves inside = absurd (some refl)
 mix_first types (suc more) a b next some leaves inside =
-    simp unary_clauses (rw (leaves, inside (mix_int_within more types)) refl)
+    simp unary_clauses (rw (leaves, inside (mix_within more types)) refl)
 
 -- or mix none if nothing is inside both
-pub mix_last : (types : TypeTable) (more : ℕ) (a b : TypeId) → are_int (row_of types a) (row_of types b) ≡ false
-    → AreApart (row_of types a) (row_of types b) → mix_int_within more types a b ≡ false
+pub mix_last : (types : TypeTable) (more : ℕ) (a b : TypeId) → are_two (row_of types a) (row_of types b) ≡ false
+    → AreApart (row_of types a) (row_of types b) → mix_within more types a b ≡ false
 mix_last types zero a b leaves apart = refl
-mix_last types (suc more) a b leaves apart = rw (leaves, apart (mix_int_within more types)) refl
+mix_last types (suc more) a b leaves apart = rw (leaves, apart (mix_within more types)) refl
 
 module _ (types : TypeTable) (o : Origins) where
   -- two structs of two numbers
   pub structs_apart : (a b : ℕ) (complete : Bool) (one other : Option Origin) (result : Bool) → (a == b) ≡ false
       → complete ≡ (has_body types a && has_body types b) → one ≡ slice_get o.structs a → other ≡ slice_get o.structs b
-      → result ≡ origins_agree complete one other → result ≡ structs_agree types o a b
+      → result ≡ origins_agree o complete a b one other → result ≡ structs_agree types o a b
   structs_apart a b complete one other result differ bodies first second is =
       is
-      ∙ ap (λ its. origins_agree its one other) bodies
-      ∙ ap (λ its. origins_agree (has_body types a && has_body types b) its other) first
-      ∙ ap (λ its. origins_agree (has_body types a && has_body types b) (slice_get o.structs a) its) second
-      ∙ sym (ap (λ its. its || origins_agree (has_body types a && has_body types b) (slice_get o.structs a) (slice_get o.structs b)) differ)
+      ∙ ap (λ its. origins_agree o its a b one other) bodies
+      ∙ ap (λ its. origins_agree o (has_body types a && has_body types b) a b its other) first
+      ∙ ap (λ its. origins_agree o (has_body types a && has_body types b) a b (slice_get o.structs a) its) second
+      ∙ sym (ap (λ its. its || origins_agree o (has_body types a && has_body types b) a b (slice_get o.structs a) (slice_get o.structs b)) differ)
 
   -- Two types that are not the same agree if what is inside them does.
   pub inside_first : (more : ℕ) (a b : TypeId) (next : Pair) → (more ≡ 0 → ⊥) → same_type a b ≡ false

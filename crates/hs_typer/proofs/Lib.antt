@@ -3,3 +3,4 @@ mod Kept
 mod Lists
 mod Named
 mod Rows
+mod Tagged

@@ -1,10 +1,12 @@
--- Parameters of a prototype (X3.159-1989 3.5.4.3).
+-- Parameters of a prototype (X3.159-1989 3.5.4.3), and objects whose types are not complete yet.
+--     note_tentative it                     one such object more
 --     list_of ids                           a list of their types
 --     parameter first its id it place       the type of one, which is declared if it is named
-use Rattle.std.specs.Prelude.{ℕ, List, Option, Some, None, Ok}
+use Rattle.std.specs.Prelude.{ℕ, List, [], ◌∷◌, ◌++◌, Option, Some, None, Ok}
 use Rattle.hs_typer.specs.Declarators.{parameter_type, listed, word_of, place_of, declare}
 use Rattle.hs_typer.specs.Steps.{Step, ◌>>=◌, ◌>>◌, give, on_types}
 use Rattle.hs_typer.specs.declared.declarators.Derivation.{Derivation}
+use Rattle.hs_typer.specs.declared.marks.Tentative.{Tentative}
 use Rattle.hs_typer.specs.declared.typer.Entity.TheVariants as entity
 use Rattle.hs_syntax.specs.Trees.{Declared}
 use Rattle.hs_syntax.specs.declared.word.Word.{Word}
@@ -12,6 +14,10 @@ use Rattle.hs_tokens.specs.declared.place.Place.{Place}
 use Rattle.hs_tree.specs.declared.head.Variable.TheVariants as variable
 use Rattle.hs_types.specs.declared.row.ListId.{ListId}
 use Rattle.hs_types.specs.declared.row.TypeId.{TypeId}
+
+-- one more object of file scope whose struct has no body yet (3.7.2)
+abbrev pub note_tentative : Tentative → Step (Unit {0})
+note_tentative it s = Ok (tt, record s { tentatives = s.tentatives ++ it ∷ [] })
 
 -- in the table of types
 abbrev pub list_of : List TypeId → Step ListId

@@ -5,3 +5,4 @@ pub mod Pairs
 pub mod Primaries
 pub mod Specifiers
 pub mod Steps
+pub mod Tags

@@ -1,8 +1,10 @@
 -- Where structs and enumerations come from, and which types of several units are one (X3.159-1989 3.1.2.6, and own).
 --     brace_of place time                    where a body begins: its `{`, and how many bodies of the unit began there before it
---     with_struct_origin tag, with_enumeration_origin      one more struct or enumeration of this unit
+--     with_struct_origin outer tag, with_enumeration_origin      one more struct or enumeration of this unit
+--     stands_for o number                    the struct that stands for the one of that number
 --     agree s a b                            the types are compatible, in one unit or in two
 --     closed place it                        a body is complete: the first one at its brace, or one with the first
+--     fits_first types o number              the body of a struct is still one with the first one at its brace
 use Rattle.std.specs.Prelude.{ℕ, zero, suc, ◌==◌, Bool, true, false, not, ◌&&◌, ◌||◌, List, [], ◌∷◌, ◌++◌, slice_get, slice_set, Option, Some, None, is_some, nat_eq, Ok, Err, if◌then◌else◌}
 use Rattle.std.specs.Cmp.Lexicographic.{pointwise}
 use Rattle.indexmap.specs.IndexMap.{insert_entry}
@@ -11,7 +13,9 @@ use Rattle.hs_operand_types.specs.Types.{are_int, inside_both, both_are}
 use Rattle.hs_tokens.specs.declared.place.Place.{Place}
 use Rattle.hs_tokens.specs.declared.token.Origin as token
 use Rattle.hs_tokens.specs.declared.token.Origin.TheVariants as origin
+use Rattle.hs_tree.specs.Representatives.{or_itself}
 use Rattle.hs_typer.specs.Steps.{Step}
+use Rattle.hs_typer.specs.Tags.{new_origin, tagged, whole_at}
 use Rattle.hs_typer.specs.contracts.origins.BracePartialEq.TheImpl as brace_eq
 use Rattle.hs_typer.specs.declared.origins.Brace.{Brace}
 use Rattle.hs_typer.specs.declared.origins.Origin.{Origin}
@@ -31,8 +35,8 @@ use Rattle.hs_types.specs.declared.row.Row.TheVariants as row
 use Rattle.hs_types.specs.declared.row.TypeId.{TypeId}
 
 -- one more struct of this unit
-abbrev pub with_struct_origin : Option (List ℕ) → Origins → Origins
-with_struct_origin its o = record o { structs = o.structs ++ record { tag = its; unit = o.unit; brace = None } ∷ [] }
+abbrev pub with_struct_origin : Bool → Option (List ℕ) → Origins → Origins
+with_struct_origin outer its o = record o { structs = o.structs ++ new_origin outer its o.unit ∷ [] }
 
 -- and one more enumeration
 abbrev pub with_enumeration_origin : Origins → Origins
@@ -65,18 +69,63 @@ are_one_brace None second = false
 are_one_brace (Some a) None = false
 are_one_brace (Some a) (Some b) = same_brace a b
 
--- two tags that are there, and the same
-abbrev pub are_one_tag : Option (List ℕ) → Option (List ℕ) → Bool
-are_one_tag None second = false
-are_one_tag (Some a) None = false
-are_one_tag (Some a) (Some b) = pointwise nat_eq a b
+-- ---- what stands for a struct
 
--- Bodies at one brace are one type. A tag without a body in its unit is compatible with the same tag of another unit.
-abbrev pub origins_agree : Bool → Option Origin → Option Origin → Bool
-origins_agree complete None second = false
-origins_agree complete (Some a) None = false
-origins_agree complete (Some a) (Some b) =
-    are_one_brace a.brace b.brace || (are_one_tag a.tag b.tag && not (a.unit == b.unit) && not complete)
+-- the struct that is kept for a brace
+abbrev pub struct_in : Option Tag → Option ℕ
+struct_in None = None
+struct_in (Some (tag.Struct number)) = Some number
+struct_in (Some (tag.Enumeration number)) = None
+
+abbrev pub kept_struct : List (Brace × Tag) → Option Brace → Option ℕ
+kept_struct firsts None = None
+kept_struct firsts (Some brace) = struct_in (kept_for brace firsts)
+
+-- where the body of a struct begins
+abbrev pub struct_brace : Option Origin → Option Brace
+struct_brace None = None
+struct_brace (Some it) = it.brace
+
+-- the first struct at the brace of that one, or else that one
+abbrev pub first_of : Origins → ℕ → ℕ
+first_of o number = or_itself number (kept_struct o.firsts (struct_brace (slice_get o.structs number)))
+
+-- the first struct of a tag that has its body, or else the first one of the tag
+abbrev pub named_first : Origins → ℕ → Option ℕ → Option ℕ → ℕ
+named_first o number (Some whole) any = first_of o whole
+named_first o number None any = or_itself number any
+
+-- A tag of file scope that has no body in its unit is one with the first struct of that tag that another unit completes at file scope. If no
+-- unit completes it, it is one with the first such tag (own).
+abbrev pub stands_named : Origins → ℕ → Option (List ℕ) → ℕ
+stands_named o number None = number
+stands_named o number (Some name) = named_first o number (tagged true name 0 o.structs) (tagged false name 0 o.structs)
+
+-- Each other struct without a brace stands for itself: a tag of a block, and a body that comes from a macro (own).
+abbrev pub stands_alone : Origins → ℕ → Origin → ℕ
+stands_alone o number it = if it.outer && not it.whole then stands_named o number it.tag else number
+
+-- Bodies that begin at one brace are one type, and the first of them stands for all (own).
+abbrev pub stands_by : Origins → ℕ → Origin → Option Brace → ℕ
+stands_by o number it (Some brace) = or_itself number (struct_in (kept_for brace o.firsts))
+stands_by o number it None = stands_alone o number it
+
+abbrev pub stands_as : Origins → ℕ → Option Origin → ℕ
+stands_as o number None = number
+stands_as o number (Some it) = stands_by o number it it.brace
+
+-- the struct that stands for the one of that number
+abbrev pub stands_for : Origins → ℕ → ℕ
+stands_for o number = stands_as o number (slice_get o.structs number)
+
+-- ---- compatible types
+
+-- Bodies at one brace are one type. Structs of two units that do not both have their bodies are one type if one struct stands for both.
+abbrev pub origins_agree : Origins → Bool → ℕ → ℕ → Option Origin → Option Origin → Bool
+origins_agree o complete m n None second = false
+origins_agree o complete m n (Some a) None = false
+origins_agree o complete m n (Some a) (Some b) =
+    are_one_brace a.brace b.brace || ((stands_for o m == stands_for o n) && not (a.unit == b.unit) && not complete)
 
 -- the struct has its body
 abbrev pub has_body : TypeTable → ℕ → Bool
@@ -85,7 +134,7 @@ has_body types number = is_some (body_of types number)
 -- two structs
 abbrev pub structs_agree : TypeTable → Origins → ℕ → ℕ → Bool
 structs_agree types o a b =
-    (a == b) || origins_agree (has_body types a && has_body types b) (slice_get o.structs a) (slice_get o.structs b)
+    (a == b) || origins_agree o (has_body types a && has_body types b) a b (slice_get o.structs a) (slice_get o.structs b)
 
 -- the brace of an enumeration
 abbrev pub brace_in : Option (Option Brace) → Option Brace
@@ -141,19 +190,29 @@ agree_by types o objects _ _ = objects
 abbrev pub agree : TypeTable → Origins → TypeId → TypeId → Bool
 agree types o a b = agree_by types o (objects_agree types o a b) (row_of types a) (row_of types b)
 
--- One type has an int where the other has an enumeration, down to so many types inside.
-abbrev pub mix_int_within : ℕ → TypeTable → TypeId → TypeId → Bool
-mix_int_within zero types a b = false
-mix_int_within (suc more) types a b =
-    are_int (row_of types a) (row_of types b) || both_are (mix_int_within more types) (inside_both (row_of types a) (row_of types b))
+-- an array without its length, and one with it
+abbrev pub are_half_open : Option Row → Option Row → Bool
+are_half_open (Some (row.Array of length layout)) (Some (row.OpenArray of')) = true
+are_half_open (Some (row.OpenArray of)) (Some (row.Array of' length layout)) = true
+are_half_open _ _ = false
+
+-- compatible, and yet two types
+abbrev pub are_two : Option Row → Option Row → Bool
+are_two a b = are_int a b || are_half_open a b
+
+-- One type has an int where the other has an enumeration, or a length where the other has none, down to so many types inside.
+abbrev pub mix_within : ℕ → TypeTable → TypeId → TypeId → Bool
+mix_within zero types a b = false
+mix_within (suc more) types a b =
+    are_two (row_of types a) (row_of types b) || both_are (mix_within more types) (inside_both (row_of types a) (row_of types b))
 
 -- anywhere inside
-abbrev pub mix_int : TypeTable → TypeId → TypeId → Bool
-mix_int types a b = mix_int_within a.number types a b
+abbrev pub mix : TypeTable → TypeId → TypeId → Bool
+mix types a b = mix_within a.number types a b
 
--- Members of two bodies at one brace have compatible types, and an int is no enumeration there (own).
+-- Members of two bodies at one brace are of one type: compatible types do not suffice there (own).
 abbrev pub members_agree : TypeTable → Origins → TypeId → TypeId → Bool
-members_agree types o a b = agree types o a b && not (mix_int types a b)
+members_agree types o a b = agree types o a b && not (mix types a b)
 
 -- Two bodies at one brace have the same members, in their order.
 abbrev pub fields_agree : TypeTable → Origins → List Field → List Field → Bool
@@ -213,14 +272,9 @@ abbrev pub first_name : TypeTable → Tag → List ℕ
 first_name types (tag.Struct number) = first_in (body_of types number)
 first_name types (tag.Enumeration number) = first_constant (constants_of types number)
 
--- the same origin, with its brace
-abbrev pub with_brace : Brace → Option Origin → List Origin → ℕ → List Origin
-with_brace brace None its number = its
-with_brace brace (Some it) its number = slice_set its number (record it { brace = Some brace })
-
 -- the body of that struct or enumeration begins at that brace
 abbrev pub begun_at : Brace → Tag → Origins → Origins
-begun_at brace (tag.Struct number) o = record o { structs = with_brace brace (slice_get o.structs number) o.structs number }
+begun_at brace (tag.Struct number) o = record o { structs = whole_at (Some brace) (slice_get o.structs number) o.structs number }
 begun_at brace (tag.Enumeration number) o = record o { enumerations = slice_set o.enumerations number (Some brace) }
 
 -- one body more of this unit at that place
@@ -243,6 +297,11 @@ joined at it brace (Some first) s =
     then Ok (tt, record s { origins = met at it brace s.origins })
     else Err (Clash at (first_name s.types it))
 
+-- a body that begins at no place of a file
+abbrev pub begun_nowhere : Tag → Origins → Origins
+begun_nowhere (tag.Struct number) o = record o { structs = whole_at None (slice_get o.structs number) o.structs number }
+begun_nowhere (tag.Enumeration number) o = o
+
 -- a brace that comes from a macro is at no place of a file
 abbrev pub is_plain : token.Origin → Bool
 is_plain origin.Plain = true
@@ -253,4 +312,20 @@ abbrev pub closed : Place → Tag → Step (Unit {0})
 closed at it s =
     if is_plain at.origin
     then joined at it (brace_of at (times_at at s.origins)) (kept_for (brace_of at (times_at at s.origins)) s.origins.firsts) s
-    else Ok (tt, s)
+    else Ok (tt, record s { origins = begun_nowhere it s.origins })
+
+-- ---- at the end of a unit
+
+-- a body and the first one at its brace, if there is one
+abbrev pub fits_kept : TypeTable → Origins → ℕ → Option Tag → Bool
+fits_kept types o number None = true
+fits_kept types o number (Some first) = tags_agree types o first (tag.Struct number)
+
+-- if it has a brace
+abbrev pub fits_at : TypeTable → Origins → ℕ → Option Brace → Bool
+fits_at types o number None = true
+fits_at types o number (Some brace) = fits_kept types o number (kept_for brace o.firsts)
+
+-- The body of that struct is one with the first one at its brace. Tags that its members name may have got their bodies since.
+abbrev pub fits_first : TypeTable → Origins → ℕ → Bool
+fits_first types o number = fits_at types o number (struct_brace (slice_get o.structs number))

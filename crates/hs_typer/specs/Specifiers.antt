@@ -5,7 +5,7 @@
 --     opened_struct, body_closed               a struct whose body begins, and the state after the body
 --     with_member, completed_struct            members of a struct (3.5.2.1)
 --     enumerator, completed_enumeration        constants of an enumeration (3.5.2.2)
-use Rattle.std.specs.Prelude.{ℕ, suc, ◌-◌, nat_le, nat_eq, Bool, true, false, not, ◌&&◌, ◌||◌, List, [], ◌∷◌, ◌++◌, length, take, slice_get, Option, Some, None, is_some, Result, Ok, Err, if◌then◌else◌}
+use Rattle.std.specs.Prelude.{ℕ, suc, ◌-◌, ◌==◌, nat_le, nat_eq, Bool, true, false, not, ◌&&◌, ◌||◌, List, [], ◌∷◌, ◌++◌, length, take, slice_get, Option, Some, None, is_some, Result, Ok, Err, if◌then◌else◌}
 use Rattle.std.specs.Cmp.Lexicographic.{pointwise}
 use Rattle.std.specs.List.{list_any}
 use Rattle.hs_constants.specs.declared.value.Value.{Value}
@@ -127,7 +127,11 @@ enumeration_type number s = Ok (id_of (row.Enumeration number) s.types, record s
 
 -- 3.5.2.3: a struct without a name
 abbrev pub new_struct : Step ℕ
-new_struct s = Ok (length s.types.structs, record s { types = with_struct s.types; origins = with_struct_origin None s.origins })
+new_struct s = Ok (length s.types.structs, record s { types = with_struct s.types; origins = with_struct_origin false None s.origins })
+
+-- names are declared at file scope here
+abbrev pub is_outermost : Typer → Bool
+is_outermost s = s.tags.level == 0
 
 -- with a tag, in the innermost scope
 abbrev pub new_tagged_struct : Word → Step ℕ
@@ -137,7 +141,7 @@ new_tagged_struct word s =
       record s {
         types = with_struct s.types;
         tags = declared word.text (tag.Struct (length s.types.structs)) s.tags;
-        origins = with_struct_origin (Some word.text) s.origins;
+        origins = with_struct_origin (is_outermost s) (Some word.text) s.origins;
       },
     )
 
@@ -169,7 +173,7 @@ begun_struct (Some word) s = begun_struct_as word (find_here word.text s.tags) s
 
 -- the body of the struct of that number begins
 abbrev pub body_opened : ℕ → Step ℕ
-body_opened number s = Ok (number, record s { open_bodies = s.open_bodies ++ number ∷ [] })
+body_opened number s = Ok (number, record s { open_bodies = s.open_bodies ++ number ∷ []; begun = s.begun ++ number ∷ [] })
 
 -- A struct at its opening brace.
 abbrev pub opened_struct : Option Word → Step ℕ

@@ -38,6 +38,8 @@ beginning table =
       calls = [];
       origins = no_origins;
       open_bodies = [];
+      begun = [];
+      tentatives = [];
       counts = true;
       keeps = false;
     }

@@ -1,12 +1,11 @@
 //! Which types of several units are one (X3.159-1989 3.1.2.6).
 
-ghost use Rattle.std.specs.Prelude.{◌≡◌, ◌&&◌, IfSome, IfNone, option_copied, slice_get};
+ghost use Rattle.std.specs.Prelude.{◌≡◌, ◌==◌, ◌&&◌, IfSome, IfNone, option_copied, slice_get};
 ghost use Rattle.hs_operand_types.specs.Types.{is_int, are_int};
-ghost use Rattle.hs_typer.specs.Origins.{are_one_brace, are_one_tag, origins_agree, has_body, structs_agree, brace_in, enumerations_agree, leaves_agree, objects_agree, lists_agree, agree, mix_int, members_agree, fields_agree, enumerators_agree, tags_agree, first_field, first_enumerator, first_name};
+ghost use Rattle.hs_typer.specs.Origins.{are_one_brace, stands_for, origins_agree, has_body, structs_agree, brace_in, enumerations_agree, leaves_agree, objects_agree, lists_agree, agree, are_half_open, are_two, mix, members_agree, fields_agree, enumerators_agree, tags_agree, first_field, first_enumerator, first_name};
 ghost use Rattle.hs_typer.specs.Pairs.{IsInside, AreApart, both_end, both_more};
 
 use crate::{Brace, Origin, Origins, Tag};
-use hs_base::Bytes;
 use hs_types::{Enumerator, Field, Integer, ListId, Parameters, Row, TypeId, Types};
 
 /// Whether both braces are there, and the same.
@@ -19,27 +18,31 @@ fn are_one_brace(a: Option<Brace>, b: Option<Brace>) -> bool
     }
 }
 
-/// Whether both tags are there, and the same.
-fn are_one_tag(a: Option<&Bytes>, b: Option<&Bytes>) -> bool
-    ensures { result ≡ are_one_tag (option_copied a.entry) (option_copied b.entry) }
+/// Whether one struct stands for both.
+fn stand_together(origins: &Origins, a: u32, b: u32) -> bool
+    ensures { result ≡ (stands_for origins.now a == stands_for origins.now b) }
 {
-    match (a, b) {
-        (Some(one), Some(other)) => one.items() == other.items(),
-        (None, _) | (Some(_), None) => false,
-    }
+    let first = origins.stands_for(a);
+    let second = origins.stands_for(b);
+    first == second
 }
 
-/// Whether structs of these origins are one type: their bodies begin at one brace, or one is without its body in its unit and the other
-/// is of the same tag in another unit.
-fn origins_agree(complete: bool, a: Option<&Origin>, b: Option<&Origin>) -> bool
-    ensures { result ≡ origins_agree complete (option_copied a.entry) (option_copied b.entry) }
+/// Whether structs of these origins are one type: their bodies begin at one brace, or they are of two units, do not both have their bodies, and
+/// one struct stands for both.
+fn origins_agree(
+    origins: &Origins,
+    complete: bool,
+    a: u32,
+    b: u32,
+    first: Option<&Origin>,
+    second: Option<&Origin>,
+) -> bool
+    ensures { result ≡ origins_agree origins.now complete a b (option_copied first.entry) (option_copied second.entry) }
 {
-    match (a, b) {
+    match (first, second) {
         (Some(one), Some(other)) => {
             are_one_brace(one.brace, other.brace)
-                || (are_one_tag(one.tag.as_ref(), other.tag.as_ref())
-                    && one.unit != other.unit
-                    && !complete)
+                || (one.unit != other.unit && !complete && stand_together(origins, a, b))
         }
         (None, _) | (Some(_), None) => false,
     }
@@ -60,7 +63,15 @@ fn structs_agree(types: &Types, origins: &Origins, a: u32, b: u32) -> bool
     ensures { result ≡ structs_agree types.now origins.now a b }
 {
     let complete = have_bodies(types, a, b);
-    a == b || origins_agree(complete, origins.structs.get(a), origins.structs.get(b))
+    a == b
+        || origins_agree(
+            origins,
+            complete,
+            a,
+            b,
+            origins.structs.get(a),
+            origins.structs.get(b),
+        )
 }
 
 /// Where the body of that enumeration begins, if it begins in a file.
@@ -300,9 +311,27 @@ fn are_int(left: Option<Row>, right: Option<Row>) -> bool
     }
 }
 
-/// Whether one type has an `int` where the other has an enumeration.
-fn mix_int(types: &Types, a: TypeId, b: TypeId) -> bool
-    ensures { result ≡ mix_int types.now a b }
+/// Whether one of two types is an array without its length, and the other one with it.
+fn are_half_open(left: Option<Row>, right: Option<Row>) -> bool
+    ensures { result ≡ are_half_open left right }
+{
+    match (left, right) {
+        (Some(Row::Array { .. }), Some(Row::OpenArray(_)))
+        | (Some(Row::OpenArray(_)), Some(Row::Array { .. })) => true,
+        _ => false,
+    }
+}
+
+/// Whether two types that may be compatible are two: `int` and an enumeration, or arrays of which only one has its length.
+fn are_two(left: Option<Row>, right: Option<Row>) -> bool
+    ensures { result ≡ are_two left right }
+{
+    are_int(left, right) || are_half_open(left, right)
+}
+
+/// Whether one type has an `int` where the other has an enumeration, or a length where the other has none.
+fn mix(types: &Types, a: TypeId, b: TypeId) -> bool
+    ensures { result ≡ mix types.now a b }
 {
     let mut more = a.number;
     let mut inside = Pair { left: a, right: b };
@@ -313,7 +342,7 @@ fn mix_int(types: &Types, a: TypeId, b: TypeId) -> bool
         more -= 1;
         let left = types.row(inside.left);
         let right = types.row(inside.right);
-        if are_int(left, right) {
+        if are_two(left, right) {
             return true;
         }
         let Some(next) = inside_both(left, right) else {
@@ -323,12 +352,12 @@ fn mix_int(types: &Types, a: TypeId, b: TypeId) -> bool
     }
 }
 
-/// Whether members of two bodies at one brace have one type: their types are compatible, and where one has `int`, the other has no
-/// enumeration.
+/// Whether members of two bodies at one brace have one type: their types are compatible, and where one has an `int`, the other has no
+/// enumeration, and where one has a length, so has the other.
 fn members_agree(types: &Types, origins: &Origins, a: TypeId, b: TypeId) -> bool
     ensures { result ≡ members_agree types.now origins.now a b }
 {
-    agree(types, origins, a, b) && !mix_int(types, a, b)
+    agree(types, origins, a, b) && !mix(types, a, b)
 }
 
 /// Whether two bodies have the same members.
@@ -414,8 +443,10 @@ fn first_enumerator(its: &[Enumerator]) -> &[u8]
     }
 }
 
-/// The name of the first member or constant.
-pub(crate) fn first_name(types: &Types, it: Tag) -> &[u8]
+/// The name of the first member or constant, or no bytes.
+///
+/// Example: `a` of `struct S { int a; }`.
+pub fn first_name(types: &Types, it: Tag) -> &[u8]
     ensures { result.now ≡ first_name types.now it }
 {
     match it {

@@ -3,7 +3,7 @@
 ghost use Rattle.std.specs.Prelude.{◌≡◌, option_copied};
 ghost use Rattle.hs_names.specs.Scopes.{find};
 ghost use Rattle.hs_tree.specs.Views.{view_right};
-ghost use Rattle.hs_typer.specs.Specifiers.{struct_type, enumeration_type, new_struct, new_tagged_struct, tagged_struct, begun_struct, has_open_body, opened_struct, tagged_enumeration, new_tagged_enumeration, begun_enumeration, with_member, completed_struct, completed_enumeration, struct_with_body, enumeration_with_body, refused_body, is_int, int_of, next_bits, then_next, enumerator};
+ghost use Rattle.hs_typer.specs.Specifiers.{struct_type, enumeration_type, new_struct, is_outermost, new_tagged_struct, tagged_struct, begun_struct, has_open_body, opened_struct, tagged_enumeration, new_tagged_enumeration, begun_enumeration, with_member, completed_struct, completed_enumeration, struct_with_body, enumeration_with_body, refused_body, is_int, int_of, next_bits, then_next, enumerator};
 ghost use Rattle.hs_typer.specs.Steps.{Gives, Steps, Changes};
 
 use crate::closing::closed;
@@ -38,12 +38,19 @@ pub fn enumeration_type(typer: &mut Typer, number: u32) -> Result<TypeId, TypeEr
 }
 
 /// A new struct without a tag.
-fn new_struct(typer: &mut Typer) -> Result<u32, TypeError>
+fn new_struct(alloc: Global, typer: &mut Typer) -> Result<u32, TypeError>
     ensures { Steps (λ it. it) typer.new (new_struct typer.old) result }
 {
     let number = typer.types.declare_struct()?;
-    typer.origins.add_struct(None)?;
+    typer.origins.add_struct(alloc, false, None)?;
     Ok(number)
+}
+
+/// Whether names are declared at file scope here.
+fn is_outermost(typer: &Typer) -> bool
+    ensures { result ≡ is_outermost typer.now }
+{
+    typer.tags.is_outermost()
 }
 
 /// A new struct with a tag, in the innermost scope.
@@ -54,7 +61,8 @@ fn new_tagged_struct(alloc: Global, typer: &mut Typer, word: &Word) -> Result<u3
     let tag = Tag::Struct(number);
     typer.tags.declare(alloc, word.text.items(), tag)?;
     let name = copied(alloc, word.text.items())?;
-    typer.origins.add_struct(Some(name))?;
+    let outer = is_outermost(typer);
+    typer.origins.add_struct(alloc, outer, Some(name))?;
     Ok(number)
 }
 
@@ -86,7 +94,7 @@ pub fn begun_struct(alloc: Global, typer: &mut Typer, tag: Option<&Word>) -> Res
     ensures { Steps (λ it. it) typer.new (begun_struct (option_copied tag.entry) typer.old) result }
 {
     let Some(word) = tag else {
-        return new_struct(typer);
+        return new_struct(alloc, typer);
     };
     match typer.tags.find_here(word.text.items()) {
         Some(Tag::Struct(number)) => {
@@ -108,6 +116,7 @@ pub fn opened_struct(alloc: Global, typer: &mut Typer, tag: Option<&Word>) -> Re
 {
     let number = begun_struct(alloc, typer, tag)?;
     typer.open_bodies.push(number)?;
+    typer.begun.push(number)?;
     Ok(number)
 }
 

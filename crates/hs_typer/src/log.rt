@@ -2,7 +2,6 @@
 
 ghost use Rattle.std.specs.Prelude.{◌≡◌, ◌++◌, ◌∷◌, ◌-◌, [], OnOk, OnErr, length, option_copied, slice_get, slice_set, take};
 
-use crate::{Brace, Origin};
 use hs_base::NoMemory;
 use std::alloc::Global;
 use std::marker::Model;
@@ -29,6 +28,13 @@ impl<T: Drop> Log<T> {
         Log {
             vec: Vec::new(alloc),
         }
+    }
+
+    /// How many items there are.
+    pub fn len(&self) -> usize
+        ensures { result ≡ length self.now }
+    {
+        self.vec.len()
     }
 
     /// Puts an item at the end. Fails if memory runs out.
@@ -68,18 +74,5 @@ impl<T: Drop> Log<T> {
         ensures { result.now ≡ self.now }
     {
         self.vec.as_slice()
-    }
-}
-
-impl Log<Origin> {
-    ghost use Rattle.hs_typer.specs.Origins.{with_brace};
-
-    /// The body of the struct of that number begins at that brace.
-    pub(crate) fn begin(&mut self, number: u32, brace: Brace)
-        ensures { self.new ≡ with_brace brace (slice_get self.old number) self.old number }
-    {
-        if (number as usize) < self.vec.len() {
-            self.vec[number as usize].brace = Some(brace);
-        }
     }
 }

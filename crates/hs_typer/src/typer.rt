@@ -3,7 +3,7 @@
 ghost use Rattle.std.specs.Prelude.{◌≡◌, IfOk};
 ghost use Rattle.hs_typer.specs.Steps.{beginning};
 
-use crate::{Log, Origins};
+use crate::{Log, Origins, Tentative};
 use hs_base::NoMemory;
 use hs_names::Scopes;
 use hs_operand_types::Bound;
@@ -65,6 +65,10 @@ pub struct Typer {
     pub origins: Origins,
     /// The structs whose bodies have begun and are not complete, the innermost one last.
     pub open_bodies: Log<u32>,
+    /// The structs of this unit whose bodies have begun so far, in the order of their braces.
+    pub begun: Log<u32>,
+    /// The objects that this unit makes at file scope so far, if their structs had no bodies at their names.
+    pub tentatives: Log<Tentative>,
     /// Whether what is typed is evaluated: inside `sizeof` it is not, and no string, address and call counts.
     pub counts: bool,
     /// Whether the scope of the next list of parameters is kept: that of a function that is being defined goes on in its body.
@@ -88,6 +92,8 @@ impl Typer {
             calls: Log::new(alloc),
             origins: Origins::new(alloc),
             open_bodies: Log::new(alloc),
+            begun: Log::new(alloc),
+            tentatives: Log::new(alloc),
             counts: true,
             keeps: false,
         })

@@ -1,18 +1,17 @@
 -- Structs of one brace are one in the program (X3.159-1989 3.1.2.6, and own).
 --     structs_at              what stands for the struct of a number
---     first_stands            for a struct with its body that is the first one of its brace
+--     first_stands            the first one of its brace, for a struct that has a brace
 --     joined_at_end           so one struct stands for two of one brace, and no struct has got a body since all units were typed
-use Rattle.std.proofs.Common.{◌≡◌, ℕ, zero, suc, ◌+◌, true, List, [], ◌∷◌, ◌++◌, length, slice_get, Some, is_some, sym, ap, subst, ◌∙◌, if◌then◌else◌, arith}
+use Rattle.std.proofs.Common.{◌≡◌, ℕ, zero, suc, ◌+◌, true, List, [], ◌∷◌, ◌++◌, length, slice_get, Some, is_some, sym, ap, subst, ◌∙◌, arith}
 use Rattle.std.proofs.lemmas.List.{length-append}
 use Rattle.hs_base.specs.Entries.{entry_stays, last_there}
 use Rattle.hs_expressions.specs.Laws.Traced.{HasFirst, IsTracedAt}
 use Rattle.hs_fitting.specs.Exact.{AreJoined}
-use Rattle.hs_fitting.specs.Sameness.{HasBody}
 use Rattle.hs_linkage.specs.declared.translator.Translator.{Translator}
-use Rattle.hs_same_types.specs.Representatives.{struct_in, first_at, named, struct_of, structs_of, representatives}
+use Rattle.hs_same_types.specs.Representatives.{structs_of, representatives}
 use Rattle.hs_tree.specs.Representatives.{or_itself, struct_for}
 use Rattle.hs_tree.specs.Trees.{TypedFunction}
-use Rattle.hs_typer.specs.Origins.{kept_for}
+use Rattle.hs_typer.specs.Origins.{kept_for, struct_in, stands_by, stands_as, stands_for}
 use Rattle.hs_typer.specs.declared.origins.Brace.{Brace}
 use Rattle.hs_typer.specs.declared.origins.Origin.{Origin}
 use Rattle.hs_typer.specs.declared.origins.Origins.{Origins}
@@ -38,41 +37,40 @@ one_further a b c is = omega (arith, is)
 module _ (types : TypeTable) (o : Origins) where
   -- those that are done stay
   done_stay : (done : List ℕ) (its : List Origin) (number first : ℕ) → slice_get done number ≡ Some first
-      → slice_get (structs_of types o done its) number ≡ Some first
+      → slice_get (structs_of o done its) number ≡ Some first
   done_stay done [] number first at = at
   done_stay done (it ∷ rest) number first at =
-      done_stay (done ++ struct_of types o (length done) it ∷ []) rest number first
-      (entry_stays done (struct_of types o (length done) it ∷ []) number first at)
+      done_stay (done ++ stands_for o (length done) ∷ []) rest number first
+      (entry_stays done (stands_for o (length done) ∷ []) number first at)
 
   -- the struct of that number, after those that are done
   pub structs_at : (done : List ℕ) (its : List Origin) (number : ℕ) (it : Origin) → slice_get its number ≡ Some it
-      → slice_get (structs_of types o done its) (length done + number) ≡ Some (struct_of types o (length done + number) it)
+      → slice_get (structs_of o done its) (length done + number) ≡ Some (stands_for o (length done + number))
   structs_at done [] number it at = absurd cc
   structs_at done (first ∷ rest) zero it at =
-      let same : first ≡ it = cc in
-      subst (λ n. slice_get (structs_of types o done (first ∷ rest)) n ≡ Some (struct_of types o n it)) (none_more (length done))
-      (done_stay (done ++ struct_of types o (length done) first ∷ []) rest (length done) (struct_of types o (length done) first)
-      (last_there done (struct_of types o (length done) first)) ∙ ap (λ it. Some (struct_of types o (length done) it)) same)
+      subst (λ n. slice_get (structs_of o done (first ∷ rest)) n ≡ Some (stands_for o n)) (none_more (length done))
+      (done_stay (done ++ stands_for o (length done) ∷ []) rest (length done) (stands_for o (length done))
+      (last_there done (stands_for o (length done))))
   structs_at done (first ∷ rest) (suc number) it at =
-      let all : List ℕ = done ++ struct_of types o (length done) first ∷ [] in
-      subst (λ n. slice_get (structs_of types o all rest) n ≡ Some (struct_of types o n it))
-      (one_further (length all) (length done) number (length-append done (struct_of types o (length done) first ∷ [])))
+      let all : List ℕ = done ++ stands_for o (length done) ∷ [] in
+      subst (λ n. slice_get (structs_of o all rest) n ≡ Some (stands_for o n))
+      (one_further (length all) (length done) number (length-append done (stands_for o (length done) ∷ [])))
       (structs_at all rest number it at)
 
-  -- of all structs
-  all_at : (number : ℕ) (it : Origin) → slice_get o.structs number ≡ Some it
-      → slice_get (structs_of types o [] o.structs) number ≡ Some (struct_of types o number it)
-  all_at number it at =
-      subst (λ n. slice_get (structs_of types o [] o.structs) n ≡ Some (struct_of types o n it)) (after_none number)
-      (structs_at [] o.structs number it at)
+  -- What stands for a struct, by where it comes from.
+  pub stands_at : (number : ℕ) (it : Origin) → slice_get o.structs number ≡ Some it
+      → struct_for (representatives types o) number ≡ stands_for o number
+  stands_at number it at =
+      ap (or_itself number)
+      (subst (λ n. slice_get (structs_of o [] o.structs) n ≡ Some (stands_for o n)) (after_none number) (structs_at [] o.structs number it at))
 
-  -- The first one of its brace stands for a struct with its body.
+  -- The first one of its brace stands for a struct.
   pub first_stands : (number first : ℕ) (it : Origin) (brace : Brace) → slice_get o.structs number ≡ Some it → it.brace ≡ Some brace
-      → HasBody types number → kept_for brace o.firsts ≡ Some (tag.Struct first) → struct_for (representatives types o) number ≡ first
-  first_stands number first it brace at known has kept =
-      ap (or_itself number) (all_at number it at)
-      ∙ ap (λ b. or_itself number (if b then first_at o.firsts it.brace else named types o.structs it.tag)) has
-      ∙ ap (λ brace. or_itself number (first_at o.firsts brace)) known
+      → kept_for brace o.firsts ≡ Some (tag.Struct first) → struct_for (representatives types o) number ≡ first
+  first_stands number first it brace at known kept =
+      stands_at number it at
+      ∙ ap (stands_as o number) at
+      ∙ ap (stands_by o number it) known
       ∙ ap (λ o. or_itself number (struct_in o)) kept
 
 -- ---- the program
@@ -89,6 +87,6 @@ module _ (m : Translator) (functions : List TypedFunction) (main : ℕ) (base : 
         bodies = λ number has. subst (λ its. is_some (body_in (slice_get its number)) ≡ true) same_structs has;
         joined = λ number other brace is is' has has'.
             let first : HasFirst m.typer.origins brace = (traced.begun number is.0 brace is.1 is.2).1 in
-            first_stands (program_at_end m functions main).types m.typer.origins number first.0 is.0 brace is.1 is.2 has first.1
-            ∙ sym (first_stands (program_at_end m functions main).types m.typer.origins other first.0 is'.0 brace is'.1 is'.2 has' first.1);
+            first_stands (program_at_end m functions main).types m.typer.origins number first.0 is.0 brace is.1 is.2 first.1
+            ∙ sym (first_stands (program_at_end m functions main).types m.typer.origins other first.0 is'.0 brace is'.1 is'.2 first.1);
       }

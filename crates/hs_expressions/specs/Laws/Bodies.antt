@@ -10,14 +10,14 @@ use Rattle.hs_expressions.specs.Laws.{IsScoped}
 use Rattle.hs_expressions.specs.Laws.Always.{Reaching, Always, reaching_then}
 use Rattle.hs_expressions.specs.Laws.Grown.{GrowsTo, completed_grows}
 use Rattle.hs_expressions.specs.Laws.Leaves.{opened_struct_always, met_unit}
-use Rattle.hs_expressions.specs.Laws.Braces.{struct_first, struct_later}
+use Rattle.hs_expressions.specs.Laws.Braces.{struct_first, struct_later, nowhere_traced}
 use Rattle.hs_expressions.specs.Laws.Origins.{HasNoBrace, traced_body}
 use Rattle.hs_expressions.specs.Laws.Reached.{Reaches, reaches_bodies, reaches_further, scoped_after}
 use Rattle.hs_expressions.specs.Laws.Traced.{HasBodyIn, IsOwnTag, IsTraced, IsTracedAt, Traces, TracesTo, traces_then}
 use Rattle.hs_names.specs.Scopes.{Declared, newest, entity_at, find_here}
 use Rattle.hs_syntax.specs.declared.word.Word.{Word}
 use Rattle.hs_tokens.specs.declared.place.Place.{Place}
-use Rattle.hs_typer.specs.Origins.{brace_of, kept_for, times_at, first_at, first_name, is_plain, joined, met, closed, tags_agree}
+use Rattle.hs_typer.specs.Origins.{brace_of, kept_for, times_at, first_at, first_name, is_plain, begun_nowhere, joined, met, closed, tags_agree}
 use Rattle.hs_typer.specs.Specifiers.{has_open_body, begun_struct_as, begun_struct, body_opened, opened_struct, body_closed, with_body_in, struct_with_body, completed_struct}
 use Rattle.hs_typer.specs.Steps.{Step, then_with, ◌>>=◌, ◌>>◌}
 use Rattle.hs_typer.specs.declared.origins.Brace.{Brace}
@@ -142,11 +142,11 @@ module _ (allowed : Entity → Type 0) (old s : Typer) (reached : Reaches allowe
         traces_then base old.types.structs whole.types.structs whole.types.structs old.origins s.origins origins one.1 two.1,
       ))
 
-  -- without a brace
-  plain_whole : Reaches allowed old whole
+  -- at no brace of a file
+  plain_whole : Reaches allowed old (record whole { origins = begun_nowhere (tag.Struct number) s.origins })
   plain_whole =
-      reaches_further allowed old s (with_body number body s.types) s.origins reached grows refl
-      (λ base is. let one : IsWhole base = whole_traced base is in (one.0, one.1))
+      with_origins (begun_nowhere (tag.Struct number) s.origins) refl
+      (λ base one. nowhere_traced base whole.types.structs s.origins s.tags.declarations number one.3 one.0)
 
   -- the first one at the brace, or one with the first
   joined_whole : (at : Place) (brace : Brace) (o : Option Tag) → kept_for brace s.origins.firsts ≡ o
@@ -174,7 +174,8 @@ module _ (allowed : Entity → Type 0) (old s : Typer) (reached : Reaches allowe
     where
       by_test : (b : Bool) → Reaching {A = Unit {0}} allowed old
           (if b then joined at (tag.Struct number) (brace_of at (times_at at s.origins))
-          (kept_for (brace_of at (times_at at s.origins)) s.origins.firsts) whole else Ok (tt, whole))
+          (kept_for (brace_of at (times_at at s.origins)) s.origins.firsts) whole
+          else Ok (tt, record whole { origins = begun_nowhere (tag.Struct number) s.origins }))
       by_test true = joined_whole at (brace_of at (times_at at s.origins)) (kept_for (brace_of at (times_at at s.origins)) s.origins.firsts) refl
       by_test false = plain_whole
 

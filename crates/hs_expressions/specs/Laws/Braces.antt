@@ -1,6 +1,7 @@
 -- The brace at which a body begins: it is kept with the struct, and the first struct or enumeration is kept for it (own).
 --     brace_traced                     the struct whose body has come gets its brace
 --     firsts_traced                    something more is kept for a brace
+--     nowhere_traced                   the body begins at no brace of a file
 --     struct_first, struct_later, enumeration_first, enumeration_later      the first one at a brace, and a later one
 use Rattle.std.proofs.Common.{◌≡◌, ◌≤◌, ◌⊎◌, inl, inr, ℕ, Bool, true, false, List, [], ◌∷◌, length, Option, Some, None, refl, sym, ap, subst, ◌∙◌, if◌then◌else◌, arith}
 use Rattle.std.proofs.lemmas.Bool.Decides.{nat_tests}
@@ -10,7 +11,8 @@ use Rattle.hs_base.specs.Entries.{set_either, set_other, set_length}
 use Rattle.hs_expressions.specs.Laws.Traced.{HasBodyIn, HasFirst, IsTraced, HasBrace, Traces}
 use Rattle.hs_names.specs.Scopes.{Declared}
 use Rattle.hs_tokens.specs.declared.place.Place.{Place}
-use Rattle.hs_typer.specs.Origins.{same_brace, kept_for, with_brace, first_at, met, tags_agree}
+use Rattle.hs_typer.specs.Origins.{same_brace, kept_for, first_at, begun_nowhere, met, tags_agree}
+use Rattle.hs_typer.specs.Tags.{whole_at}
 use Rattle.hs_typer.specs.declared.origins.Brace.{Brace}
 use Rattle.hs_typer.specs.declared.origins.Origin.{Origin}
 use Rattle.hs_typer.specs.declared.origins.Origins.{Origins}
@@ -98,11 +100,11 @@ module _ (base : ℕ) (structs : List (Option Body)) (o o' : Origins) (tags : Li
 
   -- with a brace more
   set_traced : (its : Origin) → slice_get o.structs number ≡ Some its
-      → o'.structs ≡ slice_set o.structs number (record its { brace = Some brace })
+      → o'.structs ≡ slice_set o.structs number (record its { whole = true; brace = Some brace })
       → IsTraced base structs o' tags × Traces base structs o structs o'
   set_traced its there same = (
     record {
-      counted = ap length same ∙ set_length o.structs number (record its { brace = Some brace }) ∙ is.counted;
+      counted = ap length same ∙ set_length o.structs number (record its { whole = true; brace = Some brace }) ∙ is.counted;
       there = is.there;
       begun = λ k it other at known. begun_by k it other known (either k it at);
       units = λ k it at from. units_by k it from (either k it at) ∙ sym unit;
@@ -112,12 +114,12 @@ module _ (base : ℕ) (structs : List (Option Body)) (o o' : Origins) (tags : Li
   )
     where
       either : (k : ℕ) (it : Origin) → slice_get o'.structs k ≡ Some it
-          → (slice_get o.structs k ≡ Some it) ⊎ ((k ≡ number) × (record its { brace = Some brace } ≡ it))
+          → (slice_get o.structs k ≡ Some it) ⊎ ((k ≡ number) × (record its { whole = true; brace = Some brace } ≡ it))
       either k it at =
-          set_either o.structs number (record its { brace = Some brace }) k it (subst (λ all. slice_get all k ≡ Some it) same at)
+          set_either o.structs number (record its { whole = true; brace = Some brace }) k it (subst (λ all. slice_get all k ≡ Some it) same at)
 
       begun_by : (k : ℕ) (it : Origin) (other : Brace) → it.brace ≡ Some other
-          → (slice_get o.structs k ≡ Some it) ⊎ ((k ≡ number) × (record its { brace = Some brace } ≡ it)) → HasBodyIn structs k × HasFirst o' other
+          → (slice_get o.structs k ≡ Some it) ⊎ ((k ≡ number) × (record its { whole = true; brace = Some brace } ≡ it)) → HasBodyIn structs k × HasFirst o' other
       begun_by k it other known (inl at) =
           let old : HasBodyIn structs k × HasFirst o other = is.begun k it other at known in (old.0, firsts other old.1)
       begun_by k it other known (inr new) =
@@ -126,7 +128,7 @@ module _ (base : ℕ) (structs : List (Option Body)) (o o' : Origins) (tags : Li
           (subst (HasBodyIn structs) (sym new.0) has, subst (HasFirst o') one_brace first)
 
       units_by : (k : ℕ) (it : Origin) → base ≤ k
-          → (slice_get o.structs k ≡ Some it) ⊎ ((k ≡ number) × (record its { brace = Some brace } ≡ it)) → it.unit ≡ o.unit
+          → (slice_get o.structs k ≡ Some it) ⊎ ((k ≡ number) × (record its { whole = true; brace = Some brace } ≡ it)) → it.unit ≡ o.unit
       units_by k it from (inl at) = is.units k it at from
       units_by k it from (inr new) =
           sym (ap (λ it. it.unit) new.1) ∙ is.units number its there (subst (λ n. base ≤ n) new.0 from)
@@ -137,16 +139,16 @@ module _ (base : ℕ) (structs : List (Option Body)) (o o' : Origins) (tags : Li
       braces_by k other old false one = (
         old.0,
         subst (λ all. slice_get all k ≡ Some old.0) (sym same)
-            (set_other o.structs number (record its { brace = Some brace }) k (λ is. grind (arith, nat_tests, one, is)) ∙ old.1),
+            (set_other o.structs number (record its { whole = true; brace = Some brace }) k (λ is. grind (arith, nat_tests, one, is)) ∙ old.1),
         old.2,
       )
 
   -- if it has an origin
-  pub brace_traced : o'.structs ≡ with_brace brace (slice_get o.structs number) o.structs number
+  pub brace_traced : o'.structs ≡ whole_at (Some brace) (slice_get o.structs number) o.structs number
       → IsTraced base structs o' tags × Traces base structs o structs o'
   brace_traced same = by_origin (slice_get o.structs number) refl same
     where
-      by_origin : (given : Option Origin) → slice_get o.structs number ≡ given → o'.structs ≡ with_brace brace given o.structs number
+      by_origin : (given : Option Origin) → slice_get o.structs number ≡ given → o'.structs ≡ whole_at (Some brace) given o.structs number
           → IsTraced base structs o' tags × Traces base structs o structs o'
       by_origin None there same = kept_traced same
       by_origin (Some its) there same = set_traced its there same
@@ -171,6 +173,61 @@ firsts_traced base structs o o' tags same unit firsts is = (
     closed = λ k less. refl;
   },
 )
+
+-- a body that begins at no brace of a file
+module _ (base : ℕ) (structs : List (Option Body)) (o : Origins) (tags : List (Declared Tag)) (number : ℕ) (none : HasNoBrace o number)
+    (is : IsTraced base structs o tags) where
+  -- with such a body
+  abbrev nowhere : Option Origin → Origins
+  nowhere given = record o { structs = whole_at None given o.structs number }
+
+  -- of a struct that is there
+  some_nowhere : (its : Origin) → slice_get o.structs number ≡ Some its
+      → IsTraced base structs (nowhere (Some its)) tags × Traces base structs o structs (nowhere (Some its))
+  some_nowhere its there = (
+    record {
+      counted = set_length o.structs number (record its { whole = true; brace = None }) ∙ is.counted;
+      there = is.there;
+      begun = λ k it other at known. begun_by k it other known (set_either o.structs number (record its { whole = true; brace = None }) k it at);
+      units = λ k it at from. units_by k it from (set_either o.structs number (record its { whole = true; brace = None }) k it at);
+      owned = is.owned;
+    },
+    record { braces = λ k other has. braces_by k other has (k == number) refl; closed = λ k less. refl },
+  )
+    where
+      no_more : (brace : Brace) → None ≡ Some brace → ⊥
+      no_more brace same = cc
+
+      begun_by : (k : ℕ) (it : Origin) (other : Brace) → it.brace ≡ Some other
+          → (slice_get o.structs k ≡ Some it) ⊎ ((k ≡ number) × (record its { whole = true; brace = None } ≡ it))
+          → HasBodyIn structs k × HasFirst (nowhere (Some its)) other
+      begun_by k it other known (inl at) = is.begun k it other at known
+      begun_by k it other known (inr new) = absurd (no_more other (ap (λ it. it.brace) new.1 ∙ known))
+
+      units_by : (k : ℕ) (it : Origin) → base ≤ k
+          → (slice_get o.structs k ≡ Some it) ⊎ ((k ≡ number) × (record its { whole = true; brace = None } ≡ it)) → it.unit ≡ o.unit
+      units_by k it from (inl at) = is.units k it at from
+      units_by k it from (inr new) =
+          sym (ap (λ it. it.unit) new.1) ∙ is.units number its there (subst (λ n. base ≤ n) new.0 from)
+
+      braces_by : (k : ℕ) (other : Brace) → HasBrace o k other → (b : Bool) → (k == number) ≡ b → HasBrace (nowhere (Some its)) k other
+      braces_by k other old true one =
+          absurd (none old.0 other (subst (λ n. slice_get o.structs n ≡ Some old.0) (grind (arith, nat_tests, one)) old.1) old.2)
+      braces_by k other old false one = (
+        old.0,
+        set_other o.structs number (record its { whole = true; brace = None }) k (λ is. grind (arith, nat_tests, one, is)) ∙ old.1,
+        old.2,
+      )
+
+  -- or of none
+  pub nowhere_traced : IsTraced base structs (begun_nowhere (tag.Struct number) o) tags
+      × Traces base structs o structs (begun_nowhere (tag.Struct number) o)
+  nowhere_traced = by_origin (slice_get o.structs number) refl
+    where
+      by_origin : (given : Option Origin) → slice_get o.structs number ≡ given
+          → IsTraced base structs (nowhere given) tags × Traces base structs o structs (nowhere given)
+      by_origin None there = firsts_traced base structs o (nowhere None) tags refl refl (λ other old. old) is
+      by_origin (Some its) there = some_nowhere its there
 
 -- ---- a struct or an enumeration at its brace
 

@@ -2,21 +2,23 @@
 use Rattle.std.proofs.Common.{◌≡◌, ℕ, Bool, true, false, List, [], ◌∷◌, ◌++◌, Option, Some, None, Result, Ok, Err, refl, if◌then◌else◌}
 use Rattle.std.specs.Prelude.{slice_get, length, is_some, ◌||◌, ◌&&◌, not}
 use Rattle.hs_typer.specs.Declarators.{parameter_type, listed, word_of, place_of, is_typedef, declare}
-use Rattle.hs_typer.specs.Declaring.{list_of, declare_parameter, parameter}
+use Rattle.hs_typer.specs.Declaring.{note_tentative, list_of, declare_parameter, parameter}
 use Rattle.hs_expressions.specs.Laws.{IsConstant, IsTagAt}
 use Rattle.hs_expressions.specs.Laws.Always.{Reaching, Always, Anything, gives_always, refuses_always, of_types_always, on_types_always, then_always, and_always}
 use Rattle.hs_expressions.specs.Laws.Grown.{Growing, GrowsTo, plain_self, plain_row, arrayed_grows, enumerated_grows, listed_grows, parameter_type_grows}
 use Rattle.hs_expressions.specs.Laws.Braces.{firsts_traced, enumeration_first, enumeration_later}
 use Rattle.hs_expressions.specs.Laws.Origins.{traced_struct}
-use Rattle.hs_expressions.specs.Laws.Reached.{IsAllowedAt, prefix_self, prefix_if, more_self, more_one, reaches_self, reaches_bodies, reaches_types, reaches_named, reaches_names, reaches_noted, reaches_further}
+use Rattle.hs_expressions.specs.Laws.Reached.{IsAllowedAt, prefix_self, prefix_if, more_self, more_one, reaches_self, reaches_begun, reaches_tentatives, reaches_bodies, reaches_types, reaches_named, reaches_names, reaches_noted, reaches_further}
 use Rattle.hs_expressions.specs.Laws.Traced.{traced_tags}
 use Rattle.hs_expressions.specs.Operations.{taken_by, address_as, addressed, prefix_object, stepped, bound_call, call_with, call_operand}
-use Rattle.hs_typer.specs.Origins.{with_struct_origin, with_enumeration_origin, brace_of, kept_for, times_at, first_at, first_name, is_plain, joined, met, closed, tags_agree}
+use Rattle.hs_typer.specs.Origins.{with_struct_origin, with_enumeration_origin, brace_of, kept_for, times_at, first_at, first_name, is_plain, begun_nowhere, joined, met, closed, tags_agree}
 use Rattle.hs_typer.specs.Primaries.{string_bytes, string_in, string_as, string_of}
 use Rattle.hs_expressions.specs.Roles.{fits_role}
-use Rattle.hs_typer.specs.Specifiers.{struct_type, enumeration_type, new_struct, new_tagged_struct, tagged_struct_as, tagged_struct, has_open_body, begun_struct_as, begun_struct, body_opened, opened_struct, new_enumeration, new_tagged_enumeration, begun_enumeration_as, begun_enumeration, with_body_in, enumeration_with_body, completed_enumeration, enumerator}
+use Rattle.hs_typer.specs.Specifiers.{struct_type, enumeration_type, is_outermost, new_struct, new_tagged_struct, tagged_struct_as, tagged_struct, has_open_body, begun_struct_as, begun_struct, body_opened, opened_struct, new_enumeration, new_tagged_enumeration, begun_enumeration_as, begun_enumeration, with_body_in, enumeration_with_body, completed_enumeration, enumerator}
 use Rattle.hs_typer.specs.Steps.{lifted}
+use Rattle.hs_typer.specs.Tags.{new_origin}
 use Rattle.hs_typer.specs.declared.declarators.Derivation.{Derivation}
+use Rattle.hs_typer.specs.declared.marks.Tentative.{Tentative}
 use Rattle.hs_typer.specs.declared.origins.Brace.{Brace}
 use Rattle.hs_typer.specs.declared.origins.Origins.{Origins}
 use Rattle.hs_typer.specs.declared.type_error.TypeError.{TypeError}
@@ -121,11 +123,11 @@ module _ (allowed : Entity → Type 0) where
   pub tagged_struct_reaches : (word : Word) (s : Typer) → Reaching allowed s (new_tagged_struct word s)
   tagged_struct_reaches word s =
       reaches_named allowed s (with_struct s.types) s.names (declared word.text (tag.Struct (length s.types.structs)) s.tags)
-      (with_struct_origin (Some word.text) s.origins) (grows_struct s.types) (more_self (IsAllowedAt allowed s.names.level) s.names)
+      (with_struct_origin (is_outermost s) (Some word.text) s.origins) (grows_struct s.types) (more_self (IsAllowedAt allowed s.names.level) s.names)
       (more_one (IsTagAt s.tags.level) word.text (tag.Struct (length s.types.structs)) s.tags refl) refl
       (λ base is. traced_struct base s.types.structs s.origins s.tags.declarations
       (declared word.text (tag.Struct (length s.types.structs)) s.tags).declarations
-      (record { tag = Some word.text; unit = s.origins.unit; brace = None }) refl refl (λ there own. (there, own)) is)
+      (new_origin (is_outermost s) (Some word.text) s.origins.unit) refl refl (λ there own. (there, own)) is)
 
   tagged_enumeration_reaches : (word : Word) (s : Typer) → Reaching allowed s (new_tagged_enumeration word s)
   tagged_enumeration_reaches word s =
@@ -182,7 +184,7 @@ module _ (allowed : Entity → Type 0) where
   constants_closed_reaches at number s =
       if_reaches {A = Unit {0}} (is_plain at.origin) s
       (joined at (tag.Enumeration number) (brace_of at (times_at at s.origins)) (kept_for (brace_of at (times_at at s.origins)) s.origins.firsts) s)
-      (Ok (tt, s))
+      (Ok (tt, record s { origins = begun_nowhere (tag.Enumeration number) s.origins }))
       (constants_joined_reaches at number (brace_of at (times_at at s.origins))
       (kept_for (brace_of at (times_at at s.origins)) s.origins.firsts) s refl) (reaches_self allowed s)
 
@@ -241,10 +243,10 @@ module _ {allowed : Entity → Type 0} where
   new_struct_always : Always allowed new_struct
   new_struct_always =
       record {
-        from = λ s scoped. reaches_named allowed s (with_struct s.types) s.names s.tags (with_struct_origin None s.origins) (grows_struct s.types)
+        from = λ s scoped. reaches_named allowed s (with_struct s.types) s.names s.tags (with_struct_origin false None s.origins) (grows_struct s.types)
             (more_self (IsAllowedAt allowed s.names.level) s.names) (more_self (IsTagAt s.tags.level) s.tags) refl
             (λ base is. traced_struct base s.types.structs s.origins s.tags.declarations s.tags.declarations
-            (record { tag = None; unit = s.origins.unit; brace = None }) refl refl (λ there own. own) is);
+            (new_origin false None s.origins.unit) refl refl (λ there own. own) is);
       }
 
   new_enumeration_always : Always allowed new_enumeration
@@ -267,7 +269,10 @@ module _ {allowed : Entity → Type 0} where
   opened_struct_always o = then_always (begun_struct_always o) (λ number. opens number)
     where
       opens : (number : ℕ) → Always allowed (body_opened number)
-      opens number = record { from = λ s scoped. reaches_bodies allowed s s (s.open_bodies ++ number ∷ []) (reaches_self allowed s) }
+      opens number = record {
+        from = λ s scoped. reaches_begun allowed s (record s { open_bodies = s.open_bodies ++ number ∷ [] }) (s.begun ++ number ∷ [])
+            (reaches_bodies allowed s s (s.open_bodies ++ number ∷ []) (reaches_self allowed s));
+      }
 
   pub begun_enumeration_always : (o : Option Word) → Always allowed (begun_enumeration o)
   begun_enumeration_always None = new_enumeration_always
@@ -288,6 +293,11 @@ module _ {allowed : Entity → Type 0} where
       → Always allowed (completed_enumeration first word brace number its)
   completed_enumeration_always first word brace number its =
       and_always (enumeration_always first word number its) (closed_always brace number)
+
+  -- an object whose type is not complete
+  pub note_tentative_always : (it : Tentative) → Always allowed (note_tentative it)
+  note_tentative_always it =
+      record { from = λ s scoped. reaches_tentatives allowed s s (s.tentatives ++ it ∷ []) (reaches_self allowed s) }
 
   -- a list of parameter types
   pub list_of_always : (ids : List TypeId) → Always allowed (list_of ids)

@@ -13,6 +13,7 @@ use Rattle.hs_base.specs.Entries.{all_appended, all_so}
 use Rattle.hs_expressions.specs.Laws.Grown.{GrowsPlainly}
 use Rattle.hs_expressions.specs.Laws.Traced.{TracedTo, traced_self, traced_then, traced_same}
 use Rattle.hs_expressions.specs.Laws.{HasMore, IsTagAt, IsPrefix, AreOutside, IsScoped}
+use Rattle.hs_typer.specs.declared.marks.Tentative.{Tentative}
 use Rattle.hs_typer.specs.declared.origins.Origins.{Origins}
 use Rattle.hs_typer.specs.declared.typer.Entity.{Entity}
 use Rattle.hs_typer.specs.declared.typer.RoutineCall.{RoutineCall}
@@ -164,6 +165,41 @@ module _ (allowed : Entity → Type 0) where
         keeps = after.keeps ∙ before.keeps;
         unit = after.unit ∙ before.unit;
         traced = traced_then first second third before.traced after.traced;
+      }
+
+  -- with other bodies that have begun
+  pub reaches_begun : (old new : Typer) (its : List ℕ) → Reaches allowed old new → Reaches allowed old (record new { begun = its })
+  reaches_begun old new its reached =
+      record {
+        types = reached.types;
+        names = reached.names;
+        tags = reached.tags;
+        literals = reached.literals;
+        taken = reached.taken;
+        calls = reached.calls;
+        table = reached.table;
+        counts = reached.counts;
+        keeps = reached.keeps;
+        unit = reached.unit;
+        traced = reached.traced;
+      }
+
+  -- with other objects whose types are not complete
+  pub reaches_tentatives : (old new : Typer) (its : List Tentative) → Reaches allowed old new
+      → Reaches allowed old (record new { tentatives = its })
+  reaches_tentatives old new its reached =
+      record {
+        types = reached.types;
+        names = reached.names;
+        tags = reached.tags;
+        literals = reached.literals;
+        taken = reached.taken;
+        calls = reached.calls;
+        table = reached.table;
+        counts = reached.counts;
+        keeps = reached.keeps;
+        unit = reached.unit;
+        traced = reached.traced;
       }
 
   -- with other bodies that are open

@@ -1,6 +1,6 @@
 use Rattle.std.proofs.Common.{rules, sym, ◌∙◌}
 use Rattle.hs_typer.proofs.Compared.{mix_first, mix_last}
-use Rattle.hs_typer.proofs.agreement.mix_int.Goals as goal
+use Rattle.hs_typer.proofs.agreement.mix.Goals as goal
 
 -- what is inside is left to look at
 pub inside-preserved : goal.inside-preserved
