@@ -1,0 +1,89 @@
+-- Where the value of a slot is after an operation (own).
+--     is_below base slot                the slot is no place, or a place below that one
+--     slots_after scope op depth slot   where its value is after an operation with so many values on the stack before it
+-- An operation takes values from the top of the stack. A slot stays where it is, if it is not among them and is not set; and some operations copy or
+-- move values.
+use Rattle.std.specs.Prelude.{ℕ, ◌-◌, ◌==◌, nat_lt, Bool, true, false, List, [], ◌∷◌, ◌++◌, if◌then◌else◌}
+use Rattle.hs_code.specs.Stacks.{Scope}
+use Rattle.hs_code.specs.declared.op.Access.TheVariants as access
+use Rattle.hs_code.specs.declared.op.Op.{Op}
+use Rattle.hs_code.specs.declared.op.Op.TheVariants as op
+use Rattle.hs_facts.specs.Names.{same_variable, taken}
+use Rattle.hs_flow.specs.declared.fact.Slot.{Slot}
+use Rattle.hs_flow.specs.declared.fact.Slot.TheVariants as slot
+use Rattle.hs_tree.specs.declared.head.Variable.{Variable}
+use Rattle.hs_tree.specs.declared.head.Variable.TheVariants as name
+
+-- ---- tests of slots
+
+-- the slot is no place, or a place below that one
+abbrev pub is_below : ℕ → Slot → Bool
+is_below base (slot.Place place) = nat_lt place base
+is_below base _ = true
+
+-- the slot is that place
+abbrev pub is_place : ℕ → Slot → Bool
+is_place at (slot.Place place) = place == at
+is_place at _ = false
+
+-- the slot is that variable
+abbrev pub is_variable : Variable → Slot → Bool
+is_variable v (slot.Variable it) = same_variable it v
+is_variable v _ = false
+
+-- the slot is that class
+abbrev pub is_class : ℕ → Slot → Bool
+is_class class (slot.Class it) = it == class
+is_class class _ = false
+
+-- ---- lists of slots
+
+-- one slot or none
+abbrev pub slot_if : Bool → Slot → List Slot
+slot_if true its = its ∷ []
+slot_if false its = []
+
+-- the slot, unless it is a place from that one on
+abbrev pub below : ℕ → Slot → List Slot
+below base its = slot_if (is_below base its) its
+
+-- the slots to which the value of one place goes; other slots stay, if they are below the other place
+abbrev pub placed_at : ℕ → List Slot → ℕ → Slot → List Slot
+placed_at from to base its = if is_place from its then to else below base its
+
+-- the value of one place moves to the top, and each value above it one place down
+abbrev pub brought_to : ℕ → ℕ → Slot → List Slot
+brought_to from top (slot.Place place) =
+    if place == from then slot.Place top ∷ [] else if nat_lt from place then slot.Place (place - 1) ∷ [] else slot.Place place ∷ []
+brought_to from top other = other ∷ []
+
+-- a return leaves the top as the result; the other slots of the call end
+abbrev pub returned : ℕ → Slot → List Slot
+returned top slot.Nothing = slot.Nothing ∷ []
+returned top slot.Answer = []
+returned top (slot.Variable (name.Global place)) = slot.Variable (name.Global place) ∷ []
+returned top (slot.Variable (name.Local place)) = []
+returned top (slot.Place place) = slot_if (place == top) slot.Answer
+returned top (slot.Class class) = slot.Class class ∷ []
+
+-- ---- by the operation
+
+-- Get: the value of the variable is on top too. Set: the value of the variable ends, and that of the top is the variable's too. Load of a pointer:
+-- what the class has is on top too. Store of a pointer: the value stays on the stack, and is in the class too. Store of another type, Conv: the value
+-- stays. Dup, Tuck: the value is at its copies. Bring: each place goes with its value.
+abbrev pub slots_after : Scope → Op → ℕ → Slot → List Slot
+slots_after scope (op.Get v) depth its = below depth its ++ slot_if (is_variable v its) (slot.Place depth)
+slots_after scope (op.Set v) depth its =
+    if is_variable v its then [] else below depth its ++ slot_if (is_place (depth - 1) its) (slot.Variable v)
+slots_after scope (op.Load (access.Pointer class)) depth its = below (depth - 1) its ++ slot_if (is_class class its) (slot.Place (depth - 1))
+slots_after scope (op.Store (access.Pointer class)) depth its =
+    placed_at (depth - 1) (slot.Place (depth - 2) ∷ slot.Class class ∷ []) (depth - 2) its
+slots_after scope (op.Store other) depth its = placed_at (depth - 1) (slot.Place (depth - 2) ∷ []) (depth - 2) its
+slots_after scope op.Dup depth its = below depth its ++ slot_if (is_place (depth - 1) its) (slot.Place depth)
+slots_after scope op.Tuck depth its =
+    if is_place (depth - 2) its then slot.Place (depth - 1) ∷ []
+    else placed_at (depth - 1) (slot.Place (depth - 2) ∷ slot.Place depth ∷ []) (depth - 2) its
+slots_after scope (op.Conv kind) depth its = below depth its
+slots_after scope (op.Bring place) depth its = brought_to (depth - place) (depth - 1) its
+slots_after scope op.Return depth its = returned (depth - 1) its
+slots_after scope other depth its = below (depth - taken scope other) its

@@ -1,0 +1,11 @@
+//! What flows: one step of one fact, and over, into and out of a call. `specs/Next.antt` says what an operation does to a fact, `specs/Calls.antt`
+//! what a call does.
+#![tactic(auto)]
+
+mod around;
+mod fact;
+mod facts;
+
+pub use around::Around;
+pub use fact::{Fact, FactStatus, Slot};
+pub use facts::Facts;
