@@ -1,6 +1,8 @@
+pub mod Among
 pub mod Buffers
 pub mod Calls
 pub mod Given
+pub mod Laws
 pub mod Next
 pub mod Programs
 pub mod Restorable

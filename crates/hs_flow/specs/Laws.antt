@@ -1,0 +1,5 @@
+-- Laws of facts that flow.
+pub mod Calling
+pub mod Coming
+pub mod Naming
+pub mod Staying
