@@ -5,6 +5,10 @@
 mod around;
 mod fact;
 mod facts;
+mod naming;
+mod putting;
+mod slots;
+mod stack;
 
 pub use around::Around;
 pub use fact::{Fact, FactStatus, Slot};
