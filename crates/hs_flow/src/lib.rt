@@ -7,6 +7,9 @@ mod fact;
 mod facts;
 mod naming;
 mod putting;
+mod restoring;
+mod routine;
+mod shift;
 mod slots;
 mod stack;
 

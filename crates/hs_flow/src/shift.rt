@@ -1,0 +1,71 @@
+//! Decisions for routines that may move or purge.
+
+ghost use Rattle.std.specs.Prelude.{◌≡◌, ◌++◌, ◌-◌, slice_get};
+ghost use Rattle.hs_flow.specs.Buffers.{HasRoom};
+ghost use Rattle.hs_flow.specs.Next.{at_each, purges_in, shifted};
+ghost use Rattle.hs_flow.specs.Slots.{below};
+
+use crate::naming::is_name_locked;
+use crate::putting::{put, put_below, put_if};
+use crate::{Around, Fact, FactStatus, Facts, Slot};
+use hs_tree::BoundRoutine;
+
+/// Whether the routine of that number may purge, if it is there.
+fn purges(routines: &[BoundRoutine], number: u32) -> bool
+    ensures { result ≡ purges_in (slice_get routines.now number) }
+{
+    match routines.get(number as usize) {
+        Some(it) => it.routine.purges,
+        None => false,
+    }
+}
+
+/// What becomes of a block that moves or is purged.
+fn put_shifted<A: Around>(
+    into: &mut Facts,
+    around: &A,
+    routines: &[BoundRoutine],
+    number: u32,
+    fact: Fact,
+)
+    requires room { HasRoom 1 into.old }
+    ensures facts { into.new.facts
+        ≡ into.old.facts ++ shifted (purges_in (slice_get routines.now number)) (A.given around.now) fact.status fact.slot }
+    ensures room { into.new.room ≡ into.old.room }
+{
+    match fact.status {
+        FactStatus::Fresh(h) => {
+            put_if(into, !around.locked(h), FactStatus::Stale, fact.slot)
+        }
+        FactStatus::Outer | FactStatus::Loose => put(into, FactStatus::Stale, fact.slot),
+        FactStatus::Purgeable => {
+            let purged = purges(routines, number) && !is_name_locked(around, fact.slot);
+            put_if(into, purged, FactStatus::Hollow, fact.slot)
+        }
+        FactStatus::Reached
+        | FactStatus::IsHandle
+        | FactStatus::Hollow
+        | FactStatus::SavedPurgeable
+        | FactStatus::Held
+        | FactStatus::Stale => {}
+    }
+}
+
+/// A decision is taken for the routine of that number: the fact stays, and blocks may move or be purged.
+pub(crate) fn shift<A: Around>(
+    into: &mut Facts,
+    around: &A,
+    routines: &[BoundRoutine],
+    depth: u32,
+    number: u32,
+    fact: Fact,
+)
+    requires room { HasRoom 2 into.old }
+    ensures facts { into.new.facts ≡ into.old.facts
+        ++ (at_each fact.status (below (depth - 0) fact.slot)
+            ++ shifted (purges_in (slice_get routines.now number)) (A.given around.now) fact.status fact.slot) }
+    ensures room { into.new.room ≡ into.old.room }
+{
+    put_below(into, depth, fact.status, fact.slot);
+    put_shifted(into, around, routines, number, fact);
+}
