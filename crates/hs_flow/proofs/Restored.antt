@@ -1,6 +1,7 @@
 -- What a restore puts into a buffer, slot by slot.
 --     purgeable-append               of two lists of slots
 --     places_on, classes_on          one slot more is put
+--     all_put                        four lists of slots are put
 use Rattle.std.proofs.Common.{◌≡◌, ℕ, suc, ◌+◌, Bool, true, false, List, [], ◌∷◌, ◌++◌, if◌then◌else◌, ap, sym, ◌∙◌, arith, refl, subst}
 use Rattle.std.proofs.lemmas.List.{append_assoc}
 use Rattle.hs_flow.specs.Given.{Given, apart}
@@ -47,3 +48,17 @@ module _ (given : Given) (argument : Slot) where
       let number : suc class ≡ class + 1 = omega (arith) in
       subst (λ n. new ≡ old ++ purgeable_of given argument (classes_below n)) number
       (end_on now new old (classes_below class) (slot.Class class) put before)
+
+  -- four parts, one after the other
+  pub all_put : (old a b c d : List Fact) (globals locals places classes : List Slot) → a ≡ old ++ purgeable_of given argument globals
+      → b ≡ a ++ purgeable_of given argument locals → c ≡ b ++ purgeable_of given argument places → d ≡ c ++ purgeable_of given argument classes
+      → d ≡ old ++ purgeable_of given argument (globals ++ (locals ++ (places ++ classes)))
+  all_put old a b c d globals locals places classes first second third fourth =
+      fourth ∙ joined c places classes b third ∙ joined b locals (places ++ classes) a second ∙ joined a globals (locals ++ (places ++ classes)) old first
+    where
+      joined : (now : List Fact) (part rest : List Slot) (before : List Fact) → now ≡ before ++ purgeable_of given argument part
+          → now ++ purgeable_of given argument rest ≡ before ++ purgeable_of given argument (part ++ rest)
+      joined now part rest before put =
+          ap (λ facts. facts ++ purgeable_of given argument rest) put
+          ∙ append_assoc before (purgeable_of given argument part) (purgeable_of given argument rest)
+          ∙ ap (λ facts. before ++ facts) (sym (purgeable-append part rest))

@@ -138,13 +138,21 @@ abbrev pub local_slots : TypeTable → List VariableDecl → ℕ
 local_slots types [] = 0
 local_slots types (it ∷ rest) = one_if (is_slot types it) + local_slots types rest
 
--- nothing, the result, the variables that are slots, the places of the stack, and the classes
+-- the variables that are slots, so many places of the stack, and the classes
+abbrev pub valued_slots : Scope → ℕ → ℕ → ℕ
+valued_slots scope classes places = global_slots scope.types scope.globals + (local_slots scope.types scope.variables + (places + classes))
+
+-- and nothing, and the result
 abbrev pub slots_in : Scope → ℕ → ℕ → ℕ
-slots_in scope classes places = 2 + (global_slots scope.types scope.globals + (local_slots scope.types scope.variables + (places + classes)))
+slots_in scope classes places = 2 + valued_slots scope classes places
 
 -- how many slots there are at an operation of the function
 abbrev pub slots_at : WholeCode → ℕ → Given → ℕ
 slots_at whole f given = slots_in (scope_at whole f) (length whole.classes) given.places
+
+-- at most so many of them may have a handle whose state is put back, if the arguments are the places from that one on
+abbrev pub restorable_slots : WholeCode → ℕ → ℕ → ℕ
+restorable_slots whole f base = valued_slots (scope_at whole f) (length whole.classes) base
 
 -- variables and classes have numbers of 32 bits
 pub record IsNumbered (whole : WholeCode) (f : ℕ) : Type 0 where

@@ -6,13 +6,16 @@ mod around;
 mod fact;
 mod facts;
 mod naming;
+
 mod putting;
 mod restoring;
 mod routine;
 mod shift;
 mod slots;
 mod stack;
+mod stepping;
 
 pub use around::Around;
 pub use fact::{Fact, FactStatus, Slot};
 pub use facts::Facts;
+pub use stepping::next;

@@ -1,16 +1,19 @@
 //! State bytes that are put back on their handles.
 
-ghost use Rattle.std.specs.Prelude.{◌≡◌, ◌≤◌, ◌+◌, ◌++◌, length};
+ghost use Rattle.std.specs.Prelude.{◌≡◌, ◌≤◌, ◌+◌, ◌++◌, length, slice_get};
+ghost use Rattle.hs_effects.specs.Calling.{whole_of};
 ghost use Rattle.hs_flow.specs.Buffers.{HasRoom};
-ghost use Rattle.hs_flow.specs.Programs.{global_slots, local_slots, one_if};
-ghost use Rattle.hs_flow.specs.Restorable.{classes_below, is_pointer_slot, places_below, pointer_globals, pointer_locals, purgeable_at, purgeable_of};
+ghost use Rattle.hs_flow.specs.Programs.{IsNumbered, global_slots, local_slots, one_if, restorable_slots, scope_at, variables_in};
+ghost use Rattle.hs_flow.specs.Restorable.{classes_below, is_pointer_slot, places_below, pointer_globals, pointer_locals, purgeable_at, purgeable_of, restorable};
 ghost use Rattle.hs_flow.specs.Slots.{slot_if};
+ghost use Rattle.hs_flow.specs.declared.fact.Slot.TheVariants as slot;
 ghost use Rattle.hs_tree.specs.Classes.{is_slot};
 
 use crate::naming::apart;
 use crate::putting::put;
 use crate::routine::is_pointer;
 use crate::{Around, FactStatus, Facts, Slot};
+use hs_code::Code;
 use hs_tree::{Global, Variable, VariableDecl};
 use hs_types::Types;
 
@@ -114,4 +117,36 @@ fn put_classes<A: Around>(into: &mut Facts, around: &A, argument: Slot, classes:
     'classes: for class in 0..classes {
         put_purgeable(into, around, argument, Slot::Class(class));
     }
+}
+
+/// The variables of the function of that number, if it is there.
+fn locals_of<'a>(code: &'a Code, f: u32) -> &'a [VariableDecl]
+    ensures { result.now ≡ variables_in (slice_get (whole_of code.now).program.functions f) }
+{
+    match code.program.functions.get(f as usize) {
+        Some(function) => function.variables.items(),
+        None => &[],
+    }
+}
+
+/// The state byte of a purgeable block is put back on the handle in that place: each slot that is not apart from it may have a handle of the block.
+pub(crate) fn put_back<A: Around>(
+    into: &mut Facts,
+    around: &A,
+    code: &Code,
+    f: u32,
+    base: u32,
+)
+    requires few { IsNumbered (whole_of code.now) f }
+    requires room { HasRoom (restorable_slots (whole_of code.now) f base) into.old }
+    ensures facts { into.new.facts ≡ into.old.facts
+        ++ purgeable_of (A.given around.now) (slot.Place base) (restorable (scope_at (whole_of code.now) f) (length code.now.classes.items) base) }
+    ensures room { into.new.room ≡ into.old.room }
+{
+    let types = &code.program.types;
+    let argument = Slot::Place(base);
+    put_globals(into, around, types, argument, code.program.globals.items());
+    put_locals(into, around, types, argument, locals_of(code, f));
+    put_places(into, around, argument, base);
+    put_classes(into, around, argument, code.classes.len() as u32);
 }

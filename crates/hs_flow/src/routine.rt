@@ -1,15 +1,21 @@
 //! Calls of routines.
 
-ghost use Rattle.std.specs.Prelude.{◌≡◌, ◌++◌, ◌-◌, [], if◌then◌else◌, length, slice_get};
+ghost use Rattle.std.specs.Prelude.{◌≡◌, ◌≤◌, ◌+◌, ◌++◌, ◌-◌, length, slice_get};
 ghost use Rattle.hs_code.specs.Stacks.{routine_signature};
+ghost use Rattle.hs_code.specs.declared.op.Op.TheVariants as op;
+ghost use Rattle.hs_effects.specs.Calling.{whole_of};
 ghost use Rattle.hs_facts.specs.Names.{gives_handle, makes_by, parameter_count, points_to_pointer, role_in};
 ghost use Rattle.hs_flow.specs.Buffers.{HasRoom};
-ghost use Rattle.hs_flow.specs.Next.{kept, marks_by, reads_state, sets_state, unlocks_by, unmarks_by};
+ghost use Rattle.hs_flow.specs.Next.{brought, kept, marks_by, reads_state, sets_state, unlocks_by, unmarks_by};
+ghost use Rattle.hs_flow.specs.Programs.{IsNumbered, next_in, restorable_slots, scope_at, slots_at};
 ghost use Rattle.hs_tree.specs.Kinds.{is_pointer};
 
 use crate::naming::{apart, share_name};
 use crate::putting::{put, put_if};
+use crate::restoring::put_back;
+use crate::slots::{is_below, is_next_place, is_nothing, is_place};
 use crate::{Around, Fact, FactStatus, Facts, Slot};
+use hs_code::Code;
 use hs_table::Role;
 use hs_tree::BoundRoutine;
 use hs_types::{Row, TypeId, Types};
@@ -137,6 +143,7 @@ pub(crate) fn keep<A: Around>(
     requires room { HasRoom 2 into.old }
     ensures facts { into.new.facts ≡ into.old.facts ++ kept (A.given around.now) role argument fact.status fact.slot }
     ensures room { into.new.room ≡ into.old.room }
+    ensures few { length into.new.facts ≤ length into.old.facts + 2 }
 {
     match fact.status {
         FactStatus::Held => {
@@ -164,4 +171,76 @@ pub(crate) fn keep<A: Around>(
         | FactStatus::Loose
         | FactStatus::Stale => put(into, fact.status, fact.slot),
     }
+}
+
+/// What comes with a routine, by the status of the fact: a handle is made, or a state byte is read or put back.
+fn bring<A: Around>(
+    into: &mut Facts,
+    around: &A,
+    code: &Code,
+    f: u32,
+    number: u32,
+    base: u32,
+    fact: Fact,
+)
+    requires few { IsNumbered (whole_of code.now) f }
+    requires room { HasRoom (1 + restorable_slots (whole_of code.now) f base) into.old }
+    ensures facts { into.new.facts ≡ into.old.facts
+        ++ brought (scope_at (whole_of code.now) f) (length code.now.classes.items) (A.given around.now) number base fact.status fact.slot }
+    ensures room { into.new.room ≡ into.old.room }
+{
+    let routines = code.program.routines.items();
+    let role = role_at(routines, number);
+    match fact.status {
+        FactStatus::Reached => {
+            let made = makes_handle(&code.program.types, routines, number, role)
+                && is_nothing(fact.slot);
+            put_if(into, made, FactStatus::IsHandle, Slot::Place(base))
+        }
+        FactStatus::Purgeable => {
+            let read = reads_state(role) && is_place(base, fact.slot);
+            put_if(into, read, FactStatus::SavedPurgeable, Slot::Place(base))
+        }
+        FactStatus::SavedPurgeable => {
+            if sets_state(role) && around.restores() && is_next_place(base, fact.slot) {
+                put_back(into, around, code, f, base);
+            }
+        }
+        FactStatus::IsHandle
+        | FactStatus::Hollow
+        | FactStatus::Fresh(_)
+        | FactStatus::Held
+        | FactStatus::Outer
+        | FactStatus::Loose
+        | FactStatus::Stale => {}
+    }
+}
+
+/// A routine is called: it takes its arguments, and leaves its result in the place of the first.
+pub(crate) fn routine<A: Around>(
+    into: &mut Facts,
+    around: &A,
+    code: &Code,
+    f: u32,
+    number: u32,
+    fact: Fact,
+)
+    requires few { IsNumbered (whole_of code.now) f }
+    requires room { HasRoom (4 + slots_at (whole_of code.now) f (A.given around.now)) into.old }
+    ensures facts { into.new.facts ≡ into.old.facts ++ next_in (whole_of code.now) f (A.given around.now) (op.Routine number) fact }
+    ensures room { into.new.room ≡ into.old.room }
+{
+    let routines = code.program.routines.items();
+    let base = base_of(around.places(), parameter_count(routines, number));
+    if is_below(base, fact.slot) {
+        keep(into, around, role_at(routines, number), Slot::Place(base), fact);
+    }
+    bring(into, around, code, f, number, base, fact);
+}
+
+/// The place below the top by so many.
+pub(crate) fn base_of(places: u32, taken: usize) -> u32
+    ensures { result ≡ places - taken }
+{
+    (places as usize).saturating_sub(taken) as u32
 }
