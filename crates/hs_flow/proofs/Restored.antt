@@ -25,8 +25,8 @@ module _ (given : Given) (argument : Slot) where
       put ∙ ap (λ facts. facts ++ purgeable_at given argument one) before
       ∙ append_assoc old (purgeable_of given argument so_far) (purgeable_at given argument one)
       ∙ ap (λ facts. old ++ facts)
-        (ap (λ facts. purgeable_of given argument so_far ++ facts) (sym (alone (apart given one argument)))
-        ∙ sym (purgeable-append so_far (one ∷ [])))
+      (ap (λ facts. purgeable_of given argument so_far ++ facts) (sym (alone (apart given one argument)))
+      ∙ sym (purgeable-append so_far (one ∷ [])))
     where
       purgeable_if : Bool → List Fact
       purgeable_if b = if b then [] else record { slot = one; status = status.Purgeable } ∷ []

@@ -2,4 +2,5 @@
 pub mod Calling
 pub mod Coming
 pub mod Naming
+pub mod Parameters
 pub mod Staying

@@ -4,9 +4,10 @@
 --     parameters_of whole f                   where the arguments of a call of the function go
 --     callee_of whole answers f               what is known of the function that is called
 --     slots_at whole f given                  how many slots there are at an operation of the function
+--     IsTableFor whole answers f              the table has answers of the function
 --     IsNumbered whole f                      variables and classes have numbers of 32 bits
 use Rattle.std.specs.List.{position}
-use Rattle.std.specs.Prelude.{◌≤◌, ℕ, suc, ◌+◌, nat_lt, Bool, true, false, ◌&&◌, List, [], ◌∷◌, length, map, take, slice_get, Option, Some, None, if◌then◌else◌}
+use Rattle.std.specs.Prelude.{◌<◌, ◌≤◌, ℕ, suc, ◌+◌, nat_lt, Bool, true, false, ◌&&◌, List, [], ◌∷◌, length, map, take, slice_get, Option, Some, None, if◌then◌else◌}
 use Rattle.hs_code.specs.Codes.{signature_of}
 use Rattle.hs_code.specs.Stacks.{Scope}
 use Rattle.hs_code.specs.declared.op.Op.{Op}
@@ -19,7 +20,7 @@ use Rattle.hs_flow.specs.Next.{next_of}
 use Rattle.hs_flow.specs.declared.fact.Fact.{Fact}
 use Rattle.hs_flow.specs.declared.fact.Slot.{Slot}
 use Rattle.hs_flow.specs.declared.fact.Slot.TheVariants as slot
-use Rattle.hs_rows.specs.Sets.{has}
+use Rattle.hs_rows.specs.Sets.{has, width}
 use Rattle.hs_tree.specs.Classes.{is_slot}
 use Rattle.hs_tree.specs.Kinds.{is_pointer}
 use Rattle.hs_tree.specs.Representatives.{type_for}
@@ -120,6 +121,12 @@ callee_of whole answers f =
       assigns = assigns_in whole answers f;
       parameters = parameters_of whole f;
     }
+
+-- the table has rows for the function and for each global
+pub record IsTableFor (whole : WholeCode) (answers : Answers) (f : ℕ) : Type 0 where
+  pub effects : f < answers.effects.count
+  pub assigned : f < answers.assigned.count
+  pub globals : length whole.program.globals ≤ width answers.assigned
 
 -- ---- slots
 

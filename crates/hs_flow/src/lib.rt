@@ -3,10 +3,11 @@
 #![tactic(auto)]
 
 mod around;
+mod calls;
 mod fact;
 mod facts;
 mod naming;
-
+mod over;
 mod putting;
 mod restoring;
 mod routine;
@@ -14,8 +15,11 @@ mod shift;
 mod slots;
 mod stack;
 mod stepping;
+mod through;
 
 pub use around::Around;
 pub use fact::{Fact, FactStatus, Slot};
 pub use facts::Facts;
+pub use over::over_call;
 pub use stepping::next;
+pub use through::{enter, leave};

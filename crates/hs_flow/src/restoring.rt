@@ -130,13 +130,7 @@ fn locals_of<'a>(code: &'a Code, f: u32) -> &'a [VariableDecl]
 }
 
 /// The state byte of a purgeable block is put back on the handle in that place: each slot that is not apart from it may have a handle of the block.
-pub(crate) fn put_back<A: Around>(
-    into: &mut Facts,
-    around: &A,
-    code: &Code,
-    f: u32,
-    base: u32,
-)
+pub(crate) fn put_back<A: Around>(into: &mut Facts, around: &A, code: &Code, f: u32, base: u32)
     requires few { IsNumbered (whole_of code.now) f }
     requires room { HasRoom (restorable_slots (whole_of code.now) f base) into.old }
     ensures facts { into.new.facts ≡ into.old.facts

@@ -233,7 +233,13 @@ pub(crate) fn routine<A: Around>(
     let routines = code.program.routines.items();
     let base = base_of(around.places(), parameter_count(routines, number));
     if is_below(base, fact.slot) {
-        keep(into, around, role_at(routines, number), Slot::Place(base), fact);
+        keep(
+            into,
+            around,
+            role_at(routines, number),
+            Slot::Place(base),
+            fact,
+        );
     }
     bring(into, around, code, f, number, base, fact);
 }

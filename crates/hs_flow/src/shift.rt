@@ -34,9 +34,7 @@ fn put_shifted<A: Around>(
     ensures room { into.new.room ≡ into.old.room }
 {
     match fact.status {
-        FactStatus::Fresh(h) => {
-            put_if(into, !around.locked(h), FactStatus::Stale, fact.slot)
-        }
+        FactStatus::Fresh(h) => { put_if(into, !around.locked(h), FactStatus::Stale, fact.slot) }
         FactStatus::Outer | FactStatus::Loose => put(into, FactStatus::Stale, fact.slot),
         FactStatus::Purgeable => {
             let purged = purges(routines, number) && !is_name_locked(around, fact.slot);
@@ -63,7 +61,7 @@ pub(crate) fn shift<A: Around>(
     requires room { HasRoom 2 into.old }
     ensures facts { into.new.facts ≡ into.old.facts
         ++ (at_each fact.status (below (depth - 0) fact.slot)
-            ++ shifted (purges_in (slice_get routines.now number)) (A.given around.now) fact.status fact.slot) }
+        ++ shifted (purges_in (slice_get routines.now number)) (A.given around.now) fact.status fact.slot) }
     ensures room { into.new.room ≡ into.old.room }
 {
     put_below(into, depth, fact.status, fact.slot);

@@ -61,7 +61,7 @@ pub(crate) fn set<A: Around>(
     requires room { HasRoom 2 into.old }
     ensures facts { into.new.facts ≡ into.old.facts
         ++ at_each (renamed (A.given around.now) variable fact.status) (if is_variable variable fact.slot then []
-            else below depth fact.slot ++ slot_if (is_place (depth - 1) fact.slot) (slot.Variable variable)) }
+        else below depth fact.slot ++ slot_if (is_place (depth - 1) fact.slot) (slot.Variable variable)) }
     ensures room { into.new.room ≡ into.old.room }
 {
     if is_variable(variable, fact.slot) {
@@ -118,7 +118,7 @@ pub(crate) fn load<A: Around>(into: &mut Facts, around: &A, depth: u32, class: u
     requires room { HasRoom 3 into.old }
     ensures facts { into.new.facts ≡ into.old.facts
         ++ (at_each fact.status (below (depth - 1) fact.slot ++ slot_if (is_class class fact.slot) (slot.Place (depth - 1)))
-            ++ loaded (A.given around.now) (depth - 1) fact.status fact.slot) }
+        ++ loaded (A.given around.now) (depth - 1) fact.status fact.slot) }
     ensures room { into.new.room ≡ into.old.room }
 {
     let top = depth.saturating_sub(1);
@@ -164,14 +164,7 @@ pub(crate) fn dup(into: &mut Facts, depth: u32, fact: Fact)
     ensures room { into.new.room ≡ into.old.room }
 {
     let top = is_place(depth.saturating_sub(1), fact.slot);
-    put_also(
-        into,
-        depth,
-        top,
-        Slot::Place(depth),
-        fact.status,
-        fact.slot,
-    );
+    put_also(into, depth, top, Slot::Place(depth), fact.status, fact.slot);
 }
 
 /// The top has a copy below the value that was under it.
@@ -179,7 +172,7 @@ pub(crate) fn tuck(into: &mut Facts, depth: u32, fact: Fact)
     requires room { HasRoom 2 into.old }
     ensures facts { into.new.facts ≡ into.old.facts
         ++ at_each fact.status (if is_place (depth - 2) fact.slot then slot.Place (depth - 1) ∷ []
-            else placed_at (depth - 1) (slot.Place (depth - 2) ∷ slot.Place depth ∷ []) (depth - 2) fact.slot) }
+        else placed_at (depth - 1) (slot.Place (depth - 2) ∷ slot.Place depth ∷ []) (depth - 2) fact.slot) }
     ensures room { into.new.room ≡ into.old.room }
 {
     let low = depth.saturating_sub(2);

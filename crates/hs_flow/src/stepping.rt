@@ -10,7 +10,9 @@ ghost use Rattle.hs_flow.specs.Slots.{below};
 use crate::putting::put_below;
 use crate::routine::routine;
 use crate::shift::shift;
-use crate::stack::{bring, dup, get, leave_top, load, offset, set, step, store, store_pointer, tuck};
+use crate::stack::{
+    bring, dup, get, leave_top, load, offset, set, step, store, store_pointer, tuck,
+};
 use crate::{Around, Fact, Facts};
 use hs_code::{Access, Code, Op};
 
@@ -27,14 +29,7 @@ fn stay(into: &mut Facts, depth: u32, fact: Fact)
 /// steps are those of `over_call`, `enter` and `leave`. Takes no memory.
 ///
 /// Example: at `Get` of a variable, a fact of the variable stays, and is put of the place on top too.
-pub fn next<A: Around>(
-    code: &Code,
-    f: u32,
-    op: &Op,
-    fact: Fact,
-    around: &A,
-    into: &mut Facts,
-)
+pub fn next<A: Around>(code: &Code, f: u32, op: &Op, fact: Fact, around: &A, into: &mut Facts)
     requires few { IsNumbered (whole_of code.now) f }
     requires room { HasRoom (4 + slots_at (whole_of code.now) f (A.given around.now)) into.old }
     ensures facts { into.new.facts ≡ into.old.facts ++ next_in (whole_of code.now) f (A.given around.now) op.now fact }
@@ -42,13 +37,8 @@ pub fn next<A: Around>(
 {
     let depth = around.places();
     match op {
-        Op::Num(_)
-        | Op::Nil
-        | Op::Address(_)
-        | Op::Jump(_)
-        | Op::Turn
-        | Op::Mark
-        | Op::Pick(_) => stay(into, depth, fact),
+        Op::Num(_) | Op::Nil | Op::Address(_) | Op::Jump(_) | Op::Turn | Op::Mark | Op::Pick(_) =>
+            stay(into, depth, fact),
         Op::Load(Access::Number(_) | Access::Struct(_))
         | Op::Drop
         | Op::Unary(_)
