@@ -58,10 +58,10 @@ abbrev pub fresh_or_loose : Bool → ℕ → FactStatus
 fresh_or_loose true h = status.Loose
 fresh_or_loose false h = status.Fresh h
 
--- what was held locked may be unlocked
-abbrev pub held_or_outer : Bool → FactStatus
-held_or_outer true = status.Outer
-held_or_outer false = status.Held
+-- held, if it is locked
+abbrev pub held_if : Bool → FactStatus
+held_if true = status.Held
+held_if false = status.Outer
 
 -- What the function may do to a slot that it does not get: mark its block, purge it, move it, unlock it, or assign the name from which it is fresh.
 abbrev pub passed : Callee → Given → FactStatus → Slot → List Fact
@@ -74,7 +74,7 @@ passed callee given status.Purgeable of =
 passed callee given (status.Fresh h) of =
     at_slot (fresh_or_loose (assigns_name callee given h) h) of ∷ also_if (callee.moves && not (is_kept callee given h)) status.Stale of
 passed callee given status.Held of =
-    at_slot (held_or_outer callee.unlocks) of ∷ also_if (callee.moves && callee.unlocks) status.Stale of
+    at_slot (held_if (not callee.unlocks)) of ∷ also_if (callee.moves && callee.unlocks) status.Stale of
 passed callee given status.Outer of = at_slot status.Outer of ∷ also_if callee.moves status.Stale of
 passed callee given status.Loose of = at_slot status.Loose of ∷ also_if callee.moves status.Stale of
 passed callee given other of = at_slot other of ∷ []
@@ -112,7 +112,7 @@ entered parameters given (slot.Class class) = Some (slot.Class class)
 
 -- A pointer of the caller is held if its handle is locked. That a byte is the state of a purgeable block is not known in the function.
 abbrev pub entering : List (Option Slot) → Given → FactStatus → Slot → Option Fact
-entering parameters given (status.Fresh h) of = at_some (if given.locked h then status.Held else status.Outer) (entered parameters given of)
+entering parameters given (status.Fresh h) of = at_some (held_if (given.locked h)) (entered parameters given of)
 entering parameters given status.Loose of = at_some status.Outer (entered parameters given of)
 entering parameters given status.SavedPurgeable of = None
 entering parameters given other of = at_some other (entered parameters given of)

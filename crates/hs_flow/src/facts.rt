@@ -1,8 +1,10 @@
 //! A buffer of facts.
 
-ghost use Rattle.std.specs.Prelude.{◌≡◌, ◌<◌, ◌≤◌, ◌++◌, ◌∷◌, [], IfOk, length, vec_len, vec_capacity};
+ghost use Rattle.std.specs.Prelude.{◌≡◌, ◌<◌, ◌≤◌, ◌++◌, ◌∷◌, [], IfOk, vec_len, vec_capacity};
+ghost use Rattle.hs_flow.specs.Buffers.{HasRoom};
+ghost use Rattle.hs_flow.specs.Next.{at_slot};
 
-use crate::Fact;
+use crate::{Fact, FactStatus, Slot};
 use hs_base::NoMemory;
 use std::alloc::Global;
 use std::marker::Model;
@@ -55,12 +57,12 @@ impl Facts {
     }
 
     /// Puts a fact at the end.
-    pub(crate) fn put(&mut self, fact: Fact)
-        requires room { length self.old.facts < self.old.room }
-        ensures facts { self.new.facts ≡ self.old.facts ++ fact ∷ [] }
+    pub(crate) fn put(&mut self, status: FactStatus, slot: Slot)
+        requires room { HasRoom 1 self.old }
+        ensures facts { self.new.facts ≡ self.old.facts ++ at_slot status slot ∷ [] }
         ensures room { self.new.room ≡ self.old.room }
     {
-        push(&mut self.vec, fact);
+        push(&mut self.vec, Fact { slot, status });
     }
 }
 

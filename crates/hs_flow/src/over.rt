@@ -3,12 +3,12 @@
 ghost use Rattle.std.specs.Prelude.{◌≡◌, ◌<◌, ◌++◌};
 ghost use Rattle.hs_effects.specs.Calling.{whole_of};
 ghost use Rattle.hs_flow.specs.Buffers.{HasRoom};
-ghost use Rattle.hs_flow.specs.Calls.{fresh_or_loose, goes_over, held_or_outer, is_kept, is_slot_kept, over_of, passed};
+ghost use Rattle.hs_flow.specs.Calls.{fresh_or_loose, goes_over, held_if, is_kept, is_slot_kept, over_of, passed};
 ghost use Rattle.hs_flow.specs.Programs.{IsTableFor, callee_of};
 
 use crate::calls::{assigns, assigns_name, base, marks, moves, purges, unlocks};
 use crate::naming::is_name_locked;
-use crate::putting::{put, put_if};
+use crate::putting::put_if;
 use crate::{Around, Fact, FactStatus, Facts, Slot};
 use hs_code::Code;
 use hs_effects::EffectTable;
@@ -58,14 +58,14 @@ pub(crate) fn fresh_or_loose(assigned: bool, h: u32) -> FactStatus
     }
 }
 
-/// Held, unless it is unlocked.
-fn held_or_outer(unlocked: bool) -> FactStatus
-    ensures { result ≡ held_or_outer unlocked }
+/// Held, if it is locked.
+pub(crate) fn held_if(locked: bool) -> FactStatus
+    ensures { result ≡ held_if locked }
 {
-    if unlocked {
-        FactStatus::Outer
-    } else {
+    if locked {
         FactStatus::Held
+    } else {
+        FactStatus::Outer
     }
 }
 
@@ -87,7 +87,7 @@ fn pass<A: Around>(
     let slot = fact.slot;
     match fact.status {
         FactStatus::IsHandle => {
-            put(into, fact.status, slot);
+            into.put(fact.status, slot);
             let marked = marks(effects, f);
             put_if(into, marked, FactStatus::Purgeable, slot);
             let purged = marked
@@ -96,28 +96,28 @@ fn pass<A: Around>(
             put_if(into, purged, FactStatus::Hollow, slot)
         }
         FactStatus::Purgeable => {
-            put(into, fact.status, slot);
+            into.put(fact.status, slot);
             let purged = purges(effects, f) && !is_slot_kept(code, f, effects, around, slot);
             put_if(into, purged, FactStatus::Hollow, slot)
         }
         FactStatus::Fresh(h) => {
             let assigned = assigns_name(code, f, effects, around, h);
-            put(into, fresh_or_loose(assigned, h), slot);
+            into.put(fresh_or_loose(assigned, h), slot);
             let moved = moves(effects, f) && !is_kept(code, f, effects, around, h);
             put_if(into, moved, FactStatus::Stale, slot)
         }
         FactStatus::Held => {
             let unlocked = unlocks(effects, f);
-            put(into, held_or_outer(unlocked), slot);
+            into.put(held_if(!unlocked), slot);
             let moved = moves(effects, f) && unlocked;
             put_if(into, moved, FactStatus::Stale, slot)
         }
         FactStatus::Outer | FactStatus::Loose => {
-            put(into, fact.status, slot);
+            into.put(fact.status, slot);
             put_if(into, moves(effects, f), FactStatus::Stale, slot)
         }
         FactStatus::Reached | FactStatus::Hollow | FactStatus::SavedPurgeable | FactStatus::Stale =>
-            put(into, fact.status, slot),
+            into.put(fact.status, slot),
     }
 }
 

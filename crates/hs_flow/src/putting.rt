@@ -2,20 +2,11 @@
 
 ghost use Rattle.std.specs.Prelude.{◌≡◌, ◌++◌, ◌∷◌, []};
 ghost use Rattle.hs_flow.specs.Buffers.{HasRoom};
-ghost use Rattle.hs_flow.specs.Next.{also_if, at_each, at_slot};
+ghost use Rattle.hs_flow.specs.Next.{also_if, at_each};
 ghost use Rattle.hs_flow.specs.Slots.{below, slot_if};
 
 use crate::slots::is_below;
-use crate::{Fact, FactStatus, Facts, Slot};
-
-/// Puts a fact.
-pub(crate) fn put(into: &mut Facts, status: FactStatus, slot: Slot)
-    requires room { HasRoom 1 into.old }
-    ensures facts { into.new.facts ≡ into.old.facts ++ at_slot status slot ∷ [] }
-    ensures room { into.new.room ≡ into.old.room }
-{
-    into.put(Fact { slot, status });
-}
+use crate::{FactStatus, Facts, Slot};
 
 /// Puts a fact, if so.
 pub(crate) fn put_if(into: &mut Facts, so: bool, status: FactStatus, slot: Slot)
@@ -24,7 +15,7 @@ pub(crate) fn put_if(into: &mut Facts, so: bool, status: FactStatus, slot: Slot)
     ensures room { into.new.room ≡ into.old.room }
 {
     if so {
-        into.put(Fact { slot, status });
+        into.put(status, slot);
     }
 }
 
@@ -35,7 +26,7 @@ pub(crate) fn put_below(into: &mut Facts, base: u32, status: FactStatus, slot: S
     ensures room { into.new.room ≡ into.old.room }
 {
     if is_below(base, slot) {
-        into.put(Fact { slot, status });
+        into.put(status, slot);
     }
 }
 
@@ -54,7 +45,7 @@ pub(crate) fn put_also(
 {
     put_below(into, base, status, slot);
     if so {
-        into.put(Fact { slot: to, status });
+        into.put(status, to);
     }
 }
 
@@ -64,12 +55,6 @@ pub(crate) fn put_both(into: &mut Facts, first: Slot, second: Slot, status: Fact
     ensures facts { into.new.facts ≡ into.old.facts ++ at_each status (first ∷ second ∷ []) }
     ensures room { into.new.room ≡ into.old.room }
 {
-    into.put(Fact {
-        slot: first,
-        status,
-    });
-    into.put(Fact {
-        slot: second,
-        status,
-    });
+    into.put(status, first);
+    into.put(status, second);
 }

@@ -10,7 +10,6 @@ ghost use Rattle.hs_flow.specs.declared.fact.Slot.TheVariants as slot;
 ghost use Rattle.hs_tree.specs.Classes.{is_slot};
 
 use crate::naming::apart;
-use crate::putting::put;
 use crate::routine::is_pointer;
 use crate::{Around, FactStatus, Facts, Slot};
 use hs_code::Code;
@@ -32,7 +31,7 @@ fn put_purgeable<A: Around>(into: &mut Facts, around: &A, argument: Slot, slot: 
     ensures few { length into.new.facts ≤ length into.old.facts + 1 }
 {
     if !apart(around, slot, argument) {
-        put(into, FactStatus::Purgeable, slot);
+        into.put(FactStatus::Purgeable, slot);
     }
 }
 

@@ -11,7 +11,7 @@ ghost use Rattle.hs_flow.specs.Programs.{IsNumbered, next_in, restorable_slots, 
 ghost use Rattle.hs_tree.specs.Kinds.{is_pointer};
 
 use crate::naming::{apart, share_name};
-use crate::putting::{put, put_if};
+use crate::putting::put_if;
 use crate::restoring::put_back;
 use crate::slots::{is_below, is_next_place, is_nothing, is_place};
 use crate::{Around, Fact, FactStatus, Facts, Slot};
@@ -152,10 +152,10 @@ pub(crate) fn keep<A: Around>(
             } else {
                 FactStatus::Held
             };
-            put(into, status, fact.slot)
+            into.put(status, fact.slot)
         }
         FactStatus::IsHandle => {
-            put(into, fact.status, fact.slot);
+            into.put(fact.status, fact.slot);
             let marked = marks(around.restores(), role) && !apart(around, fact.slot, argument);
             put_if(into, marked, FactStatus::Purgeable, fact.slot)
         }
@@ -169,7 +169,7 @@ pub(crate) fn keep<A: Around>(
         | FactStatus::Fresh(_)
         | FactStatus::Outer
         | FactStatus::Loose
-        | FactStatus::Stale => put(into, fact.status, fact.slot),
+        | FactStatus::Stale => into.put(fact.status, fact.slot),
     }
 }
 

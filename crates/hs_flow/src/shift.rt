@@ -6,7 +6,7 @@ ghost use Rattle.hs_flow.specs.Next.{at_each, purges_in, shifted};
 ghost use Rattle.hs_flow.specs.Slots.{below};
 
 use crate::naming::is_name_locked;
-use crate::putting::{put, put_below, put_if};
+use crate::putting::{put_below, put_if};
 use crate::{Around, Fact, FactStatus, Facts, Slot};
 use hs_tree::BoundRoutine;
 
@@ -35,7 +35,7 @@ fn put_shifted<A: Around>(
 {
     match fact.status {
         FactStatus::Fresh(h) => { put_if(into, !around.locked(h), FactStatus::Stale, fact.slot) }
-        FactStatus::Outer | FactStatus::Loose => put(into, FactStatus::Stale, fact.slot),
+        FactStatus::Outer | FactStatus::Loose => into.put(FactStatus::Stale, fact.slot),
         FactStatus::Purgeable => {
             let purged = purges(routines, number) && !is_name_locked(around, fact.slot);
             put_if(into, purged, FactStatus::Hollow, fact.slot)

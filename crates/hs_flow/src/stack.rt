@@ -7,7 +7,7 @@ ghost use Rattle.hs_flow.specs.Slots.{below, brought_to, is_class, is_place, is_
 ghost use Rattle.hs_flow.specs.declared.fact.Slot.TheVariants as slot;
 
 use crate::naming::least_name;
-use crate::putting::{put, put_also, put_below, put_both, put_if};
+use crate::putting::{put_also, put_below, put_both, put_if};
 use crate::slots::{is_class, is_place, is_variable, same_variable};
 use crate::{Around, Fact, FactStatus, Facts, Slot};
 use hs_tree::Variable;
@@ -79,17 +79,6 @@ pub(crate) fn set<A: Around>(
     );
 }
 
-/// What the class has is on top too.
-fn load_class(into: &mut Facts, top: u32, class: u32, fact: Fact)
-    requires room { HasRoom 2 into.old }
-    ensures facts { into.new.facts
-        ≡ into.old.facts ++ at_each fact.status (below top fact.slot ++ slot_if (is_class class fact.slot) (slot.Place top)) }
-    ensures room { into.new.room ≡ into.old.room }
-{
-    let had = is_class(class, fact.slot);
-    put_also(into, top, had, Slot::Place(top), fact.status, fact.slot);
-}
-
 /// A pointer that is loaded from a handle in the top place.
 fn derive<A: Around>(into: &mut Facts, around: &A, top: u32, fact: Fact)
     requires room { HasRoom 1 into.old }
@@ -98,7 +87,7 @@ fn derive<A: Around>(into: &mut Facts, around: &A, top: u32, fact: Fact)
 {
     if let FactStatus::IsHandle = fact.status {
         if is_place(top, fact.slot) {
-            put(into, derived(least_name(around, top)), Slot::Place(top));
+            into.put(derived(least_name(around, top)), Slot::Place(top));
         }
     }
 }
@@ -122,7 +111,8 @@ pub(crate) fn load<A: Around>(into: &mut Facts, around: &A, depth: u32, class: u
     ensures room { into.new.room ≡ into.old.room }
 {
     let top = depth.saturating_sub(1);
-    load_class(into, top, class, fact);
+    let had = is_class(class, fact.slot);
+    put_also(into, top, had, Slot::Place(top), fact.status, fact.slot);
     derive(into, around, top, fact);
 }
 
@@ -150,7 +140,7 @@ pub(crate) fn store(into: &mut Facts, depth: u32, fact: Fact)
 {
     let low = depth.saturating_sub(2);
     if is_place(depth.saturating_sub(1), fact.slot) {
-        put(into, fact.status, Slot::Place(low));
+        into.put(fact.status, Slot::Place(low));
     } else {
         put_below(into, low, fact.status, fact.slot);
     }
@@ -178,7 +168,7 @@ pub(crate) fn tuck(into: &mut Facts, depth: u32, fact: Fact)
     let low = depth.saturating_sub(2);
     let top = depth.saturating_sub(1);
     if is_place(low, fact.slot) {
-        put(into, fact.status, Slot::Place(top));
+        into.put(fact.status, Slot::Place(top));
     } else if is_place(top, fact.slot) {
         put_both(into, Slot::Place(low), Slot::Place(depth), fact.status);
     } else {
@@ -197,7 +187,7 @@ pub(crate) fn bring(into: &mut Facts, depth: u32, place: u32, fact: Fact)
         depth.saturating_sub(1),
         fact.slot,
     );
-    put(into, fact.status, slot);
+    into.put(fact.status, slot);
 }
 
 /// Where a slot is once the value of a place is on top.
@@ -282,12 +272,12 @@ pub(crate) fn leave_top(into: &mut Facts, depth: u32, fact: Fact)
 {
     match fact.slot {
         Slot::Nothing | Slot::Class(_) | Slot::Variable(Variable::Global(_)) => {
-            put(into, fact.status, fact.slot)
+            into.put(fact.status, fact.slot)
         }
         Slot::Answer | Slot::Variable(Variable::Local(_)) => {}
         Slot::Place(place) => {
             if place == depth.saturating_sub(1) {
-                put(into, fact.status, Slot::Answer);
+                into.put(fact.status, Slot::Answer);
             }
         }
     }

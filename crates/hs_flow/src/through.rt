@@ -1,13 +1,12 @@
 //! Facts that go into a function and come out of it.
 
-ghost use Rattle.std.specs.Prelude.{◌≡◌, ◌≤◌, if◌then◌else◌, length};
+ghost use Rattle.std.specs.Prelude.{◌≡◌, ◌≤◌, length};
 ghost use Rattle.hs_effects.specs.Calling.{whole_of};
 ghost use Rattle.hs_flow.specs.Calls.{Callee, at_some, back, back_outer, enter_of, entered, leave_of, left};
 ghost use Rattle.hs_flow.specs.Programs.{IsTableFor, callee_of, parameters_of};
-ghost use Rattle.hs_flow.specs.declared.fact.FactStatus.TheVariants as status;
 
 use crate::calls::{assigns_name, base, parameter};
-use crate::over::fresh_or_loose;
+use crate::over::{fresh_or_loose, held_if};
 use crate::{Around, Fact, FactStatus, Slot};
 use hs_code::Code;
 use hs_effects::EffectTable;
@@ -42,17 +41,6 @@ fn entered<A: Around>(code: &Code, f: u32, around: &A, slot: Slot) -> Option<Slo
     }
 }
 
-/// Held if the handle is locked at the call.
-fn held_or_outer(locked: bool) -> FactStatus
-    ensures { result ≡ (if locked then status.Held else status.Outer) }
-{
-    if locked {
-        FactStatus::Held
-    } else {
-        FactStatus::Outer
-    }
-}
-
 /// The fact at the start of the function `f`, if a fact of its caller goes into it. `around` is what is known at the call. Takes no memory.
 ///
 /// Example: a pointer that was loaded from a locked handle, and is an argument, is `Held` in the parameter.
@@ -62,7 +50,7 @@ pub fn enter<A: Around>(code: &Code, f: u32, fact: Fact, around: &A) -> Option<F
 {
     let status = match fact.status {
         FactStatus::SavedPurgeable => return None,
-        FactStatus::Fresh(h) => held_or_outer(around.locked(h)),
+        FactStatus::Fresh(h) => held_if(around.locked(h)),
         FactStatus::Loose => FactStatus::Outer,
         other => other,
     };

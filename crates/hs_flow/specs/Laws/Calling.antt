@@ -7,7 +7,7 @@
 use Rattle.std.proofs.Common.{◌≡◌, ◌<◌, ◌≤◌, ◌⊎◌, ℕ, ◌+◌, ◌-◌, nat_lt, Bool, true, false, not, ◌&&◌, inl, inr, refl, ap, sym, subst, ◌∙◌, arith, if◌then◌else◌, List, [], ◌∷◌, ◌++◌, length, slice_get, Option, Some, None}
 use Rattle.std.proofs.lemmas.Bool.Decides.{nat_tests}
 use Rattle.hs_flow.specs.Among.{Among, among_left, among_right, among_also}
-use Rattle.hs_flow.specs.Calls.{Callee, assigns_name, base_of, is_kept, is_slot_kept, fresh_or_loose, held_or_outer, passed, goes_over, over_of, at_some, to_parameter, entered, enter_of, left, back, back_outer, leave_of}
+use Rattle.hs_flow.specs.Calls.{Callee, assigns_name, base_of, is_kept, is_slot_kept, fresh_or_loose, held_if, passed, goes_over, over_of, at_some, to_parameter, entered, enter_of, left, back, back_outer, leave_of}
 use Rattle.hs_flow.specs.Given.{Given, is_name_locked}
 use Rattle.hs_flow.specs.Next.{at_slot, also_if}
 use Rattle.hs_flow.specs.declared.fact.Fact.{Fact}
@@ -54,10 +54,10 @@ module _ (callee : Callee) (given : Given) (of : Slot) (goes : goes_over callee 
   over_fresh h = passes (status.Fresh h) (at_slot (fresh_or_loose (assigns_name callee given h) h) of) (inl refl)
 
   pub over_holds : callee.unlocks ≡ false → Among (Over status.Held) (at_slot status.Held of)
-  over_holds keeps = passes status.Held (at_slot status.Held of) (inl (ap (λ b. at_slot (held_or_outer b) of) (sym keeps)))
+  over_holds keeps = passes status.Held (at_slot status.Held of) (inl (ap (λ b. at_slot (held_if (not b)) of) (sym keeps)))
 
   pub over_unlocks : callee.unlocks ≡ true → Among (Over status.Held) (at_slot status.Outer of)
-  over_unlocks unlocks = passes status.Held (at_slot status.Outer of) (inl (ap (λ b. at_slot (held_or_outer b) of) (sym unlocks)))
+  over_unlocks unlocks = passes status.Held (at_slot status.Outer of) (inl (ap (λ b. at_slot (held_if (not b)) of) (sym unlocks)))
 
   pub over_marks : callee.marks ≡ true → Among (Over status.IsHandle) (at_slot status.Purgeable of)
   over_marks marks =
@@ -111,11 +111,11 @@ module _ (parameters : List (Option Slot)) (given : Given) where
 
   pub enter_held : (h : ℕ) (of : Slot) → given.locked h ≡ true
       → enter_of parameters given (at_slot (status.Fresh h) of) ≡ at_some status.Held (entered parameters given of)
-  enter_held h of locked = ap (λ b. at_some (if b then status.Held else status.Outer) (entered parameters given of)) locked
+  enter_held h of locked = ap (λ b. at_some (held_if b) (entered parameters given of)) locked
 
   pub enter_outer : (h : ℕ) (of : Slot) → given.locked h ≡ false
       → enter_of parameters given (at_slot (status.Fresh h) of) ≡ at_some status.Outer (entered parameters given of)
-  enter_outer h of unlocked = ap (λ b. at_some (if b then status.Held else status.Outer) (entered parameters given of)) unlocked
+  enter_outer h of unlocked = ap (λ b. at_some (held_if b) (entered parameters given of)) unlocked
 
   pub enter_loose : (of : Slot) → enter_of parameters given (at_slot status.Loose of) ≡ at_some status.Outer (entered parameters given of)
   enter_loose of = refl
