@@ -3,4 +3,5 @@ pub mod Calling
 pub mod Coming
 pub mod Naming
 pub mod Parameters
+pub mod Programs
 pub mod Staying
