@@ -11,9 +11,11 @@ module _ (names : List Variable) (test : ℕ → Bool) (h : ℕ) (there : h < le
   first : least_from h (drop h names) test ≡ (if test h then Some h else least_from (suc h) (drop (h + 1) names) test)
   first = ap (λ its. least_from h its test) (drop_more names h (name.Global 0) there)
 
+  -- the name of that number is the least, if it passes
   pub least_here : test h ≡ true → Some h ≡ least_from h (drop h names) test
   least_here is = sym (first ∙ ap (λ b. if b then Some h else least_from (suc h) (drop (h + 1) names) test) is)
 
+  -- and else the least is among those after it
   pub least_on : test h ≡ false → least_from (h + 1) (drop (h + 1) names) test ≡ least_from h (drop h names) test
   least_on is =
       let number : suc h ≡ h + 1 = omega (arith) in

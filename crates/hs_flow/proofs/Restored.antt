@@ -12,6 +12,7 @@ use Rattle.hs_flow.specs.declared.fact.Slot.{Slot}
 use Rattle.hs_flow.specs.declared.fact.Slot.TheVariants as slot
 
 module _ (given : Given) (argument : Slot) where
+  -- slot by slot
   pub purgeable-append : (xs ys : List Slot) → purgeable_of given argument (xs ++ ys) ≡ purgeable_of given argument xs ++ purgeable_of given argument ys
   purgeable-append [] ys = refl
   purgeable-append (it ∷ xs) ys =
@@ -35,6 +36,7 @@ module _ (given : Given) (argument : Slot) where
       alone true = refl
       alone false = refl
 
+  -- a place more
   pub places_on : (place : ℕ) (now new old : List Fact) → new ≡ now ++ purgeable_at given argument (slot.Place place)
       → now ≡ old ++ purgeable_of given argument (places_below place) → new ≡ old ++ purgeable_of given argument (places_below (place + 1))
   places_on place now new old put before =
@@ -42,6 +44,7 @@ module _ (given : Given) (argument : Slot) where
       subst (λ n. new ≡ old ++ purgeable_of given argument (places_below n)) number
       (end_on now new old (places_below place) (slot.Place place) put before)
 
+  -- a class more
   pub classes_on : (class : ℕ) (now new old : List Fact) → new ≡ now ++ purgeable_at given argument (slot.Class class)
       → now ≡ old ++ purgeable_of given argument (classes_below class) → new ≡ old ++ purgeable_of given argument (classes_below (class + 1))
   classes_on class now new old put before =

@@ -4,6 +4,7 @@
 use Rattle.std.specs.Prelude.{◌≤◌, ◌+◌, ℕ, List, length}
 use Rattle.hs_flow.specs.declared.fact.Fact.{Fact}
 
+-- the facts of a buffer, and how many it can have
 pub record Buffer : Type 0 where
   pub facts : List Fact
   pub room : ℕ

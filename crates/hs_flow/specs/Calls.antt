@@ -85,6 +85,7 @@ goes_over callee given (slot.Place place) = nat_lt place (base_of callee.paramet
 goes_over callee given (slot.Variable v) = not (assigned callee v)
 goes_over callee given _ = true
 
+-- a fact that goes over the call
 abbrev pub over_of : Callee → Given → Fact → List Fact
 over_of callee given fact = if goes_over callee given fact.slot then passed callee given fact.status fact.slot else []
 
@@ -117,6 +118,7 @@ entering parameters given status.Loose of = at_some status.Outer (entered parame
 entering parameters given status.SavedPurgeable of = None
 entering parameters given other of = at_some other (entered parameters given of)
 
+-- the fact at the start of the function
 abbrev pub enter_of : List (Option Slot) → Given → Fact → Option Fact
 enter_of parameters given fact = entering parameters given fact.status fact.slot
 
@@ -149,5 +151,6 @@ leaving callee given caller status.Outer of = at_some (back_outer callee given c
 leaving callee given caller status.SavedPurgeable of = None
 leaving callee given caller other of = at_some other (left callee given of)
 
+-- the fact after the call, if it was entered with `caller` and returned with `exit`
 abbrev pub leave_of : Callee → Given → Fact → Fact → Option Fact
 leave_of callee given caller exit = leaving callee given caller.status exit.status exit.slot

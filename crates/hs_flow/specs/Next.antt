@@ -1,5 +1,14 @@
 -- One step of a fact, at an operation that is no call (own).
---     next_of scope classes given op fact       the facts after it, if the program has so many classes
+--     at_slot, at_each, also_if                 facts of a slot, of each of several slots, of a slot if so
+--     renamed given v status                    Set: the status once the variable is set
+--     loaded given top status slot              Load: what is derived from a handle
+--     stepped from to status slot               Offset and Step: the pointer that is moved
+--     shifted purges given status slot          Shift: what comes if blocks move or are purged
+--     kept given role argument status slot      Routine: what becomes of a slot that is no argument
+--     brought scope classes given number base status slot      Routine: what comes of an argument, or as control is here
+--     routine_next scope classes given number base status slot      both
+--     carried scope op depth fact               the fact at each slot where its value is
+--     next_of scope classes given op fact       the facts after the operation, if the program has so many classes
 -- A rule is a function of the status and the slot. A fact comes again at each slot where its value is (`slots_after`), and beside that come those of
 -- the rules. A struct on the stack has no facts of its own: what it has is known by the classes of its pointers.
 use Rattle.std.specs.Prelude.{ℕ, suc, ◌-◌, ◌==◌, Bool, true, false, not, ◌&&◌, List, [], ◌∷◌, ◌++◌, map, slice_get, Option, Some, None, if◌then◌else◌}

@@ -1,4 +1,6 @@
 -- Which slots may have a handle of a block whose state is put back (own).
+--     pointer_globals, pointer_locals        the variables among them
+--     places_below, classes_below            the places and the classes
 --     restorable scope classes base          the slots of pointers: variables of the program and of the function, places below the arguments, classes
 --     purgeable_of given argument slots      those that are not apart from the argument may have a handle of a purgeable block
 use Rattle.std.specs.Prelude.{ℕ, zero, suc, Bool, true, false, ◌&&◌, List, [], ◌∷◌, ◌++◌, if◌then◌else◌}

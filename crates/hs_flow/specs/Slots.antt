@@ -1,5 +1,9 @@
 -- Where the value of a slot is after an operation (own).
 --     is_below base slot                the slot is no place, or a place below that one
+--     is_place, is_variable, is_class   the slot is that one
+--     below base slot                   the slot, if it is below that place
+--     placed_at from to base slot       the slots to which the value of one place goes
+--     get_slots, set_slots, load_slots, store_slots, value_slots, dup_slots, tuck_slots, brought_to, returned      by the operation
 --     slots_after scope op depth slot   where its value is after an operation with so many values on the stack before it
 -- An operation takes values from the top of the stack. A slot stays where it is, if it is not among them and is not set; and some operations copy or
 -- move values.
@@ -51,13 +55,45 @@ below base its = slot_if (is_below base its) its
 abbrev pub placed_at : ℕ → List Slot → ℕ → Slot → List Slot
 placed_at from to base its = if is_place from its then to else below base its
 
--- the value of one place moves to the top, and each value above it one place down
+-- ---- by the operation
+
+-- Get: the value of the variable is on top too
+abbrev pub get_slots : Variable → ℕ → Slot → List Slot
+get_slots v depth its = below depth its ++ slot_if (is_variable v its) (slot.Place depth)
+
+-- Set: what the variable had ends, and the value of the top is the variable's too
+abbrev pub set_slots : Variable → ℕ → Slot → List Slot
+set_slots v depth its = if is_variable v its then [] else below depth its ++ slot_if (is_place (depth - 1) its) (slot.Variable v)
+
+-- Load of a pointer: what the class has is on top, where the address was
+abbrev pub load_slots : ℕ → ℕ → Slot → List Slot
+load_slots class top its = below top its ++ slot_if (is_class class its) (slot.Place top)
+
+-- Store of a pointer: the value is where the address was, and the class has it too
+abbrev pub store_slots : ℕ → ℕ → Slot → List Slot
+store_slots class depth its = placed_at (depth - 1) (slot.Place (depth - 2) ∷ slot.Class class ∷ []) (depth - 2) its
+
+-- Store of another type: the value is where the address was
+abbrev pub value_slots : ℕ → Slot → List Slot
+value_slots depth its = placed_at (depth - 1) (slot.Place (depth - 2) ∷ []) (depth - 2) its
+
+-- Dup: the top has a copy above it
+abbrev pub dup_slots : ℕ → Slot → List Slot
+dup_slots depth its = below depth its ++ slot_if (is_place (depth - 1) its) (slot.Place depth)
+
+-- Tuck: the top has a copy below the value that was under it
+abbrev pub tuck_slots : ℕ → Slot → List Slot
+tuck_slots depth its =
+    if is_place (depth - 2) its then slot.Place (depth - 1) ∷ []
+    else placed_at (depth - 1) (slot.Place (depth - 2) ∷ slot.Place depth ∷ []) (depth - 2) its
+
+-- Bring: the value of one place moves to the top, and each value above it one place down
 abbrev pub brought_to : ℕ → ℕ → Slot → List Slot
 brought_to from top (slot.Place place) =
     if place == from then slot.Place top ∷ [] else if nat_lt from place then slot.Place (place - 1) ∷ [] else slot.Place place ∷ []
 brought_to from top other = other ∷ []
 
--- a return leaves the top as the result; the other slots of the call end
+-- Return: the top is the result, and the other slots of the call end
 abbrev pub returned : ℕ → Slot → List Slot
 returned top slot.Nothing = slot.Nothing ∷ []
 returned top slot.Answer = []
@@ -66,23 +102,15 @@ returned top (slot.Variable (name.Local place)) = []
 returned top (slot.Place place) = slot_if (place == top) slot.Answer
 returned top (slot.Class class) = slot.Class class ∷ []
 
--- ---- by the operation
-
--- Get: the value of the variable is on top too. Set: the value of the variable ends, and that of the top is the variable's too. Load of a pointer:
--- what the class has is on top too. Store of a pointer: the value stays on the stack, and is in the class too. Store of another type, Conv: the value
--- stays. Dup, Tuck: the value is at its copies. Bring: each place goes with its value.
+-- Conv leaves the value where it is. Any other operation takes values from the top of the stack.
 abbrev pub slots_after : Scope → Op → ℕ → Slot → List Slot
-slots_after scope (op.Get v) depth its = below depth its ++ slot_if (is_variable v its) (slot.Place depth)
-slots_after scope (op.Set v) depth its =
-    if is_variable v its then [] else below depth its ++ slot_if (is_place (depth - 1) its) (slot.Variable v)
-slots_after scope (op.Load (access.Pointer class)) depth its = below (depth - 1) its ++ slot_if (is_class class its) (slot.Place (depth - 1))
-slots_after scope (op.Store (access.Pointer class)) depth its =
-    placed_at (depth - 1) (slot.Place (depth - 2) ∷ slot.Class class ∷ []) (depth - 2) its
-slots_after scope (op.Store other) depth its = placed_at (depth - 1) (slot.Place (depth - 2) ∷ []) (depth - 2) its
-slots_after scope op.Dup depth its = below depth its ++ slot_if (is_place (depth - 1) its) (slot.Place depth)
-slots_after scope op.Tuck depth its =
-    if is_place (depth - 2) its then slot.Place (depth - 1) ∷ []
-    else placed_at (depth - 1) (slot.Place (depth - 2) ∷ slot.Place depth ∷ []) (depth - 2) its
+slots_after scope (op.Get v) depth its = get_slots v depth its
+slots_after scope (op.Set v) depth its = set_slots v depth its
+slots_after scope (op.Load (access.Pointer class)) depth its = load_slots class (depth - 1) its
+slots_after scope (op.Store (access.Pointer class)) depth its = store_slots class depth its
+slots_after scope (op.Store other) depth its = value_slots depth its
+slots_after scope op.Dup depth its = dup_slots depth its
+slots_after scope op.Tuck depth its = tuck_slots depth its
 slots_after scope (op.Conv kind) depth its = below depth its
 slots_after scope (op.Bring place) depth its = brought_to (depth - place) (depth - 1) its
 slots_after scope op.Return depth its = returned (depth - 1) its

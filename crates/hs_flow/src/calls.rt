@@ -70,7 +70,8 @@ pub(crate) fn assigns_name<A: Around>(
     h: u32,
 ) -> bool
     requires table { IsTableFor (whole_of code.now) effects.now f }
-    ensures { result ≡ assigns_name (callee_of (whole_of code.now) effects.now f) (A.given around.now) h }
+    ensures { result
+        ≡ assigns_name (callee_of (whole_of code.now) effects.now f) (A.given around.now) h }
 {
     match around.names().get(h as usize) {
         Some(name) => assigns(code, f, effects, *name),
@@ -89,7 +90,9 @@ fn place_of(classes: &[Class], class: &Class) -> Option<usize>
 /// The slot of a pointer in an object of that type: its class, if the code names it.
 fn object_slot(code: &Code, id: TypeId) -> Option<Slot>
     requires few { length code.now.classes.items ≤ 4294967295 }
-    ensures { result ≡ object_slot code.now.program.now.types code.now.program.now.same code.now.classes.items id }
+    ensures { result
+        ≡ object_slot code.now.program.now.types code.now.program.now.same
+        code.now.classes.items id }
 {
     if !is_pointer(&code.program.types, id) {
         return None;
@@ -104,7 +107,9 @@ fn object_slot(code: &Code, id: TypeId) -> Option<Slot>
 /// Where the argument of that place goes, if that is its parameter: to a slot, or to the class of an object.
 fn parameter_slot(code: &Code, place: u32, its: &VariableDecl) -> Option<Slot>
     requires few { length code.now.classes.items ≤ 4294967295 }
-    ensures { result ≡ parameter_slot code.now.program.now.types code.now.program.now.same code.now.classes.items place its.now }
+    ensures { result
+        ≡ parameter_slot code.now.program.now.types code.now.program.now.same
+        code.now.classes.items place its.now }
 {
     if its.is_slot(&code.program.types) {
         Some(Slot::Variable(Variable::Local(place)))
@@ -134,7 +139,9 @@ fn front(variables: &[VariableDecl], count: u32) -> &[VariableDecl]
 /// Where the argument of that place goes, if these are the parameters.
 fn parameter_in(code: &Code, parameters: &[VariableDecl], place: u32) -> Option<Slot>
     requires few { length code.now.classes.items ≤ 4294967295 }
-    ensures { result ≡ some_parameter code.now.program.now.types code.now.program.now.same code.now.classes.items place (slice_get parameters.now place) }
+    ensures { result
+        ≡ some_parameter code.now.program.now.types code.now.program.now.same
+        code.now.classes.items place (slice_get parameters.now place) }
 {
     match parameters.get(place as usize) {
         Some(its) => parameter_slot(code, place, its),

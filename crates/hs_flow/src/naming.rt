@@ -20,7 +20,8 @@ fn names_slot<A: Around>(around: &A, slot: Slot, h: u32, name: Variable) -> bool
 
 /// Whether the name is a name of the slot and is locked.
 fn locks_slot<A: Around>(around: &A, slot: Slot, h: u32, name: Variable) -> bool
-    ensures { result ≡ (names_slot (A.given around.now) slot h name && (A.given around.now).locked h) }
+    ensures { result
+        ≡ (names_slot (A.given around.now) slot h name && (A.given around.now).locked h) }
 {
     match slot {
         Slot::Place(place) => around.with_lock(place, h),
@@ -57,7 +58,8 @@ fn name_apart<A: Around>(around: &A, slot: Slot, h: u32) -> bool
 
 /// Whether the name is a name of the one slot and is known to have no handle of the block of a name of the other.
 fn sets_apart<A: Around>(around: &A, a: Slot, b: Slot, h: u32, name: Variable) -> bool
-    ensures { result ≡ (names_slot (A.given around.now) a h name && name_apart (A.given around.now) b h) }
+    ensures { result
+        ≡ (names_slot (A.given around.now) a h name && name_apart (A.given around.now) b h) }
 {
     names_slot(around, a, h, name) && name_apart(around, b, h)
 }

@@ -16,7 +16,8 @@ use hs_effects::EffectTable;
 /// Whether the lock of the name lasts over the call.
 fn is_kept<A: Around>(code: &Code, f: u32, effects: &EffectTable, around: &A, h: u32) -> bool
     requires table { IsTableFor (whole_of code.now) effects.now f }
-    ensures { result ≡ is_kept (callee_of (whole_of code.now) effects.now f) (A.given around.now) h }
+    ensures { result
+        ≡ is_kept (callee_of (whole_of code.now) effects.now f) (A.given around.now) h }
 {
     !unlocks(effects, f) && around.locked(h)
 }
@@ -30,7 +31,8 @@ fn is_slot_kept<A: Around>(
     slot: Slot,
 ) -> bool
     requires table { IsTableFor (whole_of code.now) effects.now f }
-    ensures { result ≡ is_slot_kept (callee_of (whole_of code.now) effects.now f) (A.given around.now) slot }
+    ensures { result
+        ≡ is_slot_kept (callee_of (whole_of code.now) effects.now f) (A.given around.now) slot }
 {
     !unlocks(effects, f) && is_name_locked(around, slot)
 }
@@ -38,7 +40,8 @@ fn is_slot_kept<A: Around>(
 /// Whether the slot goes over the call: it is no argument, and no global that the function may assign.
 fn goes_over<A: Around>(code: &Code, f: u32, effects: &EffectTable, around: &A, slot: Slot) -> bool
     requires table { IsTableFor (whole_of code.now) effects.now f }
-    ensures { result ≡ goes_over (callee_of (whole_of code.now) effects.now f) (A.given around.now) slot }
+    ensures { result
+        ≡ goes_over (callee_of (whole_of code.now) effects.now f) (A.given around.now) slot }
 {
     match slot {
         Slot::Place(place) => place < base(code, f, around),
@@ -81,7 +84,9 @@ fn pass<A: Around>(
     requires table { IsTableFor (whole_of code.now) effects.now f }
     requires room { HasRoom 3 into.old }
     ensures facts { into.new.facts
-        ≡ into.old.facts ++ passed (callee_of (whole_of code.now) effects.now f) (A.given around.now) fact.status fact.slot }
+        ≡ into.old.facts
+        ++ passed (callee_of (whole_of code.now) effects.now f) (A.given around.now)
+        fact.status fact.slot }
     ensures room { into.new.room ≡ into.old.room }
 {
     let slot = fact.slot;
@@ -121,7 +126,7 @@ fn pass<A: Around>(
     }
 }
 
-/// Puts the facts at the next operation that go over a call of the function `f`, behind those in the buffer. `around` is what is known at the call.
+/// Puts the facts at the next operation that go over a call of the function `f`, after those that are in the buffer. `around` is what is known at the call.
 /// Takes no memory.
 ///
 /// Example: a pointer that was loaded from a handle stays, and may be stale too if the function moves memory and the handle is not locked.
@@ -136,7 +141,8 @@ pub fn over_call<A: Around>(
     requires table { IsTableFor (whole_of code.now) effects.now f }
     requires room { HasRoom 3 into.old }
     ensures facts { into.new.facts
-        ≡ into.old.facts ++ over_of (callee_of (whole_of code.now) effects.now f) (A.given around.now) fact }
+        ≡ into.old.facts
+        ++ over_of (callee_of (whole_of code.now) effects.now f) (A.given around.now) fact }
     ensures room { into.new.room ≡ into.old.room }
 {
     if goes_over(code, f, effects, around, fact.slot) {

@@ -26,7 +26,8 @@ fn is_pointer_slot(types: &Types, variable: &VariableDecl) -> bool
 /// The slot may have a handle of a purgeable block, unless it is apart from the argument.
 fn put_purgeable<A: Around>(into: &mut Facts, around: &A, argument: Slot, slot: Slot)
     requires room { HasRoom 1 into.old }
-    ensures facts { into.new.facts ≡ into.old.facts ++ purgeable_at (A.given around.now) argument slot }
+    ensures facts { into.new.facts
+        ≡ into.old.facts ++ purgeable_at (A.given around.now) argument slot }
     ensures room { into.new.room ≡ into.old.room }
     ensures few { length into.new.facts ≤ length into.old.facts + 1 }
 {
@@ -45,9 +46,12 @@ fn put_variable<A: Around>(
     slot: Slot,
 )
     requires room { HasRoom (one_if (is_slot types.now it.now)) into.old }
-    ensures facts { into.new.facts ≡ into.old.facts ++ purgeable_of (A.given around.now) argument (slot_if (is_pointer_slot types.now it.now) slot) }
+    ensures facts { into.new.facts
+        ≡ into.old.facts ++ purgeable_of
+        (A.given around.now) argument (slot_if (is_pointer_slot types.now it.now) slot) }
     ensures room { into.new.room ≡ into.old.room }
-    ensures few { length into.new.facts ≤ length into.old.facts + one_if (is_slot types.now it.now) }
+    ensures few { length into.new.facts ≤ length into.old.facts
+        + one_if (is_slot types.now it.now) }
 {
     if is_pointer_slot(types, it) {
         put_purgeable(into, around, argument, slot);
@@ -64,7 +68,9 @@ fn put_globals<A: Around>(
 )
     requires few { length globals.now ≤ 4294967295 }
     requires room { HasRoom (global_slots types.now globals.now) into.old }
-    ensures facts { into.new.facts ≡ into.old.facts ++ purgeable_of (A.given around.now) argument (pointer_globals types.now 0 globals.now) }
+    ensures facts { into.new.facts
+        ≡ into.old.facts
+        ++ purgeable_of (A.given around.now) argument (pointer_globals types.now 0 globals.now) }
     ensures room { into.new.room ≡ into.old.room }
     ensures few { length into.new.facts ≤ length into.old.facts + global_slots types.now globals.now }
 {
@@ -84,7 +90,9 @@ fn put_locals<A: Around>(
 )
     requires few { length locals.now ≤ 4294967295 }
     requires room { HasRoom (local_slots types.now locals.now) into.old }
-    ensures facts { into.new.facts ≡ into.old.facts ++ purgeable_of (A.given around.now) argument (pointer_locals types.now 0 locals.now) }
+    ensures facts { into.new.facts
+        ≡ into.old.facts
+        ++ purgeable_of (A.given around.now) argument (pointer_locals types.now 0 locals.now) }
     ensures room { into.new.room ≡ into.old.room }
     ensures few { length into.new.facts ≤ length into.old.facts + local_slots types.now locals.now }
 {
@@ -97,7 +105,8 @@ fn put_locals<A: Around>(
 /// The same for each place below that one.
 fn put_places<A: Around>(into: &mut Facts, around: &A, argument: Slot, base: u32)
     requires room { HasRoom base into.old }
-    ensures facts { into.new.facts ≡ into.old.facts ++ purgeable_of (A.given around.now) argument (places_below base) }
+    ensures facts { into.new.facts
+        ≡ into.old.facts ++ purgeable_of (A.given around.now) argument (places_below base) }
     ensures room { into.new.room ≡ into.old.room }
     ensures few { length into.new.facts ≤ length into.old.facts + base }
 {
@@ -109,7 +118,8 @@ fn put_places<A: Around>(into: &mut Facts, around: &A, argument: Slot, base: u32
 /// The same for each of so many classes.
 fn put_classes<A: Around>(into: &mut Facts, around: &A, argument: Slot, classes: u32)
     requires room { HasRoom classes into.old }
-    ensures facts { into.new.facts ≡ into.old.facts ++ purgeable_of (A.given around.now) argument (classes_below classes) }
+    ensures facts { into.new.facts
+        ≡ into.old.facts ++ purgeable_of (A.given around.now) argument (classes_below classes) }
     ensures room { into.new.room ≡ into.old.room }
     ensures few { length into.new.facts ≤ length into.old.facts + classes }
 {
@@ -133,7 +143,8 @@ pub(crate) fn put_back<A: Around>(into: &mut Facts, around: &A, code: &Code, f: 
     requires few { IsNumbered (whole_of code.now) f }
     requires room { HasRoom (restorable_slots (whole_of code.now) f base) into.old }
     ensures facts { into.new.facts ≡ into.old.facts
-        ++ purgeable_of (A.given around.now) (slot.Place base) (restorable (scope_at (whole_of code.now) f) (length code.now.classes.items) base) }
+        ++ purgeable_of (A.given around.now) (slot.Place base)
+        (restorable (scope_at (whole_of code.now) f) (length code.now.classes.items) base) }
     ensures room { into.new.room ≡ into.old.room }
 {
     let types = &code.program.types;

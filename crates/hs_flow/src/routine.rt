@@ -80,7 +80,9 @@ pub(crate) fn makes_handle(
     number: u32,
     role: Option<Role>,
 ) -> bool
-    ensures { result ≡ makes_by role (gives_handle types.now (routine_signature (slice_get routines.now number))) }
+    ensures { result
+        ≡ makes_by role
+        (gives_handle types.now (routine_signature (slice_get routines.now number))) }
 {
     match role {
         Some(Role::NewHandle) => true,
@@ -141,7 +143,8 @@ pub(crate) fn keep<A: Around>(
     fact: Fact,
 )
     requires room { HasRoom 2 into.old }
-    ensures facts { into.new.facts ≡ into.old.facts ++ kept (A.given around.now) role argument fact.status fact.slot }
+    ensures facts { into.new.facts
+        ≡ into.old.facts ++ kept (A.given around.now) role argument fact.status fact.slot }
     ensures room { into.new.room ≡ into.old.room }
     ensures few { length into.new.facts ≤ length into.old.facts + 2 }
 {
@@ -186,7 +189,8 @@ fn bring<A: Around>(
     requires few { IsNumbered (whole_of code.now) f }
     requires room { HasRoom (1 + restorable_slots (whole_of code.now) f base) into.old }
     ensures facts { into.new.facts ≡ into.old.facts
-        ++ brought (scope_at (whole_of code.now) f) (length code.now.classes.items) (A.given around.now) number base fact.status fact.slot }
+        ++ brought (scope_at (whole_of code.now) f) (length code.now.classes.items)
+        (A.given around.now) number base fact.status fact.slot }
     ensures room { into.new.room ≡ into.old.room }
 {
     let routines = code.program.routines.items();
@@ -216,7 +220,7 @@ fn bring<A: Around>(
     }
 }
 
-/// A routine is called: it takes its arguments, and leaves its result in the place of the first.
+/// A routine is called: it takes its arguments, and leaves its result where the first was.
 pub(crate) fn routine<A: Around>(
     into: &mut Facts,
     around: &A,
@@ -227,7 +231,9 @@ pub(crate) fn routine<A: Around>(
 )
     requires few { IsNumbered (whole_of code.now) f }
     requires room { HasRoom (4 + slots_at (whole_of code.now) f (A.given around.now)) into.old }
-    ensures facts { into.new.facts ≡ into.old.facts ++ next_in (whole_of code.now) f (A.given around.now) (op.Routine number) fact }
+    ensures facts { into.new.facts
+        ≡ into.old.facts
+        ++ next_in (whole_of code.now) f (A.given around.now) (op.Routine number) fact }
     ensures room { into.new.room ≡ into.old.room }
 {
     let routines = code.program.routines.items();

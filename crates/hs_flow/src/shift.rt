@@ -1,13 +1,16 @@
 //! Decisions for routines that may move or purge.
 
-ghost use Rattle.std.specs.Prelude.{◌≡◌, ◌++◌, ◌-◌, slice_get};
+ghost use Rattle.std.specs.Prelude.{◌≡◌, ◌++◌, slice_get};
+ghost use Rattle.hs_code.specs.declared.op.Op.TheVariants as op;
+ghost use Rattle.hs_effects.specs.Calling.{whole_of};
 ghost use Rattle.hs_flow.specs.Buffers.{HasRoom};
-ghost use Rattle.hs_flow.specs.Next.{at_each, purges_in, shifted};
-ghost use Rattle.hs_flow.specs.Slots.{below};
+ghost use Rattle.hs_flow.specs.Next.{purges_in, shifted};
+ghost use Rattle.hs_flow.specs.Programs.{next_in};
 
 use crate::naming::is_name_locked;
-use crate::putting::{put_below, put_if};
-use crate::{Around, Fact, FactStatus, Facts, Slot};
+use crate::putting::{put_if, stay};
+use crate::{Around, Fact, FactStatus, Facts};
+use hs_code::Code;
 use hs_tree::BoundRoutine;
 
 /// Whether the routine of that number may purge, if it is there.
@@ -30,7 +33,9 @@ fn put_shifted<A: Around>(
 )
     requires room { HasRoom 1 into.old }
     ensures facts { into.new.facts
-        ≡ into.old.facts ++ shifted (purges_in (slice_get routines.now number)) (A.given around.now) fact.status fact.slot }
+        ≡ into.old.facts
+        ++ shifted
+        (purges_in (slice_get routines.now number)) (A.given around.now) fact.status fact.slot }
     ensures room { into.new.room ≡ into.old.room }
 {
     match fact.status {
@@ -53,17 +58,16 @@ fn put_shifted<A: Around>(
 pub(crate) fn shift<A: Around>(
     into: &mut Facts,
     around: &A,
-    routines: &[BoundRoutine],
-    depth: u32,
+    code: &Code,
+    f: u32,
     number: u32,
     fact: Fact,
 )
     requires room { HasRoom 2 into.old }
     ensures facts { into.new.facts ≡ into.old.facts
-        ++ (at_each fact.status (below (depth - 0) fact.slot)
-        ++ shifted (purges_in (slice_get routines.now number)) (A.given around.now) fact.status fact.slot) }
+        ++ next_in (whole_of code.now) f (A.given around.now) (op.Shift number) fact }
     ensures room { into.new.room ≡ into.old.room }
 {
-    put_below(into, depth, fact.status, fact.slot);
-    put_shifted(into, around, routines, number, fact);
+    stay(into, around.places(), fact);
+    put_shifted(into, around, code.program.routines.items(), number, fact);
 }

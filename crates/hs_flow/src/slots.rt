@@ -74,7 +74,7 @@ pub(crate) fn is_class(class: u32, slot: Slot) -> bool
     }
 }
 
-/// Whether the slot is none.
+/// Whether the fact is about control alone.
 pub(crate) fn is_nothing(slot: Slot) -> bool
     ensures { result ≡ is_nothing slot }
 {

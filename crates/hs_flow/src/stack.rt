@@ -1,10 +1,9 @@
 //! Operations that copy, move or take values.
 
-ghost use Rattle.std.specs.Prelude.{◌≡◌, ◌++◌, ◌-◌, ◌∷◌, [], if◌then◌else◌, slice_get};
+ghost use Rattle.std.specs.Prelude.{◌≡◌, ◌++◌, ◌-◌, ◌∷◌, [], slice_get};
 ghost use Rattle.hs_flow.specs.Buffers.{HasRoom};
 ghost use Rattle.hs_flow.specs.Next.{at_each, derived, is_name_of, is_of_pointers, loaded, pointer_place, renamed, stepped};
-ghost use Rattle.hs_flow.specs.Slots.{below, brought_to, is_class, is_place, is_variable, placed_at, returned, slot_if};
-ghost use Rattle.hs_flow.specs.declared.fact.Slot.TheVariants as slot;
+ghost use Rattle.hs_flow.specs.Slots.{below, brought_to, dup_slots, get_slots, load_slots, returned, set_slots, store_slots, tuck_slots, value_slots};
 
 use crate::naming::least_name;
 use crate::putting::{put_also, put_below, put_both, put_if};
@@ -16,7 +15,7 @@ use hs_tree::Variable;
 pub(crate) fn get(into: &mut Facts, depth: u32, variable: Variable, fact: Fact)
     requires room { HasRoom 2 into.old }
     ensures facts { into.new.facts
-        ≡ into.old.facts ++ at_each fact.status (below depth fact.slot ++ slot_if (is_variable variable fact.slot) (slot.Place depth)) }
+        ≡ into.old.facts ++ at_each fact.status (get_slots variable depth fact.slot) }
     ensures room { into.new.room ≡ into.old.room }
 {
     let read = is_variable(variable, fact.slot);
@@ -60,8 +59,8 @@ pub(crate) fn set<A: Around>(
 )
     requires room { HasRoom 2 into.old }
     ensures facts { into.new.facts ≡ into.old.facts
-        ++ at_each (renamed (A.given around.now) variable fact.status) (if is_variable variable fact.slot then []
-        else below depth fact.slot ++ slot_if (is_place (depth - 1) fact.slot) (slot.Variable variable)) }
+        ++ at_each (renamed (A.given around.now) variable fact.status)
+        (set_slots variable depth fact.slot) }
     ensures room { into.new.room ≡ into.old.room }
 {
     if is_variable(variable, fact.slot) {
@@ -82,7 +81,8 @@ pub(crate) fn set<A: Around>(
 /// A pointer that is loaded from a handle in the top place.
 fn derive<A: Around>(into: &mut Facts, around: &A, top: u32, fact: Fact)
     requires room { HasRoom 1 into.old }
-    ensures facts { into.new.facts ≡ into.old.facts ++ loaded (A.given around.now) top fact.status fact.slot }
+    ensures facts { into.new.facts
+        ≡ into.old.facts ++ loaded (A.given around.now) top fact.status fact.slot }
     ensures room { into.new.room ≡ into.old.room }
 {
     if let FactStatus::IsHandle = fact.status {
@@ -103,14 +103,13 @@ fn derived(name: Option<u32>) -> FactStatus
 }
 
 /// A pointer is loaded from the top place.
-pub(crate) fn load<A: Around>(into: &mut Facts, around: &A, depth: u32, class: u32, fact: Fact)
+pub(crate) fn load<A: Around>(into: &mut Facts, around: &A, top: u32, class: u32, fact: Fact)
     requires room { HasRoom 3 into.old }
     ensures facts { into.new.facts ≡ into.old.facts
-        ++ (at_each fact.status (below (depth - 1) fact.slot ++ slot_if (is_class class fact.slot) (slot.Place (depth - 1)))
-        ++ loaded (A.given around.now) (depth - 1) fact.status fact.slot) }
+        ++ (at_each fact.status (load_slots class top fact.slot)
+        ++ loaded (A.given around.now) top fact.status fact.slot) }
     ensures room { into.new.room ≡ into.old.room }
 {
-    let top = depth.saturating_sub(1);
     let had = is_class(class, fact.slot);
     put_also(into, top, had, Slot::Place(top), fact.status, fact.slot);
     derive(into, around, top, fact);
@@ -119,8 +118,8 @@ pub(crate) fn load<A: Around>(into: &mut Facts, around: &A, depth: u32, class: u
 /// The value of the top goes to the place below it and to the class.
 pub(crate) fn store_pointer(into: &mut Facts, depth: u32, class: u32, fact: Fact)
     requires room { HasRoom 2 into.old }
-    ensures facts { into.new.facts ≡ into.old.facts
-        ++ at_each fact.status (placed_at (depth - 1) (slot.Place (depth - 2) ∷ slot.Class class ∷ []) (depth - 2) fact.slot) }
+    ensures facts { into.new.facts
+        ≡ into.old.facts ++ at_each fact.status (store_slots class depth fact.slot) }
     ensures room { into.new.room ≡ into.old.room }
 {
     let low = depth.saturating_sub(2);
@@ -134,8 +133,8 @@ pub(crate) fn store_pointer(into: &mut Facts, depth: u32, class: u32, fact: Fact
 /// The value of the top goes to the place below it.
 pub(crate) fn store(into: &mut Facts, depth: u32, fact: Fact)
     requires room { HasRoom 1 into.old }
-    ensures facts { into.new.facts ≡ into.old.facts
-        ++ at_each fact.status (placed_at (depth - 1) (slot.Place (depth - 2) ∷ []) (depth - 2) fact.slot) }
+    ensures facts { into.new.facts
+        ≡ into.old.facts ++ at_each fact.status (value_slots depth fact.slot) }
     ensures room { into.new.room ≡ into.old.room }
 {
     let low = depth.saturating_sub(2);
@@ -149,8 +148,8 @@ pub(crate) fn store(into: &mut Facts, depth: u32, fact: Fact)
 /// The top has a copy above it.
 pub(crate) fn dup(into: &mut Facts, depth: u32, fact: Fact)
     requires room { HasRoom 2 into.old }
-    ensures facts { into.new.facts ≡ into.old.facts
-        ++ at_each fact.status (below depth fact.slot ++ slot_if (is_place (depth - 1) fact.slot) (slot.Place depth)) }
+    ensures facts { into.new.facts
+        ≡ into.old.facts ++ at_each fact.status (dup_slots depth fact.slot) }
     ensures room { into.new.room ≡ into.old.room }
 {
     let top = is_place(depth.saturating_sub(1), fact.slot);
@@ -160,9 +159,8 @@ pub(crate) fn dup(into: &mut Facts, depth: u32, fact: Fact)
 /// The top has a copy below the value that was under it.
 pub(crate) fn tuck(into: &mut Facts, depth: u32, fact: Fact)
     requires room { HasRoom 2 into.old }
-    ensures facts { into.new.facts ≡ into.old.facts
-        ++ at_each fact.status (if is_place (depth - 2) fact.slot then slot.Place (depth - 1) ∷ []
-        else placed_at (depth - 1) (slot.Place (depth - 2) ∷ slot.Place depth ∷ []) (depth - 2) fact.slot) }
+    ensures facts { into.new.facts
+        ≡ into.old.facts ++ at_each fact.status (tuck_slots depth fact.slot) }
     ensures room { into.new.room ≡ into.old.room }
 {
     let low = depth.saturating_sub(2);
@@ -179,7 +177,8 @@ pub(crate) fn tuck(into: &mut Facts, depth: u32, fact: Fact)
 /// The value of that place, counted from 1 at the top, moves to the top.
 pub(crate) fn bring(into: &mut Facts, depth: u32, place: u32, fact: Fact)
     requires room { HasRoom 1 into.old }
-    ensures facts { into.new.facts ≡ into.old.facts ++ at_each fact.status (brought_to (depth - place) (depth - 1) fact.slot) }
+    ensures facts { into.new.facts
+        ≡ into.old.facts ++ at_each fact.status (brought_to (depth - place) (depth - 1) fact.slot) }
     ensures room { into.new.room ≡ into.old.room }
 {
     let slot = brought(
@@ -227,9 +226,10 @@ fn is_of_pointers(status: FactStatus) -> bool
 }
 
 /// The pointer of one place goes to another, and what is below the other stays.
-fn step_to(into: &mut Facts, from: u32, to: u32, fact: Fact)
+pub(crate) fn step_to(into: &mut Facts, from: u32, to: u32, fact: Fact)
     requires room { HasRoom 2 into.old }
-    ensures facts { into.new.facts ≡ into.old.facts ++ (at_each fact.status (below to fact.slot) ++ stepped from to fact.status fact.slot) }
+    ensures facts { into.new.facts ≡ into.old.facts
+        ++ (at_each fact.status (below to fact.slot) ++ stepped from to fact.status fact.slot) }
     ensures room { into.new.room ≡ into.old.room }
 {
     put_below(into, to, fact.status, fact.slot);
@@ -237,22 +237,12 @@ fn step_to(into: &mut Facts, from: u32, to: u32, fact: Fact)
     put_if(into, pointer, fact.status, Slot::Place(to));
 }
 
-/// The pointer on top is moved.
-pub(crate) fn offset(into: &mut Facts, depth: u32, fact: Fact)
-    requires room { HasRoom 2 into.old }
-    ensures facts { into.new.facts
-        ≡ into.old.facts ++ (at_each fact.status (below (depth - 1) fact.slot) ++ stepped (depth - 1) (depth - 1) fact.status fact.slot) }
-    ensures room { into.new.room ≡ into.old.room }
-{
-    let top = depth.saturating_sub(1);
-    step_to(into, top, top, fact);
-}
-
 /// A pointer is moved by a number.
 pub(crate) fn step(into: &mut Facts, depth: u32, pointer_first: bool, fact: Fact)
     requires room { HasRoom 2 into.old }
     ensures facts { into.new.facts ≡ into.old.facts
-        ++ (at_each fact.status (below (depth - 2) fact.slot) ++ stepped (pointer_place pointer_first depth) (depth - 2) fact.status fact.slot) }
+        ++ (at_each fact.status (below (depth - 2) fact.slot)
+        ++ stepped (pointer_place pointer_first depth) (depth - 2) fact.status fact.slot) }
     ensures room { into.new.room ≡ into.old.room }
 {
     let low = depth.saturating_sub(2);
@@ -267,7 +257,8 @@ pub(crate) fn step(into: &mut Facts, depth: u32, pointer_first: bool, fact: Fact
 /// The top is the result.
 pub(crate) fn leave_top(into: &mut Facts, depth: u32, fact: Fact)
     requires room { HasRoom 1 into.old }
-    ensures facts { into.new.facts ≡ into.old.facts ++ at_each fact.status (returned (depth - 1) fact.slot) }
+    ensures facts { into.new.facts
+        ≡ into.old.facts ++ at_each fact.status (returned (depth - 1) fact.slot) }
     ensures room { into.new.room ≡ into.old.room }
 {
     match fact.slot {

@@ -59,7 +59,8 @@ pub fn enter<A: Around>(code: &Code, f: u32, fact: Fact, around: &A) -> Option<F
 
 /// The slot of the caller that gets the value of a slot of the function.
 fn left<A: Around>(code: &Code, f: u32, around: &A, slot: Slot) -> Option<Slot>
-    ensures { (callee : Callee) → callee.parameters ≡ parameters_of (whole_of code.now) f → result ≡ left callee (A.given around.now) slot }
+    ensures { (callee : Callee) → callee.parameters
+        ≡ parameters_of (whole_of code.now) f → result ≡ left callee (A.given around.now) slot }
 {
     match slot {
         Slot::Nothing | Slot::Class(_) | Slot::Variable(Variable::Global(_)) => Some(slot),
@@ -77,7 +78,8 @@ fn back<A: Around>(
     status: FactStatus,
 ) -> FactStatus
     requires table { IsTableFor (whole_of code.now) effects.now f }
-    ensures { result ≡ back (callee_of (whole_of code.now) effects.now f) (A.given around.now) status }
+    ensures { result
+        ≡ back (callee_of (whole_of code.now) effects.now f) (A.given around.now) status }
 {
     match status {
         FactStatus::Fresh(h) => { fresh_or_loose(assigns_name(code, f, effects, around, h), h) }
@@ -94,7 +96,8 @@ fn back_outer<A: Around>(
     status: FactStatus,
 ) -> FactStatus
     requires table { IsTableFor (whole_of code.now) effects.now f }
-    ensures { result ≡ back_outer (callee_of (whole_of code.now) effects.now f) (A.given around.now) status }
+    ensures { result
+        ≡ back_outer (callee_of (whole_of code.now) effects.now f) (A.given around.now) status }
 {
     match status {
         FactStatus::Held => FactStatus::Outer,
@@ -115,7 +118,8 @@ pub fn leave<A: Around>(
     around: &A,
 ) -> Option<Fact>
     requires table { IsTableFor (whole_of code.now) effects.now f }
-    ensures { result ≡ leave_of (callee_of (whole_of code.now) effects.now f) (A.given around.now) caller exit }
+    ensures { result
+        ≡ leave_of (callee_of (whole_of code.now) effects.now f) (A.given around.now) caller exit }
 {
     let status = match exit.status {
         FactStatus::SavedPurgeable => return None,

@@ -180,9 +180,11 @@ classes_there (suc count) class under = by (eq-or-lt_of_le (omega (arith))) (λ 
     by (inr under) less = among_left (classes_below count) (slot.Class count ∷ []) (slot.Class class) (less under)
 
 module _ (scope : Scope) (classes base : ℕ) where
+  -- the variables of the function
   abbrev locals : List Slot
   locals = pointer_locals scope.types 0 scope.variables
 
+  -- the places and the classes
   abbrev others : List Slot
   others = places_below base ++ classes_below classes
 
