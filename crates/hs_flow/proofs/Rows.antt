@@ -474,7 +474,8 @@ the_block_stays_marked = refl
 
 -- each variable that may have a handle, and each class; the two places are arguments
 a_state_is_put_back : after set_state (put_on_x false true) (Place 1) SavedPurgeable
-    ≡ fact (variable g) Purgeable ∷ fact (variable x) Purgeable ∷ fact (variable y) Purgeable ∷ fact (variable p) Purgeable ∷ fact (Class 0) Purgeable ∷ fact (Class 1) Purgeable ∷ []
+    ≡ fact (variable g) Purgeable ∷ fact (variable x) Purgeable ∷ fact (variable y) Purgeable ∷ fact (variable p) Purgeable
+    ∷ fact (Class 0) Purgeable ∷ fact (Class 1) Purgeable ∷ []
 a_state_is_put_back = refl
 
 but_not_on_what_is_apart : after set_state (put_on_x true true) (Place 1) SavedPurgeable

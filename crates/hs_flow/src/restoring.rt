@@ -72,7 +72,8 @@ fn put_globals<A: Around>(
         ≡ into.old.facts
         ++ purgeable_of (A.given around.now) argument (pointer_globals types.now 0 globals.now) }
     ensures room { into.new.room ≡ into.old.room }
-    ensures few { length into.new.facts ≤ length into.old.facts + global_slots types.now globals.now }
+    ensures few { length into.new.facts
+        ≤ length into.old.facts + global_slots types.now globals.now }
 {
     'globals: for (place, it) in globals.iter().enumerate() {
         let slot = Slot::Variable(Variable::Global(place as u32));

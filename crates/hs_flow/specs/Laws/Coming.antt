@@ -52,7 +52,8 @@ module _ (scope : Scope) (classes : ℕ) (given : Given) where
   carries (op.Load (access.Number kind)) status of one is has = among_each status (slots_after scope (op.Load (access.Number kind)) given.places of) one has
   carries (op.Load (access.Struct size)) status of one is has = among_each status (slots_after scope (op.Load (access.Struct size)) given.places of) one has
   carries (op.Store (access.Number kind)) status of one is has = among_each status (slots_after scope (op.Store (access.Number kind)) given.places of) one has
-  carries (op.Store (access.Pointer class)) status of one is has = among_each status (slots_after scope (op.Store (access.Pointer class)) given.places of) one has
+  carries (op.Store (access.Pointer class)) status of one is has =
+      among_each status (slots_after scope (op.Store (access.Pointer class)) given.places of) one has
   carries (op.Store (access.Struct size)) status of one is has = among_each status (slots_after scope (op.Store (access.Struct size)) given.places of) one has
   carries op.Drop status of one is has = among_each status (slots_after scope op.Drop given.places of) one has
   carries op.Dup status of one is has = among_each status (slots_after scope op.Dup given.places of) one has
@@ -72,16 +73,20 @@ module _ (scope : Scope) (classes : ℕ) (given : Given) where
   carries (op.Pick target) status of one is has = among_each status (slots_after scope (op.Pick target) given.places of) one has
   carries (op.Bring place) status of one is has = among_each status (slots_after scope (op.Bring place) given.places of) one has
   carries (op.Load (access.Pointer class)) status of one is has =
-      among_left (carried scope (op.Load (access.Pointer class)) given.places (at_slot status of)) (loaded given (given.places - 1) status of) (at_slot status one)
+      among_left (carried scope (op.Load (access.Pointer class)) given.places (at_slot status of)) (loaded given (given.places - 1) status of)
+      (at_slot status one)
       (among_each status (slots_after scope (op.Load (access.Pointer class)) given.places of) one has)
   carries (op.Offset bytes) status of one is has =
-      among_left (carried scope (op.Offset bytes) given.places (at_slot status of)) (stepped (given.places - 1) (given.places - 1) status of) (at_slot status one)
+      among_left (carried scope (op.Offset bytes) given.places (at_slot status of)) (stepped (given.places - 1) (given.places - 1) status of)
+      (at_slot status one)
       (among_each status (slots_after scope (op.Offset bytes) given.places of) one has)
   carries (op.Step stride pointer_first) status of one is has =
-      among_left (carried scope (op.Step stride pointer_first) given.places (at_slot status of)) (stepped (pointer_place pointer_first given.places) (given.places - 2) status of) (at_slot status one)
+      among_left (carried scope (op.Step stride pointer_first) given.places (at_slot status of))
+      (stepped (pointer_place pointer_first given.places) (given.places - 2) status of) (at_slot status one)
       (among_each status (slots_after scope (op.Step stride pointer_first) given.places of) one has)
   carries (op.Shift number) status of one is has =
-      among_left (carried scope (op.Shift number) given.places (at_slot status of)) (shifted (purges_in (slice_get scope.routines number)) given status of) (at_slot status one)
+      among_left (carried scope (op.Shift number) given.places (at_slot status of))
+      (shifted (purges_in (slice_get scope.routines number)) given status of) (at_slot status one)
       (among_each status (slots_after scope (op.Shift number) given.places of) one has)
   carries (op.Set v) status of one is has = absurd is
   carries (op.Routine number) status of one is has = absurd is

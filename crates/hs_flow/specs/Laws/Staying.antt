@@ -85,9 +85,11 @@ slots_stay scope op.Turn depth of leaves is = among_slot (is_below (depth - take
 slots_stay scope op.Mark depth of leaves is = among_slot (is_below (depth - taken scope op.Mark) of) of is
 slots_stay scope (op.Pick target) depth of leaves is = among_slot (is_below (depth - taken scope (op.Pick target)) of) of is
 slots_stay scope (op.Get v) depth of leaves is =
-    among_left (below depth of) (slot_if (is_variable v of) (slot.Place depth)) of (among_slot (is_below depth of) of (is_below_more (depth - 0) depth of (omega (arith)) is))
+    among_left (below depth of) (slot_if (is_variable v of) (slot.Place depth)) of
+    (among_slot (is_below depth of) of (is_below_more (depth - 0) depth of (omega (arith)) is))
 slots_stay scope op.Dup depth of leaves is =
-    among_left (below depth of) (slot_if (is_place (depth - 1) of) (slot.Place depth)) of (among_slot (is_below depth of) of (is_below_more (depth - 0) depth of (omega (arith)) is))
+    among_left (below depth of) (slot_if (is_place (depth - 1) of) (slot.Place depth)) of
+    (among_slot (is_below depth of) of (is_below_more (depth - 0) depth of (omega (arith)) is))
 slots_stay scope (op.Load (access.Pointer class)) depth of leaves is =
     among_left (below (depth - 1) of) (slot_if (is_class class of) (slot.Place (depth - 1))) of (among_slot (is_below (depth - 1) of) of is)
 slots_stay scope (op.Load (access.Number kind)) depth of leaves is = among_slot (is_below (depth - 1) of) of is

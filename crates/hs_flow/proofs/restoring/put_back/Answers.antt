@@ -22,7 +22,8 @@ returns-clause-facts g c =
     let first : c.put_globals.new.into.facts ≡ c.args.into.now.facts ++ purgeable_of given argument (pointer_globals types 0 globals) = search rules in
     let second : c.put_locals.new.into.facts ≡ c.put_globals.new.into.facts ++ purgeable_of given argument (pointer_locals types 0 locals) = search rules in
     let third : c.put_places.new.into.facts ≡ c.put_locals.new.into.facts ++ purgeable_of given argument (places_below c.args.base) = search rules in
-    let fourth : c.put_classes.new.into.facts ≡ c.put_places.new.into.facts ++ purgeable_of given argument (classes_below (length c.args.code.now.classes.items)) = search rules in
+    let fourth : c.put_classes.new.into.facts
+    ≡ c.put_places.new.into.facts ++ purgeable_of given argument (classes_below (length c.args.code.now.classes.items)) = search rules in
     all_put given argument c.args.into.now.facts c.put_globals.new.into.facts c.put_locals.new.into.facts c.put_places.new.into.facts
     c.put_classes.new.into.facts (pointer_globals types 0 globals) (pointer_locals types 0 locals) (places_below c.args.base)
     (classes_below (length c.args.code.now.classes.items)) first second third fourth
