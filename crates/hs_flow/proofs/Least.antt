@@ -1,7 +1,7 @@
 -- The least name, one name after the other.
 --     least_here       the name of that number passes the test
 --     least_on         it does not
-use Rattle.std.proofs.Common.{◌≡◌, ◌<◌, ℕ, suc, ◌+◌, Bool, true, false, List, ◌∷◌, length, drop, get_or, if◌then◌else◌, Some, ap, sym, ◌∙◌, arith, refl, subst}
+use Rattle.std.proofs.Common.{◌≡◌, ◌<◌, ℕ, suc, ◌+◌, Bool, true, false, List, length, drop, if◌then◌else◌, Some, ap, sym, ◌∙◌, arith}
 use Rattle.std.proofs.lemmas.List.{drop_more}
 use Rattle.hs_flow.specs.Given.{least_from}
 use Rattle.hs_tree.specs.declared.head.Variable.{Variable}

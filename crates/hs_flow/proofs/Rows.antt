@@ -10,7 +10,6 @@ use Rattle.hs_code.specs.Stacks.{Scope}
 use Rattle.hs_code.specs.declared.op.Access.TheVariants as access
 use Rattle.hs_code.specs.declared.op.Op.{Op}
 use Rattle.hs_code.specs.declared.op.Op.TheVariants as op
-use Rattle.hs_facts.specs.Effects.{WholeCode}
 use Rattle.hs_facts.specs.Names.{taken}
 use Rattle.hs_flow.specs.Calls.{Callee, over_of, enter_of, leave_of}
 use Rattle.hs_flow.specs.Given.{Given}

@@ -5,7 +5,6 @@
 use Rattle.std.proofs.Common.{◌≡◌, ◌⊎◌, inl, inr, refl, ap, Bool, true, false, List, [], ◌∷◌, ◌++◌, subst, sym}
 use Rattle.hs_flow.specs.Next.{at_slot, at_each, also_if}
 use Rattle.hs_flow.specs.Slots.{slot_if}
-use Rattle.hs_flow.specs.declared.fact.Fact.{Fact}
 use Rattle.hs_flow.specs.declared.fact.FactStatus.{FactStatus}
 use Rattle.hs_flow.specs.declared.fact.Slot.{Slot}
 

@@ -7,7 +7,7 @@
 --     is_name_locked given slot       a name of the slot is locked
 --     least_name given place          the least name of a place
 -- A place has the names whose value it is known to have. A variable has itself, if it is a name. No other slot has a name.
-use Rattle.std.specs.Prelude.{ℕ, suc, Bool, true, false, ◌&&◌, ◌||◌, List, [], ◌∷◌, Option, Some, None, if◌then◌else◌}
+use Rattle.std.specs.Prelude.{ℕ, suc, Bool, false, ◌&&◌, ◌||◌, List, [], ◌∷◌, Option, Some, None, if◌then◌else◌}
 use Rattle.hs_facts.specs.Names.{same_variable}
 use Rattle.hs_flow.specs.declared.fact.Slot.{Slot}
 use Rattle.hs_flow.specs.declared.fact.Slot.TheVariants as slot

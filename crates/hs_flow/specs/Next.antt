@@ -11,7 +11,7 @@
 --     next_of scope classes given op fact       the facts after the operation, if the program has so many classes
 -- A rule is a function of the status and the slot. A fact comes again at each slot where its value is (`slots_after`), and beside that come those of
 -- the rules. A struct on the stack has no facts of its own: what it has is known by the classes of its pointers.
-use Rattle.std.specs.Prelude.{ℕ, suc, ◌-◌, ◌==◌, Bool, true, false, not, ◌&&◌, List, [], ◌∷◌, ◌++◌, map, slice_get, Option, Some, None, if◌then◌else◌}
+use Rattle.std.specs.Prelude.{ℕ, suc, ◌-◌, Bool, true, false, not, ◌&&◌, List, [], ◌∷◌, ◌++◌, map, slice_get, Option, Some, None, if◌then◌else◌}
 use Rattle.hs_code.specs.Stacks.{Scope}
 use Rattle.hs_code.specs.declared.op.Access.TheVariants as access
 use Rattle.hs_code.specs.declared.op.Op.{Op}
@@ -19,7 +19,7 @@ use Rattle.hs_code.specs.declared.op.Op.TheVariants as op
 use Rattle.hs_facts.specs.Names.{same_variable, taken, role_at, makes_handle}
 use Rattle.hs_flow.specs.Given.{Given, apart, share_name, is_name_locked, least_name}
 use Rattle.hs_flow.specs.Restorable.{purgeable_of, restorable}
-use Rattle.hs_flow.specs.Slots.{is_below, is_place, below, slots_after}
+use Rattle.hs_flow.specs.Slots.{is_below, is_place, slots_after}
 use Rattle.hs_flow.specs.declared.fact.Fact.{Fact}
 use Rattle.hs_flow.specs.declared.fact.FactStatus.{FactStatus}
 use Rattle.hs_flow.specs.declared.fact.FactStatus.TheVariants as status

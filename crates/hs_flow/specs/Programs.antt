@@ -24,7 +24,7 @@ use Rattle.hs_rows.specs.Sets.{has, width}
 use Rattle.hs_tree.specs.Classes.{is_slot}
 use Rattle.hs_tree.specs.Kinds.{is_pointer}
 use Rattle.hs_tree.specs.Representatives.{type_for}
-use Rattle.hs_tree.specs.Trees.{TypedFunction, TypedProgram}
+use Rattle.hs_tree.specs.Trees.{TypedFunction}
 use Rattle.hs_tree.specs.contracts.class.ClassPartialEq.TheImpl as class_eq
 use Rattle.hs_tree.specs.declared.class.Class.{Class}
 use Rattle.hs_tree.specs.declared.class.Class.TheVariants as class

@@ -3,7 +3,7 @@
 --     places_below, classes_below            the places and the classes
 --     restorable scope classes base          the slots of pointers: variables of the program and of the function, places below the arguments, classes
 --     purgeable_of given argument slots      those that are not apart from the argument may have a handle of a purgeable block
-use Rattle.std.specs.Prelude.{ℕ, zero, suc, Bool, true, false, ◌&&◌, List, [], ◌∷◌, ◌++◌, if◌then◌else◌}
+use Rattle.std.specs.Prelude.{ℕ, zero, suc, Bool, ◌&&◌, List, [], ◌∷◌, ◌++◌, if◌then◌else◌}
 use Rattle.hs_code.specs.Stacks.{Scope}
 use Rattle.hs_flow.specs.Given.{Given, apart}
 use Rattle.hs_flow.specs.Slots.{slot_if}

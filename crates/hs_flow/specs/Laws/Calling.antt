@@ -4,18 +4,17 @@
 --     over_fresh_stale, over_held_stale, over_outer_stale, over_loose_stale      and to that of a pointer
 --     enter_stays, enter_held, enter_outer, enter_loose; entered_argument        what the function gets
 --     leave_stays, leave_fresh, leave_held, leave_outer; back_assigned, back_fresh, back_stays, back_held      and its caller
-use Rattle.std.proofs.Common.{◌≡◌, ◌<◌, ◌≤◌, ◌⊎◌, ℕ, ◌+◌, ◌-◌, nat_lt, Bool, true, false, not, ◌&&◌, inl, inr, refl, ap, sym, subst, ◌∙◌, arith, if◌then◌else◌, List, [], ◌∷◌, ◌++◌, length, slice_get, Option, Some, None}
+use Rattle.std.proofs.Common.{◌≡◌, ◌≤◌, ℕ, ◌-◌, nat_lt, true, false, not, ◌&&◌, inl, inr, refl, ap, sym, subst, ◌∙◌, arith, if◌then◌else◌, List, [], slice_get, Option, None}
 use Rattle.std.proofs.lemmas.Bool.Decides.{nat_tests}
 use Rattle.hs_flow.specs.Among.{Among, among_left, among_right, among_also}
 use Rattle.hs_flow.specs.Calls.{Callee, assigns_name, base_of, is_kept, is_slot_kept, fresh_or_loose, held_if, passed, goes_over, over_of, at_some, to_parameter, entered, enter_of, left, back, back_outer, leave_of}
-use Rattle.hs_flow.specs.Given.{Given, is_name_locked}
+use Rattle.hs_flow.specs.Given.{Given}
 use Rattle.hs_flow.specs.Next.{at_slot, also_if}
 use Rattle.hs_flow.specs.declared.fact.Fact.{Fact}
 use Rattle.hs_flow.specs.declared.fact.FactStatus.{FactStatus}
 use Rattle.hs_flow.specs.declared.fact.FactStatus.TheVariants as status
 use Rattle.hs_flow.specs.declared.fact.Slot.{Slot}
 use Rattle.hs_flow.specs.declared.fact.Slot.TheVariants as slot
-use Rattle.hs_tree.specs.declared.head.Variable.{Variable}
 
 -- ---- over
 

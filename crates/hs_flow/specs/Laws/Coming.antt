@@ -7,7 +7,7 @@
 --     shift_fresh, shift_outer, shift_loose, shift_purges
 --     routine_makes; routine_keeps, routine_unlocks, routine_marks, routine_purgeable; routine_reads, routine_restores
 --     return_answers, return_stays
-use Rattle.std.proofs.Common.{◌≡◌, ◌≢◌, ◌<◌, ◌≤◌, ◌⊎◌, ℕ, suc, ◌-◌, ◌==◌, nat_lt, nat_eq, Bool, true, false, not, ◌&&◌, inl, inr, refl, ap, sym, subst, ◌∙◌, arith, if◌then◌else◌, List, [], ◌∷◌, ◌++◌, map, slice_get, Option, Some, None}
+use Rattle.std.proofs.Common.{◌≡◌, ◌<◌, ◌≤◌, ℕ, suc, ◌-◌, Bool, true, false, not, ◌&&◌, inl, inr, refl, ap, sym, subst, ◌∙◌, arith, if◌then◌else◌, List, [], ◌∷◌, slice_get, Option}
 use Rattle.hs_code.specs.Stacks.{Scope}
 use Rattle.hs_code.specs.declared.op.Access.TheVariants as access
 use Rattle.hs_code.specs.declared.op.Op.{Op}
@@ -17,9 +17,9 @@ use Rattle.hs_flow.specs.Among.{Among, among_left, among_right, among_each, amon
 use Rattle.hs_flow.specs.Given.{Given, apart, share_name, is_name_locked, least_name}
 use Rattle.hs_flow.specs.Laws.Staying as slots
 use Rattle.hs_flow.specs.Laws.Staying.{LeavesSlots, IsShared, is_place_itself, is_variable_itself, is_class_itself}
-use Rattle.hs_flow.specs.Next.{next_of, carried, routine_next, kept, brought, at_slot, at_each, also_if, renamed, is_name_of, derived, loaded, stepped, pointer_place, is_of_pointers, shifted, purges_in, unlocks_by, marks_by, unmarks_by, reads_state, sets_state}
+use Rattle.hs_flow.specs.Next.{next_of, carried, kept, brought, at_slot, renamed, derived, loaded, stepped, pointer_place, is_of_pointers, shifted, purges_in, unlocks_by, marks_by, unmarks_by, reads_state, sets_state}
 use Rattle.hs_flow.specs.Restorable.{purgeable_at, purgeable_of, restorable}
-use Rattle.hs_flow.specs.Slots.{is_below, is_place, is_variable, is_class, slots_after}
+use Rattle.hs_flow.specs.Slots.{is_below, is_place, is_variable, slots_after}
 use Rattle.hs_flow.specs.declared.fact.Fact.{Fact}
 use Rattle.hs_flow.specs.declared.fact.FactStatus.{FactStatus}
 use Rattle.hs_flow.specs.declared.fact.FactStatus.TheVariants as status

@@ -3,7 +3,7 @@
 --     least_name_with, least_name_least          the least name of a place is a name of it, and the names before it are not
 --     no_name_with                               a place without a least name has no name
 --     restorable_global, restorable_local, restorable_place, restorable_class      each slot that may have a handle is there
-use Rattle.std.proofs.Common.{◌≡◌, ◌<◌, ◌≤◌, ◌⊎◌, ℕ, zero, suc, ◌+◌, ◌-◌, ◌||◌, ◌&&◌, Bool, true, false, inl, inr, refl, ap, sym, subst, ◌∙◌, arith, if◌then◌else◌, List, [], ◌∷◌, ◌++◌, length, slice_get, Option, Some, None}
+use Rattle.std.proofs.Common.{◌≡◌, ◌<◌, ◌≤◌, ◌⊎◌, ℕ, zero, suc, ◌+◌, ◌||◌, Bool, true, false, inl, inr, refl, ap, sym, subst, ◌∙◌, arith, if◌then◌else◌, List, [], ◌∷◌, ◌++◌, length, slice_get, Some, None}
 use Rattle.std.proofs.Math.Nat.{eq-or-lt_of_le}
 use Rattle.hs_code.specs.Stacks.{Scope}
 use Rattle.hs_flow.specs.Among.{Among, among_left, among_right, among_slot}

@@ -3,7 +3,7 @@
 --     parameter_there             the place of a parameter that is there
 --     parameters_taken            a call takes as many values as there are parameters
 --     object_class                an object of a pointer type goes to the class that an lvalue has which is the object
-use Rattle.std.proofs.Common.{◌≡◌, ℕ, zero, suc, ◌+◌, Bool, true, false, List, [], ◌∷◌, length, map, take, slice_get, Option, Some, None, if◌then◌else◌, ap, sym, subst, ◌∙◌, arith, refl}
+use Rattle.std.proofs.Common.{◌≡◌, ℕ, zero, suc, ◌+◌, Bool, true, false, List, [], ◌∷◌, length, map, take, slice_get, Option, Some, None, if◌then◌else◌, ap, sym, ◌∙◌, arith, refl}
 use Rattle.std.specs.List.{position}
 use Rattle.hs_code.specs.Codes.{signature_of}
 use Rattle.hs_code.specs.declared.op.Op.TheVariants as op
@@ -13,7 +13,7 @@ use Rattle.hs_flow.specs.Calls.{to_parameter}
 use Rattle.hs_flow.specs.Programs.{class_slot, object_slot, parameter_slot, parameter_slots, parameters_in, parameters_of, same_class, scope_at}
 use Rattle.hs_flow.specs.declared.fact.Slot.{Slot}
 use Rattle.hs_tree.specs.Classes.{class_of, class_of_pointer}
-use Rattle.hs_tree.specs.Fitting.{count_types, types_of}
+use Rattle.hs_tree.specs.Fitting.{count_types}
 use Rattle.hs_tree.specs.Kinds.{is_pointer}
 use Rattle.hs_tree.specs.Trees as tree
 use Rattle.hs_tree.specs.Trees.{TypedFunction}

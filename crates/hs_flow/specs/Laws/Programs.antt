@@ -2,15 +2,14 @@
 --     scope_there         the scope of a function that is there
 --     callee_does         the effects of the function that is called are those of the program
 --     callee_assigns      and so are the globals that it may assign
-use Rattle.std.proofs.Common.{◌≡◌, ◌<◌, ℕ, nat_lt, arith, Bool, true, ◌&&◌, length, map, slice_get, Option, Some, ap, sym, subst, ◌∙◌, refl}
+use Rattle.std.proofs.Common.{◌≡◌, ◌<◌, ℕ, nat_lt, arith, true, ◌&&◌, length, map, slice_get, Option, Some, ap, sym, subst}
 use Rattle.std.proofs.lemmas.Bool.Decides.{nat_tests}
 use Rattle.std.specs.Bool.{Decides}
 use Rattle.hs_code.specs.Codes.{scope_of, signature_of}
 use Rattle.hs_code.specs.Stacks.{Scope}
 use Rattle.hs_effects.specs.Answers.{Answers, IsExact}
 use Rattle.hs_facts.specs.Effects.{WholeCode, Assigns, Effect, HasEffect}
-use Rattle.hs_flow.specs.Calls.{Callee}
-use Rattle.hs_flow.specs.Programs.{scope_at, variables_in, result_in, callee_of, assigns_in, does}
+use Rattle.hs_flow.specs.Programs.{scope_at, variables_in, result_in, callee_of, does}
 use Rattle.hs_rows.specs.Sets.{has}
 use Rattle.hs_tree.specs.Trees.{TypedFunction}
 

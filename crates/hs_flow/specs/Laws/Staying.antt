@@ -1,13 +1,13 @@
 -- Facts that stay, and facts of copies: where the value of a slot is, there is the fact.
-use Rattle.std.proofs.Common.{◌≡◌, ◌≢◌, ◌<◌, ◌≤◌, ◌⊎◌, ℕ, suc, ◌-◌, ◌==◌, nat_lt, nat_eq, Bool, true, false, not, ◌&&◌, inl, inr, refl, ap, sym, subst, ◌∙◌, arith, if◌then◌else◌, List, [], ◌∷◌, ◌++◌, Option, Some, None}
+use Rattle.std.proofs.Common.{◌≡◌, ◌≢◌, ◌<◌, ◌≤◌, ℕ, ◌-◌, ◌==◌, nat_lt, true, false, inl, refl, sym, subst, arith, if◌then◌else◌, List, [], ◌∷◌, ◌++◌}
 use Rattle.std.proofs.lemmas.Bool.Decides.{nat_tests}
 use Rattle.hs_code.specs.Stacks.{Scope}
 use Rattle.hs_code.specs.declared.op.Access.TheVariants as access
 use Rattle.hs_code.specs.declared.op.Op.{Op}
 use Rattle.hs_code.specs.declared.op.Op.TheVariants as op
-use Rattle.hs_facts.specs.Names.{same_variable, taken}
-use Rattle.hs_flow.specs.Among.{Among, among_left, among_right, among_each, among_slot}
-use Rattle.hs_flow.specs.Slots.{is_below, is_place, is_variable, is_class, below, placed_at, brought_to, returned, slot_if, slots_after}
+use Rattle.hs_facts.specs.Names.{taken}
+use Rattle.hs_flow.specs.Among.{Among, among_left, among_right, among_slot}
+use Rattle.hs_flow.specs.Slots.{is_below, is_place, is_variable, is_class, below, placed_at, slot_if, slots_after}
 use Rattle.hs_flow.specs.declared.fact.Slot.{Slot}
 use Rattle.hs_flow.specs.declared.fact.Slot.TheVariants as slot
 use Rattle.hs_tree.specs.declared.head.Variable.{Variable}

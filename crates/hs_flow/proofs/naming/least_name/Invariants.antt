@@ -1,4 +1,4 @@
-use Rattle.std.proofs.Common.{◌≡◌, ◌&&◌, drop}
+use Rattle.std.proofs.Common.{◌≡◌, drop}
 use Rattle.hs_flow.specs.Given.{least_from}
 use Rattle.hs_flow.proofs.naming.least_name.Given as goal
 

@@ -1,4 +1,4 @@
-use Rattle.std.proofs.Common.{◌≡◌, ◌≤◌, ◌+◌, ◌++◌, drop, length}
+use Rattle.std.proofs.Common.{◌≡◌, ◌≤◌, ◌+◌, ◌++◌, length}
 use Rattle.hs_flow.specs.Restorable.{classes_below, purgeable_of}
 use Rattle.hs_flow.proofs.restoring.put_classes.Given as goal
 
