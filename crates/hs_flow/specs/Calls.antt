@@ -1,9 +1,10 @@
 -- The three kinds of steps of a fact at a call (own).
 --     Callee                                  what is known of the function that is called
---     over_of callee given fact               the facts at the next operation, beside the call
---     enter_of parameters given fact          the fact in the function
+--     over_of callee given fact               the facts at the next operation that go over the call
+--     enter_of parameters given fact          the fact at the start of the function
 --     leave_of callee given caller exit       the fact at the next operation, if the function returned with `exit`
--- A fact goes over a call if the function does not get its slot, and else through it. `caller` is the fact with which the call was entered.
+-- Arguments, and globals that the function may assign, go through the function alone. Classes and other globals go both ways, and locals and operands
+-- of the caller go over the call alone. `caller` is the fact with which the call was entered.
 use Rattle.std.specs.Prelude.{ℕ, ◌-◌, nat_lt, Bool, true, false, not, ◌&&◌, List, [], ◌∷◌, ◌++◌, length, slice_get, Option, Some, None, if◌then◌else◌}
 use Rattle.hs_flow.specs.Given.{Given, is_name_locked}
 use Rattle.hs_flow.specs.Next.{also_if, at_slot}

@@ -9,8 +9,8 @@
 --     routine_next scope classes given number base status slot      both
 --     carried scope op depth fact               the fact at each slot where its value is
 --     next_of scope classes given op fact       the facts after the operation, if the program has so many classes
--- A rule is a function of the status and the slot. A fact comes again at each slot where its value is (`slots_after`), and beside that come those of
--- the rules. A struct on the stack has no facts of its own: what it has is known by the classes of its pointers.
+-- A rule is a function of the status and the slot. A fact is there again at each slot where its value is (`slots_after`), and the rules add others.
+-- A struct on the stack has no facts of its own: its pointers are known by their classes.
 use Rattle.std.specs.Prelude.{ℕ, suc, ◌-◌, Bool, true, false, not, ◌&&◌, List, [], ◌∷◌, ◌++◌, map, slice_get, Option, Some, None, if◌then◌else◌}
 use Rattle.hs_code.specs.Stacks.{Scope}
 use Rattle.hs_code.specs.declared.op.Access.TheVariants as access
@@ -146,7 +146,7 @@ abbrev pub sets_state : Option Role → Bool
 sets_state (Some role.SetState) = true
 sets_state _ = false
 
--- the slot is no slot
+-- the fact is about control alone
 abbrev pub is_nothing : Slot → Bool
 is_nothing slot.Nothing = true
 is_nothing _ = false
