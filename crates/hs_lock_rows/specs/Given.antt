@@ -27,6 +27,30 @@ all i = true
 abbrev pub other : ℕ → Names
 other k i = not (i == k)
 
+-- ---- what stays, by parts
+
+-- What is about the places from the base on ends. Of the rest these locks stay, these names live, and what is about these names; what is about
+-- bytes of these slots; and that these places are new.
+pub record Stay : Type 0 where
+  pub base : ℕ
+  pub locks : Names
+  pub lives : Names
+  pub names : Names
+  pub slots : Names
+  pub news : Names
+
+abbrev pub stay_by : Stay → Field → ℕ → Bool
+stay_by stay (field.KeptIn slot) i = stay.slots slot && (stay.names i && stay.locks i)
+stay_by stay field.Locked i = stay.names i && stay.locks i
+stay_by stay field.Live i = stay.names i && stay.lives i
+stay_by stay (field.Apart name) i = stay.names name && stay.names i
+stay_by stay (field.KeptAt place) i = nat_lt place stay.base && (stay.names i && stay.locks i)
+stay_by stay (field.NewAt place) i = nat_lt place stay.base && stay.news place
+
+-- all that is below the base
+abbrev pub plain : ℕ → Stay
+plain base = record { base = base; locks = all; lives = all; names = all; slots = all; news = all }
+
 module _ (names : ℕ) (ends loses : ℕ → Names) (low : Facts) (facts : Locks) where
   -- ---- what holds before the operation, with so many values on the stack
 
@@ -59,28 +83,6 @@ module _ (names : ℕ) (ends loses : ℕ → Names) (low : Facts) (facts : Locks
   top_apart depth z = new_of depth (depth - 1) 0 || apart_of depth (depth - 1) z
 
   -- ---- what stays
-
-  -- What is about the places from the base on ends. Of the rest these locks stay, these names live, and what is about these names; what is about
-  -- bytes of these slots; and that these places are new.
-  pub record Stay : Type 0 where
-    pub base : ℕ
-    pub locks : Names
-    pub lives : Names
-    pub names : Names
-    pub slots : Names
-    pub news : Names
-
-  abbrev pub stay_by : Stay → Field → ℕ → Bool
-  stay_by stay (field.KeptIn slot) i = stay.slots slot && (stay.names i && stay.locks i)
-  stay_by stay field.Locked i = stay.names i && stay.locks i
-  stay_by stay field.Live i = stay.names i && stay.lives i
-  stay_by stay (field.Apart name) i = stay.names name && stay.names i
-  stay_by stay (field.KeptAt place) i = nat_lt place stay.base && (stay.names i && stay.locks i)
-  stay_by stay (field.NewAt place) i = nat_lt place stay.base && stay.news place
-
-  -- all that is below the base
-  abbrev pub plain : ℕ → Stay
-  plain base = record { base = base; locks = all; lives = all; names = all; slots = all; news = all }
 
   abbrev pub stay_of : Change → Stay
   stay_of (change.Pop base) = plain base

@@ -1,0 +1,4 @@
+pub mod Changing
+pub mod Given
+pub mod Laws
+pub mod Layout

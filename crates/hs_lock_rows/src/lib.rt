@@ -1,0 +1,9 @@
+//! Locks and what goes with them, by rows of bits, one row for each operation of a function. `specs/Layout.antt` numbers the facts, and
+//! `specs/Given.antt` says what each operation gives.
+#![tactic(auto)]
+
+mod change;
+mod field;
+
+pub use change::Change;
+pub use field::Field;
