@@ -24,13 +24,10 @@ fn assigns_to<C: Callees>(callees: &C, function: u32, variable: Variable) -> boo
     }
 }
 
-/// Whether a call of the function ends what is known of the variable of that number.
-pub(crate) fn is_gone<C: Callees>(
-    callees: &C,
-    function: u32,
-    list: &[Variable],
-    place: usize,
-) -> bool
+/// Returns whether a call of the function ends what is known of the variable of that number.
+///
+/// Example: false for a local, and for a number past the list.
+pub fn is_gone<C: Callees>(callees: &C, function: u32, list: &[Variable], place: usize) -> bool
     ensures { result ≡ gone (C.assigned callees.now function) list.now place }
 {
     match list.get(place) {

@@ -6,8 +6,10 @@ ghost use Rattle.hs_fact_rows.specs.Fields.{Writes};
 
 use hs_rows::Rows;
 
-/// The names of a field, as the bits of a word.
-pub(crate) fn field(rows: &Rows, row: usize, first: usize, names: usize) -> u64
+/// Returns the names of a field, as the bits of a word.
+///
+/// Example: 6 for the field of three names that begins at the number 30, if the row has 31 and 32, and not 30.
+pub fn field(rows: &Rows, row: usize, first: usize, names: usize) -> u64
     requires row_in_range { row < rows.now.count }
     requires bits_in_range { first + names ≤ width rows.now }
     requires bits_fit { first + names < 2 ^ 64 }
@@ -33,7 +35,9 @@ fn with_bit(word: u64, i: usize, is: bool) -> u64
 }
 
 /// Puts the names of a word into a field.
-pub(crate) fn write(rows: &mut Rows, row: usize, first: usize, names: usize, word: u64)
+///
+/// Example: the word 6 leaves a field of three names without its first one, and with the other two.
+pub fn write(rows: &mut Rows, row: usize, first: usize, names: usize, word: u64)
     requires row_in_range { row < rows.old.count }
     requires bits_in_range { first + names ≤ width rows.old }
     requires bits_fit { first + names < 2 ^ 64 }
@@ -49,8 +53,10 @@ pub(crate) fn write(rows: &mut Rows, row: usize, first: usize, names: usize, wor
     }
 }
 
-/// Removes all numbers from one on, up to another one.
-pub(crate) fn clear(rows: &mut Rows, row: usize, first: usize, count: usize)
+/// Removes so many numbers from a row, from one on.
+///
+/// Example: `clear(rows, 0, 30, 2)` removes 30 and 31 from row 0.
+pub fn clear(rows: &mut Rows, row: usize, first: usize, count: usize)
     requires row_in_range { row < rows.old.count }
     requires bits_in_range { first + count ≤ width rows.old }
     requires bits_fit { first + count < 2 ^ 64 }

@@ -111,9 +111,11 @@ pub(crate) fn end_name(rows: &mut Rows, plan: Plan, row: usize, name: usize)
     }
 }
 
-/// The names of a place, if there are so many values.
+/// Returns the names of a place, if there are so many values.
+///
+/// Example: 0 for a place that is not below the depth.
 #[tactic(auto, using(crate::proofs::Turning::less_is, crate::proofs::Turning::least_is, crate::proofs::Writing::none_read))]
-pub(crate) fn with_at(rows: &Rows, plan: Plan, row: usize, depth: usize, place: usize) -> u64
+pub fn with_at(rows: &Rows, plan: Plan, row: usize, depth: usize, place: usize) -> u64
     requires fit { IsFit plan rows.now row }
     requires depth_in_range { depth ≤ plan.places }
     ensures names { (i : ℕ) → i < plan.names → bit_in result i ≡ with_of (facts_in plan rows.now row) depth place i }
@@ -126,9 +128,11 @@ pub(crate) fn with_at(rows: &Rows, plan: Plan, row: usize, depth: usize, place: 
     }
 }
 
-/// The names of the byte of a place, if there are so many values.
+/// Returns the names of the byte of a place, if there are so many values.
+///
+/// Example: 0 for a place that is not below the depth.
 #[tactic(auto, using(crate::proofs::Turning::less_is, crate::proofs::Turning::least_is, crate::proofs::Writing::none_read))]
-pub(crate) fn saved_at(rows: &Rows, plan: Plan, row: usize, depth: usize, place: usize) -> u64
+pub fn saved_at(rows: &Rows, plan: Plan, row: usize, depth: usize, place: usize) -> u64
     requires fit { IsFit plan rows.now row }
     requires depth_in_range { depth ≤ plan.places }
     ensures names { (i : ℕ) → i < plan.names → bit_in result i ≡ saved_of (facts_in plan rows.now row) depth place i }
@@ -141,8 +145,10 @@ pub(crate) fn saved_at(rows: &Rows, plan: Plan, row: usize, depth: usize, place:
     }
 }
 
-/// The names of the byte of a slot.
-pub(crate) fn saved_in(rows: &Rows, plan: Plan, row: usize, slot: usize) -> u64
+/// Returns the names of the byte of a slot.
+///
+/// Example: 1 if the byte was read from the handle in the name 0 alone.
+pub fn saved_in(rows: &Rows, plan: Plan, row: usize, slot: usize) -> u64
     requires fit { IsFit plan rows.now row }
     requires there { slot ≤ plan.slots }
     ensures names { (i : ℕ) → i < plan.names → bit_in result i ≡ facts_in plan rows.now row (saved_in slot i) }

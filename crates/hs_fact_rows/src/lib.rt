@@ -10,8 +10,9 @@ mod solving;
 mod step;
 mod steps;
 
-pub use callees::Callees;
-pub use giving::shares;
+pub use callees::{Callees, is_gone};
+pub use fields::{clear, field, write};
+pub use giving::{saved_at, saved_in, shares, with_at};
 pub use plan::Plan;
 pub use solving::{Job, solve};
 pub use step::Step;

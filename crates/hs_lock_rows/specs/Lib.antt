@@ -2,3 +2,4 @@ pub mod Changing
 pub mod Given
 pub mod Laws
 pub mod Layout
+pub mod Making

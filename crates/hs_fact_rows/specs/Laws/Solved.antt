@@ -2,6 +2,7 @@
 --     IsOf scope task            the task is that of the code in its scope
 --     Holds-solved               such a fact holds if its row has it
 --     solved-Holds               and it has it, if it holds
+--     Round-solved, agrees       it has what holds in some round, and each operation gives it
 --     shared_Holds, Holds-shared     what `shares` tests is that of a restore
 use Rattle.std.proofs.Common.{◌≡◌, ◌≢◌, ◌<◌, ◌≤◌, ℕ, nat_lt, true, sym, subst, ◌∙◌, refl, arith, length, slice_get, Option, Some, None, get_or}
 use Rattle.std.proofs.lemmas.Option.{slice_get_within, slice_get-get_or}
@@ -20,7 +21,7 @@ use Rattle.hs_facts.specs.Changes.{Gives}
 use Rattle.hs_facts.specs.Laws.Rows.{Bounds, IsCut, Agrees, Bounds-cut, rows-Holds, Holds-rows}
 use Rattle.hs_facts.specs.MustFacts.{MustFact, on_stack, in_slot, With, Saved, Kept, Locked, Live, Distinct, New, Exists}
 use Rattle.hs_facts.specs.Names.{is_name}
-use Rattle.hs_facts.specs.Rounds.{ExistsAt, Holds}
+use Rattle.hs_facts.specs.Rounds.{ExistsAt, Holds, HoldsIn}
 use Rattle.hs_rows.specs.Sets.{Sets}
 use Rattle.hs_tree.specs.declared.head.Variable.{Variable}
 use Rattle.hs_tree.specs.declared.head.Variable.TheVariants as name
@@ -68,7 +69,7 @@ module _ (scope : Scope) (task : Task) (of : IsOf scope task) where
   -- ---- rows as facts
 
   -- what may hold, and is in the row if it is With or Saved
-  abbrev Rows : Sets → ℕ → MustFact → Type 0
+  abbrev pub Rows : Sets → ℕ → MustFact → Type 0
   Rows sets at fact = ExistsAt scope task.code at fact × (at ≢ 0) × (IsTracked task.names fact → facts_at task sets at (cell_of task.names task.slots fact) ≡ true)
 
   -- none before the first operation
@@ -164,11 +165,16 @@ module _ (scope : Scope) (task : Task) (of : IsOf scope task) where
         → facts_at task sets at (cell_of task.names task.slots fact) ≡ true
     Holds-solved at fact is h = (Holds-rows scope task.code (impact_by task.assigned) (Rows sets) stand.bounds at fact h).2 is
 
+    -- what holds in some round is in the row
+    pub Round-solved : (round : ℕ) × ((at : ℕ) (fact : MustFact) → IsTracked task.names fact
+        → HoldsIn scope task.code (impact_by task.assigned) round at fact → facts_at task sets at (cell_of task.names task.slots fact) ≡ true)
+    Round-solved = (stand.bounds.round, λ at fact is h. (stand.bounds.above at fact h).2 is)
+
     -- the rows of With and Saved alone
-    abbrev ByteRows : ℕ → MustFact → Type 0
+    abbrev pub ByteRows : ℕ → MustFact → Type 0
     ByteRows at fact = IsTracked task.names fact × Rows sets at fact
 
-    agrees : Agrees scope task.code (impact_by task.assigned) ByteRows
+    pub agrees : Agrees scope task.code (impact_by task.assigned) ByteRows
     agrees from at its fact there next r =
         let is = r.0 in
         let e = r.1.0 in
