@@ -4,6 +4,9 @@
 
 mod change;
 mod field;
+mod knowing;
+mod layout;
+mod words;
 
 pub use change::Change;
 pub use field::Field;

@@ -37,7 +37,7 @@ use Rattle.hs_tree.specs.declared.head.Variable.{Variable}
 -- ---- numbers
 
 module _ (plan : Plan) where
-  field_under : (its : Field) → IsField plan its → field_number plan its < fields plan
+  pub field_under : (its : Field) → IsField plan its → field_number plan its < fields plan
   field_under (field.KeptIn slot) h = omega arith
   field_under field.Locked h = omega arith
   field_under field.Live h = omega arith

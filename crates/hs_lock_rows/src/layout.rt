@@ -1,0 +1,108 @@
+//! Where the fields of a row are.
+
+ghost use Rattle.std.specs.Prelude.{◌≡◌, ◌<◌, ◌≤◌, ◌+◌, ◌*◌, ◌^◌, ℕ, false};
+ghost use Rattle.hs_lock_rows.specs.Given.{Locks};
+ghost use Rattle.hs_lock_rows.specs.Knowing.{HasRoom};
+ghost use Rattle.hs_lock_rows.specs.Layout.{IsField, field_number, fields, fixed, total};
+ghost use Rattle.hs_lock_rows.specs.Making.{Shows};
+ghost use Rattle.hs_rows.specs.Sets.{bit_in, has};
+
+use crate::Field;
+use hs_fact_rows::{Plan, field};
+use hs_rows::Rows;
+
+/// How many fields are in front of those of places.
+fn fixed(plan: Plan) -> usize
+    requires fields_fit { fields plan < 2 ^ 64 }
+    ensures { result ≡ fixed plan }
+{
+    plan.slots + plan.names + 3
+}
+
+/// How many fields there are.
+pub(crate) fn fields(plan: Plan) -> usize
+    requires fields_fit { fields plan < 2 ^ 64 }
+    ensures { result ≡ fields plan }
+{
+    fixed(plan) + 2 * plan.places
+}
+
+/// How many numbers the facts of a row have.
+pub(crate) fn total(plan: Plan) -> usize
+    requires fields_fit { fields plan < 2 ^ 64 }
+    requires numbers_fit { total plan < 2 ^ 64 }
+    ensures { result ≡ total plan }
+{
+    fields(plan) * plan.names
+}
+
+/// The number of a field.
+pub(crate) fn field_number(plan: Plan, field: Field) -> usize
+    requires there { IsField plan field }
+    requires fields_fit { fields plan < 2 ^ 64 }
+    ensures { result ≡ field_number plan field }
+{
+    match field {
+        Field::KeptIn(slot) => slot,
+        Field::Locked => plan.slots + 1,
+        Field::Live => plan.slots + 2,
+        Field::Apart(name) => plan.slots + name + 3,
+        Field::KeptAt(place) => fixed(plan) + 2 * place,
+        Field::NewAt(place) => fixed(plan) + 2 * place + 1,
+    }
+}
+
+/// The field of a number.
+pub(crate) fn field_at(plan: Plan, number: usize) -> Field
+    requires within { number < fields plan }
+    requires fields_fit { fields plan < 2 ^ 64 }
+    ensures is { field_number plan result ≡ number }
+    ensures there { IsField plan result }
+{
+    if number <= plan.slots {
+        return Field::KeptIn(number);
+    }
+    if number == plan.slots + 1 {
+        return Field::Locked;
+    }
+    if number == plan.slots + 2 {
+        return Field::Live;
+    }
+    if number < fixed(plan) {
+        return Field::Apart(number - plan.slots - 3);
+    }
+    place_field(number - fixed(plan))
+}
+
+/// A field of a place, by its number among those.
+fn place_field(number: usize) -> Field
+    ensures { (plan : Plan) → number < 2 * plan.places → (field_number plan result ≡ fixed plan + number) × IsField plan result }
+{
+    if number % 2 == 0 {
+        Field::KeptAt(number / 2)
+    } else {
+        Field::NewAt(number / 2)
+    }
+}
+
+/// The first number of a field.
+#[tactic(auto, using(crate::proofs::Numbering::first_in))]
+pub(crate) fn first(plan: Plan, field: Field) -> usize
+    requires there { IsField plan field }
+    requires fields_fit { fields plan < 2 ^ 64 }
+    requires numbers_fit { total plan < 2 ^ 64 }
+    ensures is { result ≡ field_number plan field * plan.names }
+    ensures inside { result + plan.names ≤ total plan }
+{
+    field_number(plan, field) * plan.names
+}
+
+/// The names of a field, as the bits of a word.
+pub(crate) fn read(rows: &Rows, plan: Plan, row: usize, its: Field) -> u64
+    requires there { IsField plan its }
+    requires room { HasRoom plan rows.now row }
+    ensures names { (facts : Locks) → Shows plan (has rows.now row) facts → (i : ℕ) → i < plan.names → bit_in result i ≡ facts its i }
+    ensures few { (i : ℕ) → plan.names ≤ i → bit_in result i ≡ false }
+{
+    field(rows, row, first(plan, its), plan.names)
+}
