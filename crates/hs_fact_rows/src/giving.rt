@@ -152,6 +152,7 @@ pub fn saved_in(rows: &Rows, plan: Plan, row: usize, slot: usize) -> u64
     requires fit { IsFit plan rows.now row }
     requires there { slot ≤ plan.slots }
     ensures names { (i : ℕ) → i < plan.names → bit_in result i ≡ facts_in plan rows.now row (saved_in slot i) }
+    ensures few { (i : ℕ) → plan.names ≤ i → bit_in result i ≡ false }
 {
     field(rows, row, slot_first(plan, slot), plan.names)
 }

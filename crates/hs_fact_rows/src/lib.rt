@@ -16,4 +16,4 @@ pub use giving::{saved_at, saved_in, shares, with_at};
 pub use plan::Plan;
 pub use solving::{Job, solve};
 pub use step::Step;
-pub use steps::Lists;
+pub use steps::{Lists, one};

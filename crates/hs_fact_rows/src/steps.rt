@@ -29,9 +29,11 @@ pub struct Lists<'a> {
     pub slots: &'a [Variable],
 }
 
-/// The word with that bit alone, if it has one.
+/// Returns the word with that bit alone, if it has one.
+///
+/// Example: 4 for the bit 2, and 0 for the bit 64.
 #[tactic(auto, using(crate::proofs::Writing::one_bit))]
-fn one(bit: usize) -> u64
+pub fn one(bit: usize) -> u64
     ensures { (i : ℕ) → i < 64 → bit_in result i ≡ (i == bit) }
 {
     if bit < 64 { 1 << bit } else { 0 }

@@ -57,16 +57,6 @@ same_is n = grind (arith, nat_tests)
 other_is : (a b : ℕ) → a ≢ b → (a == b) ≡ false
 other_is a b h = grind (arith, nat_tests)
 
-pub one_bit : (bit i : ℕ) → bit < 64 → bit_in (1 * 2 ^ bit % 2 ^ 64) i ≡ (i == bit)
-one_bit bit i within = rw (one_shl bit 64 within) (by_place (cases_eq i bit))
-  where
-    by_place : (i ≡ bit) ⊎ (i ≡ bit → ⊥) → bit_in (2 ^ bit) i ≡ (i == bit)
-    by_place (inl e) = ap (λ n. n == 1) (ap (bit_at (2 ^ bit)) e ∙ bit_at-pow_same bit) ∙ sym (ap (λ n. n == bit) e ∙ same_is bit)
-    by_place (inr ne) = ap (λ n. n == 1) (bit_at-pow_other bit i ne) ∙ sym (other_is i bit ne)
-
-pub no_bit : (bit i : ℕ) → 64 ≤ bit → i < 64 → bit_in 0 i ≡ (i == bit)
-no_bit bit i far within = none_in i ∙ sym (other_is i bit (omega arith))
-
 pub not_one : (word bit i : ℕ) → word < 2 ^ 64 → i < 64 → bit_in word i ≡ (i == bit) → bit_in (bit_not w64 word) i ≡ other bit i
 not_one word bit i fits within is = in_not word i fits within ∙ ap not is
 
@@ -114,6 +104,10 @@ any_same (suc n) f g same =
 pub and_none : (a : Bool) → (a && false) ≡ false
 and_none true = refl
 and_none false = refl
+
+pub and_all : (a : Bool) → (a && true) ≡ a
+and_all true = refl
+and_all false = refl
 
 -- that a name is another one does not depend on which is asked
 pub other_turned : (x y : ℕ) → other x y ≡ other y x

@@ -51,6 +51,13 @@ stay_by stay (field.NewAt place) i = nat_lt place stay.base && stay.news place
 abbrev pub plain : ℕ → Stay
 plain base = record { base = base; locks = all; lives = all; names = all; slots = all; news = all }
 
+-- ---- what comes, by places
+
+-- a place below the top gets the value above it, and the top that of the base
+abbrev pub brought : ℕ → ℕ → (ℕ → Bool) → ℕ → Bool
+brought depth base its place =
+    ((place == depth - 1) && its base) || (nat_le base place && (nat_lt (suc place) depth && its (suc place)))
+
 module _ (names : ℕ) (ends loses : ℕ → Names) (low : Facts) (facts : Locks) where
   -- ---- what holds before the operation, with so many values on the stack
 
@@ -130,11 +137,6 @@ module _ (names : ℕ) (ends loses : ℕ → Names) (low : Facts) (facts : Locks
   kept_in_comes (change.SetSlot depth slot) at i = (at == slot) && kept_of depth (depth - 1) i
   kept_in_comes (change.Lock depth base) at i = with_of low depth base i && guarded depth base (λ z. low (saved_in at z))
   kept_in_comes _ at i = false
-
-  -- a place below the top gets the value above it, and the top that of the base
-  abbrev pub brought : ℕ → ℕ → (ℕ → Bool) → ℕ → Bool
-  brought depth base its place =
-      ((place == depth - 1) && its base) || (nat_le base place && (nat_lt (suc place) depth && its (suc place)))
 
   -- the bytes of places
   abbrev pub kept_at_comes : Change → ℕ → Names

@@ -1,6 +1,7 @@
 -- The rows that an operation makes (own).
 --     ends_by, loses_by          the names and the slots that a call of a function ends
 --     makes ..                   a row has exactly the facts that are given by the change of the operation
+--     IsMade ..                  the same of a row that is written, which leaves all others
 use Rattle.std.specs.Prelude.{◌≡◌, ◌<◌, ℕ, Bool, List, slice_get, Some}
 use Rattle.hs_fact_rows.specs.Given.{Names, facts_in, gone}
 use Rattle.hs_fact_rows.specs.declared.plan.Plan.{Plan}
@@ -8,7 +9,7 @@ use Rattle.hs_lock_rows.specs.Given.{Locks, given}
 use Rattle.hs_lock_rows.specs.Layout.{IsField, number}
 use Rattle.hs_lock_rows.specs.declared.change.Change.{Change}
 use Rattle.hs_lock_rows.specs.declared.field.Field.{Field}
-use Rattle.hs_rows.specs.Sets.{Sets, has}
+use Rattle.hs_rows.specs.Sets.{Sets, has, KeepsRows, SameSize}
 use Rattle.hs_tree.specs.declared.head.Variable.{Variable}
 
 -- by what each function assigns
@@ -34,3 +35,10 @@ module _ (plan : Plan) (names slots : List Variable) (assigned : ℕ → ℕ →
   makes changes at row made =
       (its : Change) → slice_get changes at ≡ Some its → (field : Field) (i : ℕ) → IsField plan field → i < plan.names
       → made (number plan field i) ≡ given_at at its (locks_in plan row) field i
+
+  -- a row is made by a change from that of an operation
+  pub record IsMade (at to : ℕ) (its : Change) (old new : Sets) : Type 0 where
+    pub made : (facts : Locks) → Shows plan (has old at) facts → (field : Field) (i : ℕ) → IsField plan field → i < plan.names
+        → has new to (number plan field i) ≡ given_at at its facts field i
+    pub others : KeepsRows to old new
+    pub size : SameSize old new

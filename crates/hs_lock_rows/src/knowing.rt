@@ -241,7 +241,8 @@ pub(crate) fn known_at<C: Callees>(
     requires point { IsPoint point.plan point.low.now rows.now point.at }
     requires fits { FitsChange point.plan change }
     requires names { length names.now ≡ point.plan.names }
-    ensures { (slots : List Variable) (facts : Locks) → Shows point.entry.plan (has rows.now point.entry.at) facts
+    ensures few { (i : ℕ) → point.entry.plan.names ≤ i → bit_in result.with i ≡ false }
+    ensures known { (slots : List Variable) (facts : Locks) → Shows point.entry.plan (has rows.now point.entry.at) facts
         → IsKnown point.entry.plan names.now slots (C.assigned callees.now) point.entry.low.now point.entry.at facts change result }
 {
     let (depth, place) = argument(change);

@@ -3,9 +3,12 @@
 #![tactic(auto)]
 
 mod change;
+mod coming;
 mod field;
 mod knowing;
 mod layout;
+mod making;
+mod staying;
 mod words;
 
 pub use change::Change;

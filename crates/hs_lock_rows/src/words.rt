@@ -4,6 +4,8 @@ ghost use Rattle.std.specs.Prelude.{◌≡◌, ◌≢◌, ◌<◌, ◌≤◌, �
 ghost use Rattle.hs_lock_rows.specs.Given.{any, other};
 ghost use Rattle.hs_rows.specs.Sets.{bit_in};
 
+use hs_fact_rows::one;
+
 /// Whether the word has a bit.
 #[tactic(auto, using(crate::proofs::Bits::has_read))]
 pub(crate) fn has_bit(word: u64, bit: usize) -> bool
@@ -43,14 +45,6 @@ pub(crate) fn all_if(is: bool) -> u64
     ensures { (i : ℕ) → i < 64 → bit_in result i ≡ is }
 {
     if is { u64::MAX } else { 0 }
-}
-
-/// The word with that bit alone, if it has one.
-#[tactic(auto, using(crate::proofs::Bits::one_bit, crate::proofs::Bits::no_bit))]
-pub(crate) fn one(bit: usize) -> u64
-    ensures { (i : ℕ) → i < 64 → bit_in result i ≡ (i == bit) }
-{
-    if bit < 64 { 1 << bit } else { 0 }
 }
 
 /// The word without that bit.

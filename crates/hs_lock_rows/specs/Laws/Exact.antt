@@ -555,7 +555,7 @@ module _ (scope : Scope) (code : FunctionCode) (names slots : List Variable) (as
 
   -- the value of a place, by what is true of the values before
   brought_test : (base p : ℕ) (its : ℕ → Bool) (P : ℕ → Type 0) → ((from : ℕ) → Tests (its from) (P from))
-      → Tests (numeric.brought (length names) (λ f. gone (assigned f) names) (λ f. gone (assigned f) slots) low T depth base its p)
+      → Tests (numeric.brought depth base its p)
       (((p ≡ depth - 1) × P base) ⊎ ((at : ℕ) × (base ≤ at) × (suc at < depth) × ((p ≡ at) × P (suc at))))
   brought_test base p its P tests =
       or_test ((p == depth - 1) && its base) (nat_le base p && (nat_lt (suc p) depth && its (suc p))) ((p ≡ depth - 1) × P base)

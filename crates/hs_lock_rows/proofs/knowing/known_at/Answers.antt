@@ -7,8 +7,8 @@ use Rattle.hs_lock_rows.specs.declared.field.Field.TheVariants as field
 use Rattle.hs_rows.specs.Sets.{bit_in}
 use Rattle.hs_lock_rows.proofs.knowing.known_at.Goals as goal
 
-pub returns : goal.returns
-returns g c slots facts shows =
+pub returns-clause-known : goal.returns-clause-known
+returns-clause-known g c slots facts shows =
     let n = c.args.point.plan.names in
     let low = facts_in c.args.point.plan c.args.point.low.now c.args.point.at in
     let with = rw c.argument-depth.ensures at c.with_at-with.ensures.names in
