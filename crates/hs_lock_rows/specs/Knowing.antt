@@ -4,6 +4,7 @@
 --     argument_of change             how many values there are before it, and the place of the handle that it is about
 --     IsPoint ..                     the rows before an operation have room
 --     IsKnown ..                     the words are those of a change
+use Rattle.std.proofs.Props.{props}
 use Rattle.std.specs.Prelude.{◌≡◌, ◌<◌, ◌≤◌, ◌^◌, ℕ, ◌-◌, Bool, true, false, List, length}
 use Rattle.hs_fact_rows.specs.Given.{Facts, Names, IsFit, facts_in, with_of}
 use Rattle.hs_fact_rows.specs.declared.plan.Plan.{Plan}
@@ -88,3 +89,31 @@ module _ (plan : Plan) (names slots : List Variable) (assigned : ℕ → ℕ →
     pub lives : (i : ℕ) → i < plan.names → bit_in known.lives i ≡ (stay_at its).lives i
     pub names_stay : (i : ℕ) → i < plan.names → bit_in known.names i ≡ (stay_at its).names i
     pub new : known.new ≡ new_at (argument_of its).0 (argument_of its).1 0
+
+-- that the numbers fit is a fact
+at_most : (a b : ℕ) → IsProp (a ≤ b)
+at_most a b = hlevel props
+
+both_at_most : (a b c d : ℕ) → IsProp ((a ≤ b) × (c ≤ d))
+both_at_most a b c d = hlevel props
+
+nothing : IsProp (Unit {0})
+nothing = hlevel props
+
+pub fits_prop : (plan : Plan) (its : Change) → IsProp (FitsChange plan its)
+fits_prop plan (change.Pop base) = nothing
+fits_prop plan (change.Get to slot) = at_most slot plan.slots
+fits_prop plan (change.SetName depth name slot) = both_at_most depth plan.places slot plan.slots
+fits_prop plan (change.SetSlot depth slot) = both_at_most depth plan.places slot plan.slots
+fits_prop plan (change.Dup depth) = at_most depth plan.places
+fits_prop plan (change.Tuck depth) = at_most depth plan.places
+fits_prop plan (change.Conv depth) = at_most depth plan.places
+fits_prop plan (change.Bring depth base) = at_most depth plan.places
+fits_prop plan (change.Use depth base) = at_most depth plan.places
+fits_prop plan (change.Lock depth base) = at_most depth plan.places
+fits_prop plan (change.Unlock depth base) = at_most depth plan.places
+fits_prop plan (change.SetState depth base) = both_at_most depth plan.places base depth
+fits_prop plan (change.Dispose depth base) = at_most depth plan.places
+fits_prop plan (change.ReadState depth base) = at_most depth plan.places
+fits_prop plan (change.Make base) = nothing
+fits_prop plan (change.Call base f unlocks disposes) = nothing

@@ -8,8 +8,10 @@ mod field;
 mod knowing;
 mod layout;
 mod making;
+mod solving;
 mod staying;
 mod words;
 
 pub use change::Change;
 pub use field::Field;
+pub use solving::{LockJob, solve_locks};
