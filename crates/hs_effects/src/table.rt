@@ -69,6 +69,15 @@ impl EffectTable {
         self.assigned.assigns(f, global)
     }
 
+    /// Lends what functions may assign.
+    ///
+    /// Example: its `assigns` answers as that of the table.
+    pub fn assigned(&self) -> &Assignments
+        ensures { result.now ≡ self.now.assigned }
+    {
+        &self.assigned
+    }
+
     /// Whether the operation is a restore: a set_state whose byte was read from the handle on which it is put.
     ///
     /// Example: `HSetState(h, s);` is one after `s = HGetState(h);`, and none after `h = g;`.

@@ -8,7 +8,7 @@ use hs_fact_rows::Callees;
 
 /// Which globals the functions of a program may assign: so many functions, and so many globals.
 #[derive(Drop)]
-pub(crate) struct Assigning<'a> {
+pub struct Assigning<'a> {
     pub assigned: &'a Assignments,
     pub functions: usize,
     pub globals: usize,

@@ -5,7 +5,10 @@ ghost use Rattle.std.specs.Prelude.{◌≡◌, ◌<◌, ◌≤◌, ◌+◌, ℕ,
 ghost use Rattle.hs_effects.specs.Calling.{whole_of};
 ghost use Rattle.hs_effects.specs.Effecting.{AreRestores, noted};
 ghost use Rattle.hs_facts.specs.Effects.{IsRestoreAt};
+ghost use Rattle.hs_fact_rows.specs.Cuts.{IsSolved};
+ghost use Rattle.hs_fact_rows.specs.Given.{IsFit};
 ghost use Rattle.hs_facts.specs.Names.{names_of};
+ghost use Rattle.hs_restores.specs.Laws.Jobs.{IsFor, task_of};
 ghost use Rattle.hs_restores.specs.Restoring.{IsAssigned, IsReady, Noted, assigned_of};
 ghost use Rattle.hs_restores.specs.Stepping.{scope_in};
 ghost use Rattle.hs_tree.specs.Views.{view_function};
@@ -20,18 +23,28 @@ use crate::stepping::{Window, greatest, part, steps_by};
 use hs_base::NoMemory;
 use hs_code::{Code, FunctionCode};
 use hs_effects::Assignments;
-use hs_fact_rows::{Job, Lists, solve};
+use hs_fact_rows::{Job, Lists, Plan, solve};
+use hs_rows::Rows;
 use hs_tree::Function;
 use std::alloc::Global;
 
-/// A function whose restores are found.
+/// A function of a program, with its code and its lists.
 #[derive(Clone, Copy)]
-struct Own<'a> {
-    number: u32,
-    function: &'a Function,
-    code: &'a FunctionCode,
-    names: &'a Numbers,
-    slots: &'a Numbers,
+pub struct Own<'a> {
+    pub number: u32,
+    pub function: &'a Function,
+    pub code: &'a FunctionCode,
+    /// Its handle names.
+    pub names: &'a Numbers,
+    /// The slots that it changes.
+    pub slots: &'a Numbers,
+}
+
+/// The facts With and Saved of some names of a function.
+#[derive(Drop)]
+pub struct WindowRows {
+    pub plan: Plan,
+    pub rows: Rows,
 }
 
 /// The restores of a program: a row for each function, with its operations in their order.
@@ -111,21 +124,29 @@ fn window_len(left: usize) -> usize
     if left < 64 { left } else { 64 }
 }
 
-/// Notes the restores whose handle is in one of the names of a window: its first number, and how many there are.
-fn note_window(
+/// Finds the facts With and Saved of the names of a window: its first number, and how many there are.
+///
+/// Example: of the window `(0, 64)` those of the first 64 names.
+///
+/// # Errors
+///
+/// `NoMemory` if memory runs out.
+pub fn window_rows(
     alloc: Global,
     code: &Code,
     own: Own,
     callees: &Assigning,
     window: (usize, usize),
-    restores: &mut [bool],
-) -> Result<(), NoMemory>
+) -> Result<WindowRows, NoMemory>
     requires ready { IsReady (whole_of code.now) own.number (view_function own.function.now) own.code.now own.slots.now (assigned_of callees.now) }
     requires names { own.names.now ≡ names_of (scope_in code.now.program.now (view_function own.function.now)) own.code.now }
     requires fits { window.0 + window.1 ≤ length own.names.now }
     requires few { window.1 ≤ 64 }
-    requires noted { Noted (whole_of code.now) own.number own.names.now window.0 restores.old }
-    ensures { OnOk result (Noted (whole_of code.now) own.entry.number own.entry.names.now (window.0 + window.1) restores.new) }
+    ensures for_window { IfOk result (λ its. IsFor (scope_in code.now.program.now (view_function own.entry.function.now)) own.entry.code.now its.plan window.0 window.1
+        own.entry.slots.now (assigned_of callees.now)) }
+    ensures fit { IfOk result (λ its. (at : ℕ) → at ≤ length own.entry.code.now.ops → IsFit its.plan its.rows at) }
+    ensures solved { IfOk result (λ its. IsSolved (task_of (scope_in code.now.program.now (view_function own.entry.function.now)) own.entry.code.now its.plan
+        window.0 window.1 own.entry.slots.now (assigned_of callees.now)) its.rows) }
 {
     let (from, count) = window;
     let ops = own.code.ops.items();
@@ -148,6 +169,32 @@ fn note_window(
         code: own.code,
     };
     let rows = solve(alloc, job, callees)?;
-    note_shown(code.program, ops, &rows, plan, restores);
+    Ok(WindowRows { plan, rows })
+}
+
+/// Notes the restores whose handle is in one of the names of a window: its first number, and how many there are.
+fn note_window(
+    alloc: Global,
+    code: &Code,
+    own: Own,
+    callees: &Assigning,
+    window: (usize, usize),
+    restores: &mut [bool],
+) -> Result<(), NoMemory>
+    requires ready { IsReady (whole_of code.now) own.number (view_function own.function.now) own.code.now own.slots.now (assigned_of callees.now) }
+    requires names { own.names.now ≡ names_of (scope_in code.now.program.now (view_function own.function.now)) own.code.now }
+    requires fits { window.0 + window.1 ≤ length own.names.now }
+    requires few { window.1 ≤ 64 }
+    requires noted { Noted (whole_of code.now) own.number own.names.now window.0 restores.old }
+    ensures { OnOk result (Noted (whole_of code.now) own.entry.number own.entry.names.now (window.0 + window.1) restores.new) }
+{
+    let its = window_rows(alloc, code, own, callees, window)?;
+    note_shown(
+        code.program,
+        own.code.ops.items(),
+        &its.rows,
+        its.plan,
+        restores,
+    );
     Ok(())
 }

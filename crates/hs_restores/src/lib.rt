@@ -11,7 +11,14 @@ mod numbers;
 mod plan;
 mod slots;
 mod stepping;
-mod taken;
+mod taking;
 mod whole;
 
+pub use assigning::Assigning;
+pub use finding::{Own, WindowRows, window_rows};
+pub use marks::points_to_pointer;
+pub use names::names_of;
+pub use numbers::Numbers;
+pub use slots::slots_of;
+pub use taking::{role_at, taken};
 pub use whole::effects;

@@ -18,8 +18,10 @@ fn is_pointer(types: &Types, id: TypeId) -> bool
     matches!(types.row(id), Some(Row::Pointer(_)))
 }
 
-/// Whether the type is one of pointers to pointers.
-fn points_to_pointer(types: &Types, id: TypeId) -> bool
+/// Returns whether the type is one of pointers to pointers.
+///
+/// Example: true for `char **`.
+pub fn points_to_pointer(types: &Types, id: TypeId) -> bool
     ensures { result ≡ points_to_pointer types.now id }
 {
     match types.row(id) {

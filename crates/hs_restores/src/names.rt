@@ -16,7 +16,7 @@ use std::alloc::Global;
 /// operations get or set.
 ///
 /// Example: the locals 0 and 1 of `void f(Handle h, char **p, int n)`.
-pub(crate) fn names_of(
+pub fn names_of(
     alloc: Global,
     program: &Program,
     function: &Function,

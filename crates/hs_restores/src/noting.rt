@@ -7,7 +7,7 @@ ghost use Rattle.hs_restores.specs.Restoring.{AddsShown, Shows, is_set_state, no
 ghost use Rattle.hs_restores.specs.Stepping.{greatest, scope_in};
 ghost use Rattle.hs_tree.specs.Trees.{TypedFunction};
 
-use crate::taken::{role_at, taken};
+use crate::taking::{role_at, taken};
 use hs_code::{Op, Placed};
 use hs_fact_rows::{Plan, shares};
 use hs_rows::Rows;

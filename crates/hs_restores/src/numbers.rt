@@ -21,7 +21,7 @@ pub(crate) enum Whose {
 
 /// Variables, numbered by their places in a list. Contracts see the list.
 #[derive(Drop)]
-pub(crate) struct Numbers {
+pub struct Numbers {
     list: Vec<Variable>,
     /// The number of each variable of the function, if it is in the list.
     locals: Vec<Option<usize>>,

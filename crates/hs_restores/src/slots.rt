@@ -20,7 +20,7 @@ use std::alloc::Global;
 /// calls. `number` is its own number.
 ///
 /// Example: the local 1 and the global 0 for `void f(int a, int b) { b = 1; g(); }` if `g` assigns the first global.
-pub(crate) fn slots_of(
+pub fn slots_of(
     alloc: Global,
     program: &Program,
     function: &Function,

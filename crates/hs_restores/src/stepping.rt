@@ -8,7 +8,7 @@ ghost use Rattle.hs_restores.specs.Stepping.{greatest, part_in, scope_in, step_b
 ghost use Rattle.hs_tree.specs.Trees.{TypedFunction};
 
 use crate::numbers::Numbers;
-use crate::taken::{role_at, taken};
+use crate::taking::{role_at, taken};
 use hs_base::NoMemory;
 use hs_code::{Op, Placed};
 use hs_fact_rows::Step;

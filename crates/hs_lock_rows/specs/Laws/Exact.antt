@@ -3,6 +3,7 @@
 use Rattle.std.proofs.Common.{◌≡◌, ◌≢◌, ◌<◌, ◌≤◌, ◌⊎◌, ℕ, zero, suc, ◌-◌, ◌==◌, nat_lt, nat_le, Bool, true, false, not, ◌&&◌, ◌||◌, ap, sym, subst, ◌∙◌, refl, inl, inr, arith, List, length, slice_get, get_or, Option, Some, None}
 use Rattle.std.proofs.lemmas.Bool.{cases_eq, cases_lt}
 use Rattle.std.proofs.lemmas.Option.{slice_get-get_or}
+use Rattle.std.specs.Bool.{Decides}
 use Rattle.hs_code.specs.Codes.{is_slot_in}
 use Rattle.hs_code.specs.Stacks.{Scope, variable_in}
 use Rattle.hs_code.specs.declared.function_code.FunctionCode.{FunctionCode}
@@ -19,7 +20,7 @@ use Rattle.hs_facts.specs.Names.{is_name, taken, role_at, uses_handle, makes_by,
 use Rattle.hs_lock_rows.specs.Changing.{change_of, set_change, role_change, plain_change, result_is_handle}
 use Rattle.hs_lock_rows.specs.Given as numeric
 use Rattle.hs_lock_rows.specs.Given.{Locks, any, all, other}
-use Rattle.hs_lock_rows.specs.Laws.Tests.{Tests, always, never, as_test, self_test, same_test, and_test, and_then, and_true, and_three, or_test, not_test, eq_test, lt_test, le_test, any_some, some_any, false_true}
+use Rattle.hs_lock_rows.specs.Laws.Tests.{always, never, as_test, self_test, same_test, and_test, and_then, and_true, and_three, or_test, not_test, eq_test, lt_test, le_test, any_some, some_any, false_true}
 use Rattle.hs_lock_rows.specs.Layout.{IsOfLocks, field_of, bit_of}
 use Rattle.hs_lock_rows.specs.declared.change.Change.{Change}
 use Rattle.hs_lock_rows.specs.declared.change.Change.TheVariants as change
@@ -92,7 +93,7 @@ module _ (scope : Scope) (code : FunctionCode) (names slots : List Variable) (as
   same_name : (x v : Variable) → is_name scope code x ≡ true → (index_of names x == index_of names v) ≡ same_variable x v
   same_name x v is = index_turned names x v (listed x is)
 
-  name_test : (x v : Variable) → is_name scope code x ≡ true → Tests (index_of names x == index_of names v) (x ≡ v)
+  name_test : (x v : Variable) → is_name scope code x ≡ true → Decides (index_of names x == index_of names v) (x ≡ v)
   name_test x v is = (
     λ h. same_variables x v (sym (same_name x v is) ∙ h),
     λ e. same_name x v is ∙ subst (λ y. same_variable x y ≡ true) e (same_itself x),
@@ -107,7 +108,7 @@ module _ (scope : Scope) (code : FunctionCode) (names slots : List Variable) (as
   flipped (name.Local a) (name.Global b) = refl
   flipped (name.Local a) (name.Local b) = grind arith
 
-  slot_test : (b v : Variable) → index_of slots v < length slots → Tests (index_of slots b == index_of slots v) (b ≡ v)
+  slot_test : (b v : Variable) → index_of slots v < length slots → Decides (index_of slots b == index_of slots v) (b ≡ v)
   slot_test b v there = (
     λ h. index_one slots b v there ((eq_test (index_of slots b) (index_of slots v)).0 h),
     λ e. (eq_test (index_of slots b) (index_of slots v)).1 (ap (index_of slots) e),
@@ -126,7 +127,7 @@ module _ (scope : Scope) (code : FunctionCode) (names slots : List Variable) (as
 
   -- one of the names
   any_test : (its : Names) (P : Variable → Type 0) → ((x : Variable) → P x → is_name scope code x ≡ true)
-      → ((x : Variable) → is_name scope code x ≡ true → Tests (its (index_of names x)) (P x)) → Tests (any (length names) its) ((x : Variable) × P x)
+      → ((x : Variable) → is_name scope code x ≡ true → Decides (its (index_of names x)) (P x)) → Decides (any (length names) its) ((x : Variable) × P x)
   any_test its P named tests = (there, λ h. some_any (length names) its (index_of names h.0) (listed h.0 (named h.0 h.1)) ((tests h.0 (named h.0 h.1)).1 h.1))
     where
       there : any (length names) its ≡ true → (x : Variable) × P x
@@ -140,10 +141,10 @@ module _ (scope : Scope) (code : FunctionCode) (names slots : List Variable) (as
   -- ---- facts that hold
 
   fact_test : (fact : MustFact) → IsOfLocks fact → AreNames scope code fact → Under depth fact
-      → Tests (T (field_of names slots fact) (bit_of names slots fact)) (R fact)
+      → Decides (T (field_of names slots fact) (bit_of names slots fact)) (R fact)
   fact_test fact is named under = (λ h. into fact is (record { under = under; named = named }) h, λ r. (out fact is r).1)
 
-  with_test : (p : ℕ) (x : Variable) → is_name scope code x ≡ true → Tests (with_of low depth p (index_of names x)) (R (With p x))
+  with_test : (p : ℕ) (x : Variable) → is_name scope code x ≡ true → Decides (with_of low depth p (index_of names x)) (R (With p x))
   with_test p x named = as_test (with_of low depth p (index_of names x)) ((p < depth) × R (With p x)) (R (With p x)) (λ h. h.1)
       (λ r. ((low_out (With p x) tt r).0.under, r))
       (and_then (nat_lt p depth) (low (with_at p (index_of names x))) (p < depth) (R (With p x)) (lt_test p depth) (λ under. (
@@ -151,7 +152,7 @@ module _ (scope : Scope) (code : FunctionCode) (names slots : List Variable) (as
         λ r. (low_out (With p x) tt r).1,
       )))
 
-  saved_test : (p : ℕ) (x : Variable) → is_name scope code x ≡ true → Tests (saved_of low depth p (index_of names x)) (R (Saved (on_stack p) x))
+  saved_test : (p : ℕ) (x : Variable) → is_name scope code x ≡ true → Decides (saved_of low depth p (index_of names x)) (R (Saved (on_stack p) x))
   saved_test p x named = as_test (saved_of low depth p (index_of names x)) ((p < depth) × R (Saved (on_stack p) x)) (R (Saved (on_stack p) x)) (λ h. h.1)
       (λ r. ((low_out (Saved (on_stack p) x) tt r).0.under, r))
       (and_then (nat_lt p depth) (low (saved_at p (index_of names x))) (p < depth) (R (Saved (on_stack p) x)) (lt_test p depth) (λ under. (
@@ -160,40 +161,40 @@ module _ (scope : Scope) (code : FunctionCode) (names slots : List Variable) (as
       )))
 
   saved_in_test : (b x : Variable) → IsKeeper scope code (in_slot b) → is_name scope code x ≡ true
-      → Tests (low (saved_in (index_of slots b) (index_of names x))) (R (Saved (in_slot b) x))
+      → Decides (low (saved_in (index_of slots b) (index_of names x))) (R (Saved (in_slot b) x))
   saved_in_test b x slot named = (
     λ h. low_into (Saved (in_slot b) x) tt (record { under = tt; named = (slot, named) }) h,
     λ r. (low_out (Saved (in_slot b) x) tt r).1,
   )
 
-  kept_test : (p : ℕ) (x : Variable) → is_name scope code x ≡ true → Tests (kept_of p (index_of names x)) (R (Kept (on_stack p) x))
+  kept_test : (p : ℕ) (x : Variable) → is_name scope code x ≡ true → Decides (kept_of p (index_of names x)) (R (Kept (on_stack p) x))
   kept_test p x named = as_test (kept_of p (index_of names x)) ((p < depth) × R (Kept (on_stack p) x)) (R (Kept (on_stack p) x)) (λ h. h.1)
       (λ r. ((out (Kept (on_stack p) x) tt r).0.under, r))
       (and_then (nat_lt p depth) (T (field.KeptAt p) (index_of names x)) (p < depth) (R (Kept (on_stack p) x)) (lt_test p depth)
       (λ under. fact_test (Kept (on_stack p) x) tt (tt, named) under))
 
-  new_test : (p : ℕ) → Tests (new_of p 0) (R (New p))
+  new_test : (p : ℕ) → Decides (new_of p 0) (R (New p))
   new_test p = as_test (new_of p 0) ((p < depth) × R (New p)) (R (New p)) (λ h. h.1) (λ r. ((out (New p) tt r).0.under, r))
       (and_then (nat_lt p depth) (T (field.NewAt p) 0) (p < depth) (R (New p)) (lt_test p depth) (λ under. fact_test (New p) tt tt under))
 
   distinct_test : (x y : Variable) → is_name scope code x ≡ true → is_name scope code y ≡ true
-      → Tests (other (index_of names y) (index_of names x) && T (field.Apart (index_of names x)) (index_of names y)) (R (Distinct x y))
+      → Decides (other (index_of names y) (index_of names x) && T (field.Apart (index_of names x)) (index_of names y)) (R (Distinct x y))
   distinct_test x y named also =
       as_test (other (index_of names y) (index_of names x) && T (field.Apart (index_of names x)) (index_of names y))
       ((same_variable x y ≡ false) × R (Distinct x y)) (R (Distinct x y)) (λ h. h.1) (λ r. ((out (Distinct x y) tt r).0.named.2, r))
       (and_then (other (index_of names y) (index_of names x)) (T (field.Apart (index_of names x)) (index_of names y)) (same_variable x y ≡ false)
       (R (Distinct x y)) different (λ apart. fact_test (Distinct x y) tt (named, also, apart) tt))
     where
-      turned : (t : Bool) → Tests (not t) (t ≡ false)
+      turned : (t : Bool) → Decides (not t) (t ≡ false)
       turned true = (λ h. false_true h, λ h. sym h)
       turned false = (λ h. refl, λ h. refl)
 
-      different : Tests (other (index_of names y) (index_of names x)) (same_variable x y ≡ false)
-      different = subst (λ t. Tests t (same_variable x y ≡ false)) (sym (other_name x y named)) (turned (same_variable x y))
+      different : Decides (other (index_of names y) (index_of names x)) (same_variable x y ≡ false)
+      different = subst (λ t. Decides t (same_variable x y ≡ false)) (sym (other_name x y named)) (turned (same_variable x y))
 
   -- ---- conditions
 
-  apart_test : (p : ℕ) (y : Variable) → is_name scope code y ≡ true → Tests (apart_of p (index_of names y)) (Apart R p y)
+  apart_test : (p : ℕ) (y : Variable) → is_name scope code y ≡ true → Decides (apart_of p (index_of names y)) (Apart R p y)
   apart_test p y also =
       as_test (apart_of p (index_of names y)) ((x : Variable) × (R (With p x) × R (Distinct x y))) (Apart R p y) (λ h. (h.0, h.1.0, h.1.1))
       (λ h. (h.0, (h.1, h.2)))
@@ -203,7 +204,7 @@ module _ (scope : Scope) (code : FunctionCode) (names slots : List Variable) (as
       (other (index_of names y) (index_of names x) && T (field.Apart (index_of names x)) (index_of names y)) (R (With p x)) (R (Distinct x y))
       (with_test p x named) (distinct_test x y named also)))
 
-  restore_test : (base : ℕ) → Tests (any (length names) (λ x. with_of low depth base x && saved_of low depth (suc base) x)) (IsRestore R base (suc base))
+  restore_test : (base : ℕ) → Decides (any (length names) (λ x. with_of low depth base x && saved_of low depth (suc base) x)) (IsRestore R base (suc base))
   restore_test base =
       as_test (any (length names) (λ x. with_of low depth base x && saved_of low depth (suc base) x))
       ((x : Variable) × (R (With base x) × R (Saved (on_stack (suc base)) x))) (IsRestore R base (suc base)) (λ h. (h.0, h.1.0, h.1.1))
@@ -213,8 +214,8 @@ module _ (scope : Scope) (code : FunctionCode) (names slots : List Variable) (as
       (λ x named. and_test (with_of low depth base (index_of names x)) (saved_of low depth (suc base) (index_of names x)) (R (With base x))
       (R (Saved (on_stack (suc base)) x)) (with_test base x named) (saved_test (suc base) x named)))
 
-  of_top_test : (its : Names) (of : Variable → MustFact) → ((y : Variable) → is_name scope code y ≡ true → Tests (its (index_of names y)) (R (of y)))
-      → Tests (of_top its) (OfTop R (depth - 1) of)
+  of_top_test : (its : Names) (of : Variable → MustFact) → ((y : Variable) → is_name scope code y ≡ true → Decides (its (index_of names y)) (R (of y)))
+      → Decides (of_top its) (OfTop R (depth - 1) of)
   of_top_test its of tests =
       as_test (of_top its) ((y : Variable) × (R (With (depth - 1) y) × R (of y))) (OfTop R (depth - 1) of) (λ h. (h.0, h.1.0, h.1.1)) (λ h. (h.0, (h.1, h.2)))
       (any_test (λ y. with_of low depth (depth - 1) y && its y) (λ y. R (With (depth - 1) y) × R (of y))
@@ -223,13 +224,13 @@ module _ (scope : Scope) (code : FunctionCode) (names slots : List Variable) (as
       (with_test (depth - 1) y named) (tests y named)))
 
   top_apart_test : (z : Variable) → is_name scope code z ≡ true
-      → Tests (new_of (depth - 1) 0 || apart_of (depth - 1) (index_of names z)) (TopApart R (depth - 1) z)
+      → Decides (new_of (depth - 1) 0 || apart_of (depth - 1) (index_of names z)) (TopApart R (depth - 1) z)
   top_apart_test z named =
       or_test (new_of (depth - 1) 0) (apart_of (depth - 1) (index_of names z)) (R (New (depth - 1))) (OfTop R (depth - 1) (λ y. Distinct y z))
       (new_test (depth - 1)) (apart_test (depth - 1) z named)
 
-  guarded_test : (p : ℕ) (its : Names) (b : Keeper) → ((z : Variable) → is_name scope code z ≡ true → Tests (its (index_of names z)) (R (Saved b z)))
-      → Tests (any (length names) (λ z. its z && apart_of p z)) ((z : Variable) × R (Saved b z) × Apart R p z)
+  guarded_test : (p : ℕ) (its : Names) (b : Keeper) → ((z : Variable) → is_name scope code z ≡ true → Decides (its (index_of names z)) (R (Saved b z)))
+      → Decides (any (length names) (λ z. its z && apart_of p z)) ((z : Variable) × R (Saved b z) × Apart R p z)
   guarded_test p its b tests =
       as_test (any (length names) (λ z. its z && apart_of p z)) ((z : Variable) × (R (Saved b z) × Apart R p z))
       ((z : Variable) × R (Saved b z) × Apart R p z) (λ h. (h.0, h.1.0, h.1.1)) (λ h. (h.0, (h.1, h.2)))
@@ -240,13 +241,13 @@ module _ (scope : Scope) (code : FunctionCode) (names slots : List Variable) (as
 
   -- with so many values left
   whole_test : (its : Change) (fact : MustFact) (P Q : Type 0) → IsOfLocks fact → AreNames scope code fact → (P → Under depth fact)
-      → Tests (stay_by its fact) P → Tests (comes its fact) Q → Tests (given its (field_of names slots fact) (bit_of names slots fact)) ((P × R fact) ⊎ Q)
+      → Decides (stay_by its fact) P → Decides (comes its fact) Q → Decides (given its (field_of names slots fact) (bit_of names slots fact)) ((P × R fact) ⊎ Q)
   whole_test its fact P Q is named under stays brings =
       or_test (stay_by its fact && T (field_of names slots fact) (bit_of names slots fact)) (comes its fact) (P × R fact) Q
       (and_then (stay_by its fact) (T (field_of names slots fact) (bit_of names slots fact)) P (R fact) stays (λ p. fact_test fact is named (under p))) brings
 
   -- all below a base
-  under_test : (base : ℕ) (fact : MustFact) → IsOfLocks fact → Tests (stay_by (change.Pop base) fact) (Under base fact)
+  under_test : (base : ℕ) (fact : MustFact) → IsOfLocks fact → Decides (stay_by (change.Pop base) fact) (Under base fact)
   under_test base (With p x) is = absurd is
   under_test base (Saved b x) is = absurd is
   under_test base (Kept (on_stack p) x) is = and_true (nat_lt p base) (p < base) (lt_test p base)
@@ -257,7 +258,7 @@ module _ (scope : Scope) (code : FunctionCode) (names slots : List Variable) (as
   under_test base (New p) is = and_true (nat_lt p base) (p < base) (lt_test p base)
 
   -- nothing comes
-  none_test : (base : ℕ) (fact : MustFact) (Q : Type 0) → (Q → ⊥) → IsOfLocks fact → Tests (comes (change.Pop base) fact) Q
+  none_test : (base : ℕ) (fact : MustFact) (Q : Type 0) → (Q → ⊥) → IsOfLocks fact → Decides (comes (change.Pop base) fact) Q
   none_test base (With p x) Q none is = absurd is
   none_test base (Saved b x) Q none is = absurd is
   none_test base (Kept (on_stack p) x) Q none is = never Q none
@@ -268,14 +269,14 @@ module _ (scope : Scope) (code : FunctionCode) (names slots : List Variable) (as
   none_test base (New p) Q none is = never Q none
 
   pop_test : (base : ℕ) (fact : MustFact) → base ≤ depth → IsOfLocks fact → AreNames scope code fact
-      → Tests (given (change.Pop base) (field_of names slots fact) (bit_of names slots fact)) ((Under base fact × R fact) ⊎ ⊥)
+      → Decides (given (change.Pop base) (field_of names slots fact) (bit_of names slots fact)) ((Under base fact × R fact) ⊎ ⊥)
   pop_test base fact low is named =
       whole_test (change.Pop base) fact (Under base fact) ⊥ is named (λ u. under_more base depth low fact u) (under_test base fact is)
       (none_test base fact ⊥ (λ q. q) is)
 
   -- ---- what comes at one field alone
 
-  first_only : (test : Bool) (P : Type 0) → Tests test P → Tests test (P ⊎ ⊥ ⊎ ⊥)
+  first_only : (test : Bool) (P : Type 0) → Decides test P → Decides test (P ⊎ ⊥ ⊎ ⊥)
   first_only test P t = as_test test P (P ⊎ ⊥ ⊎ ⊥) (λ p. inl p) back t
     where
       back : P ⊎ ⊥ ⊎ ⊥ → P
@@ -283,7 +284,7 @@ module _ (scope : Scope) (code : FunctionCode) (names slots : List Variable) (as
       back (inr (inl q)) = absurd q
       back (inr (inr q)) = absurd q
 
-  second_only : (test : Bool) (P : Type 0) → Tests test P → Tests test (⊥ ⊎ P ⊎ ⊥)
+  second_only : (test : Bool) (P : Type 0) → Decides test P → Decides test (⊥ ⊎ P ⊎ ⊥)
   second_only test P t = as_test test P (⊥ ⊎ P ⊎ ⊥) (λ p. inr (inl p)) back t
     where
       back : ⊥ ⊎ P ⊎ ⊥ → P
@@ -291,7 +292,7 @@ module _ (scope : Scope) (code : FunctionCode) (names slots : List Variable) (as
       back (inr (inl p)) = p
       back (inr (inr q)) = absurd q
 
-  third_only : (test : Bool) (P : Type 0) → Tests test P → Tests test (⊥ ⊎ ⊥ ⊎ P)
+  third_only : (test : Bool) (P : Type 0) → Decides test P → Decides test (⊥ ⊎ ⊥ ⊎ P)
   third_only test P t = as_test test P (⊥ ⊎ ⊥ ⊎ P) (λ p. inr (inr p)) back t
     where
       back : ⊥ ⊎ ⊥ ⊎ P → P
@@ -304,26 +305,26 @@ module _ (scope : Scope) (code : FunctionCode) (names slots : List Variable) (as
   none_of_three (inr (inl q)) = q
   none_of_three (inr (inr q)) = q
 
-  never_three : Tests false (⊥ ⊎ ⊥ ⊎ ⊥)
+  never_three : Decides false (⊥ ⊎ ⊥ ⊎ ⊥)
   never_three = never (⊥ ⊎ ⊥ ⊎ ⊥) none_of_three
 
   -- a part that is always so
-  with_unit : (test : Bool) (P : Type 0) → Tests test P → Tests test (P × Unit {0})
+  with_unit : (test : Bool) (P : Type 0) → Decides test P → Decides test (P × Unit {0})
   with_unit test P t = as_test test P (P × Unit {0}) (λ p. (p, tt)) (λ h. h.0) t
 
-  unit_with : (test : Bool) (P : Type 0) → Tests test P → Tests test (Unit {0} × P)
+  unit_with : (test : Bool) (P : Type 0) → Decides test P → Decides test (Unit {0} × P)
   unit_with test P t = as_test test P (Unit {0} × P) (λ p. (tt, p)) (λ h. h.1) t
 
   -- ---- Get
 
-  get_stays : (fact : MustFact) (slot : ℕ) → IsOfLocks fact → Tests (stay_by (change.Get depth slot) fact) (Under (depth - 0) fact)
-  get_stays fact slot is = subst (λ n. Tests (stay_by (change.Pop depth) fact) (Under n fact)) (sym (minus_none depth)) (under_test depth fact is)
+  get_stays : (fact : MustFact) (slot : ℕ) → IsOfLocks fact → Decides (stay_by (change.Get depth slot) fact) (Under (depth - 0) fact)
+  get_stays fact slot is = subst (λ n. Decides (stay_by (change.Pop depth) fact) (Under n fact)) (sym (minus_none depth)) (under_test depth fact is)
 
   under_none : (fact : MustFact) → Under (depth - 0) fact → Under depth fact
   under_none fact u = subst (λ n. Under n fact) (minus_none depth) u
 
   get_comes : (v : Variable) (fact : MustFact) → is_slot_in scope.types (variable_in scope v) ≡ true → IsOfLocks fact → AreNames scope code fact
-      → Tests (comes (change.Get depth (index_of slots v)) fact) (Brings scope code (impact_with assigned unlocks disposes) R (op.Get v) depth fact)
+      → Decides (comes (change.Get depth (index_of slots v)) fact) (Brings scope code (impact_with assigned unlocks disposes) R (op.Get v) depth fact)
   get_comes v (With p x) slot is named = absurd is
   get_comes v (Saved b x) slot is named = absurd is
   get_comes v (Kept (on_stack p) x) slot is named =
@@ -337,7 +338,7 @@ module _ (scope : Scope) (code : FunctionCode) (names slots : List Variable) (as
 
   -- ---- Set of a name
 
-  free_two : (a b : Bool) (x y : Bool) → a ≡ x → b ≡ y → Tests (a && (b && true)) ((x && y) ≡ true)
+  free_two : (a b : Bool) (x y : Bool) → a ≡ x → b ≡ y → Decides (a && (b && true)) ((x && y) ≡ true)
   free_two true b x y e f = same_test (b && true) (x && y) (ends b ∙ f ∙ ap (λ t. t && y) e)
     where
       ends : (t : Bool) → (t && true) ≡ t
@@ -346,7 +347,7 @@ module _ (scope : Scope) (code : FunctionCode) (names slots : List Variable) (as
   free_two false b x y e f = same_test false (x && y) (ap (λ t. t && y) e)
 
   set_name_stays : (v : Variable) (fact : MustFact) → index_of slots v < length slots → IsOfLocks fact → AreNames scope code fact
-      → Tests (stay_by (change.SetName depth (index_of names v) (index_of slots v)) fact)
+      → Decides (stay_by (change.SetName depth (index_of names v) (index_of slots v)) fact)
       (Under depth fact × (free_of v fact ≡ true) × (not_new (depth - 1) fact ≡ true))
   set_name_stays v (With p x) there is named = absurd is
   set_name_stays v (Saved b x) there is named = absurd is
@@ -385,7 +386,7 @@ module _ (scope : Scope) (code : FunctionCode) (names slots : List Variable) (as
       (and_test (nat_lt p depth) (other (depth - 1) p) (p < depth) (other (depth - 1) p ≡ true) (lt_test p depth) (self_test (other (depth - 1) p)))
 
   set_name_comes : (v : Variable) (fact : MustFact) → index_of slots v < length slots → IsOfLocks fact → AreNames scope code fact
-      → Tests (comes (change.SetName depth (index_of names v) (index_of slots v)) fact) (SetName R v (depth - 1) fact)
+      → Decides (comes (change.SetName depth (index_of names v) (index_of slots v)) fact) (SetName R v (depth - 1) fact)
   set_name_comes v (With p x) there is named = absurd is
   set_name_comes v (Saved b x) there is named = absurd is
   set_name_comes v (Kept (on_stack p) x) there is named =
@@ -427,7 +428,7 @@ module _ (scope : Scope) (code : FunctionCode) (names slots : List Variable) (as
 
   set_slot_stays : (v : Variable) (fact : MustFact) → is_name scope code v ≡ false → index_of slots v < length slots → IsOfLocks fact
       → AreNames scope code fact
-      → Tests (stay_by (change.SetSlot depth (index_of slots v)) fact)
+      → Decides (stay_by (change.SetSlot depth (index_of slots v)) fact)
       (Under depth fact × (free_of v fact ≡ true) × (not_new (depth - 1) fact ≡ true))
   set_slot_stays v (With p x) none there is named = absurd is
   set_slot_stays v (Saved b x) none there is named = absurd is
@@ -454,7 +455,7 @@ module _ (scope : Scope) (code : FunctionCode) (names slots : List Variable) (as
       (and_test (nat_lt p depth) (other (depth - 1) p) (p < depth) (other (depth - 1) p ≡ true) (lt_test p depth) (self_test (other (depth - 1) p)))
 
   set_slot_comes : (v : Variable) (fact : MustFact) → index_of slots v < length slots → IsOfLocks fact → AreNames scope code fact
-      → Tests (comes (change.SetSlot depth (index_of slots v)) fact) (SetOther R v (depth - 1) fact)
+      → Decides (comes (change.SetSlot depth (index_of slots v)) fact) (SetOther R v (depth - 1) fact)
   set_slot_comes v (With p x) there is named = absurd is
   set_slot_comes v (Saved b x) there is named = absurd is
   set_slot_comes v (Kept (on_stack p) x) there is named = never ⊥ (λ q. q)
@@ -468,7 +469,7 @@ module _ (scope : Scope) (code : FunctionCode) (names slots : List Variable) (as
 
   set_test : (v : Variable) (its : Bool) (fact : MustFact) → is_name scope code v ≡ its → index_of slots v < length slots → IsOfLocks fact
       → AreNames scope code fact
-      → Tests (given (set_change its depth (index_of names v) (index_of slots v)) (field_of names slots fact) (bit_of names slots fact))
+      → Decides (given (set_change its depth (index_of names v) (index_of slots v)) (field_of names slots fact) (bit_of names slots fact))
       (((Under depth fact × (free_of v fact ≡ true) × (not_new (depth - 1) fact ≡ true)) × R fact) ⊎ SetBy R its v (depth - 1) fact)
   set_test v true fact e there is named =
       whole_test (change.SetName depth (index_of names v) (index_of slots v)) fact
@@ -481,7 +482,7 @@ module _ (scope : Scope) (code : FunctionCode) (names slots : List Variable) (as
 
   -- ---- Dup, Tuck, Conv
 
-  dup_stays : (fact : MustFact) → IsOfLocks fact → Tests (stay_by (change.Dup depth) fact) (Under depth fact × (not_new (depth - 1) fact ≡ true))
+  dup_stays : (fact : MustFact) → IsOfLocks fact → Decides (stay_by (change.Dup depth) fact) (Under depth fact × (not_new (depth - 1) fact ≡ true))
   dup_stays (With p x) is = absurd is
   dup_stays (Saved b x) is = absurd is
   dup_stays (Kept (on_stack p) x) is =
@@ -495,11 +496,11 @@ module _ (scope : Scope) (code : FunctionCode) (names slots : List Variable) (as
       and_test (nat_lt p depth) (other (depth - 1) p) (p < depth) (other (depth - 1) p ≡ true) (lt_test p depth) (self_test (other (depth - 1) p))
 
   copy_test : (p to from : ℕ) (x : Variable) → is_name scope code x ≡ true
-      → Tests ((p == to) && kept_of from (index_of names x)) ((p ≡ to) × R (Kept (on_stack from) x))
+      → Decides ((p == to) && kept_of from (index_of names x)) ((p ≡ to) × R (Kept (on_stack from) x))
   copy_test p to from x named =
       and_test (p == to) (kept_of from (index_of names x)) (p ≡ to) (R (Kept (on_stack from) x)) (eq_test p to) (kept_test from x named)
 
-  dup_comes : (fact : MustFact) → IsOfLocks fact → AreNames scope code fact → Tests (comes (change.Dup depth) fact) (Copied R (depth - 1) depth fact)
+  dup_comes : (fact : MustFact) → IsOfLocks fact → AreNames scope code fact → Decides (comes (change.Dup depth) fact) (Copied R (depth - 1) depth fact)
   dup_comes (With p x) is named = absurd is
   dup_comes (Saved b x) is named = absurd is
   dup_comes (Kept (on_stack p) x) is named = copy_test p depth (depth - 1) x named.1
@@ -510,7 +511,7 @@ module _ (scope : Scope) (code : FunctionCode) (names slots : List Variable) (as
   dup_comes (New p) is named = never ⊥ (λ q. q)
 
   tuck_comes : (fact : MustFact) → IsOfLocks fact → AreNames scope code fact
-      → Tests (comes (change.Tuck depth) fact)
+      → Decides (comes (change.Tuck depth) fact)
       (Copied R (depth - 1) (depth - 2) fact ⊎ Copied R (depth - 2) (depth - 1) fact ⊎ Copied R (depth - 1) depth fact)
   tuck_comes (With p x) is named = absurd is
   tuck_comes (Saved b x) is named = absurd is
@@ -529,7 +530,7 @@ module _ (scope : Scope) (code : FunctionCode) (names slots : List Variable) (as
   tuck_comes (Distinct x y) is named = never_three
   tuck_comes (New p) is named = never_three
 
-  conv_comes : (fact : MustFact) → IsOfLocks fact → AreNames scope code fact → Tests (comes (change.Conv depth) fact) (CopiedByte R (depth - 1) fact)
+  conv_comes : (fact : MustFact) → IsOfLocks fact → AreNames scope code fact → Decides (comes (change.Conv depth) fact) (CopiedByte R (depth - 1) fact)
   conv_comes (With p x) is named = absurd is
   conv_comes (Saved b x) is named = absurd is
   conv_comes (Kept (on_stack p) x) is named = copy_test p (depth - 1) (depth - 1) x named.1
@@ -554,8 +555,8 @@ module _ (scope : Scope) (code : FunctionCode) (names slots : List Variable) (as
   bring_none (New p) is (inl h) = let under = (out (New (depth - 0)) tt h.1).0.under in absurd (omega arith)
 
   -- the value of a place, by what is true of the values before
-  brought_test : (base p : ℕ) (its : ℕ → Bool) (P : ℕ → Type 0) → ((from : ℕ) → Tests (its from) (P from))
-      → Tests (numeric.brought depth base its p)
+  brought_test : (base p : ℕ) (its : ℕ → Bool) (P : ℕ → Type 0) → ((from : ℕ) → Decides (its from) (P from))
+      → Decides (numeric.brought depth base its p)
       (((p ≡ depth - 1) × P base) ⊎ ((at : ℕ) × (base ≤ at) × (suc at < depth) × ((p ≡ at) × P (suc at))))
   brought_test base p its P tests =
       or_test ((p == depth - 1) && its base) (nat_le base p && (nat_lt (suc p) depth && its (suc p))) ((p ≡ depth - 1) × P base)
@@ -570,7 +571,7 @@ module _ (scope : Scope) (code : FunctionCode) (names slots : List Variable) (as
       back h = subst (λ n. (base ≤ n) × (suc n < depth) × P (suc n)) (sym h.3.0) (h.1, h.2, h.3.1)
 
   -- nothing of the other fields
-  bring_never : (base : ℕ) (Q : Type 0) → (Q → ⊥) → Tests false (Q ⊎ ((at : ℕ) × (base ≤ at) × (suc at < depth) × Q))
+  bring_never : (base : ℕ) (Q : Type 0) → (Q → ⊥) → Decides false (Q ⊎ ((at : ℕ) × (base ≤ at) × (suc at < depth) × Q))
   bring_never base Q none = never (Q ⊎ ((at : ℕ) × (base ≤ at) × (suc at < depth) × Q)) no
     where
       no : Q ⊎ ((at : ℕ) × (base ≤ at) × (suc at < depth) × Q) → ⊥
@@ -578,7 +579,7 @@ module _ (scope : Scope) (code : FunctionCode) (names slots : List Variable) (as
       no (inr h) = none h.3
 
   bring_comes : (base : ℕ) (fact : MustFact) → IsOfLocks fact → AreNames scope code fact
-      → Tests (comes (change.Bring depth base) fact)
+      → Decides (comes (change.Bring depth base) fact)
       (Moved R base (depth - 1) fact ⊎ ((at : ℕ) × (base ≤ at) × (suc at < depth) × Moved R (suc at) at fact))
   bring_comes base (With p x) is named = absurd is
   bring_comes base (Saved b x) is named = absurd is
@@ -594,7 +595,7 @@ module _ (scope : Scope) (code : FunctionCode) (names slots : List Variable) (as
 
   -- a handle that is used
   use_comes : (base : ℕ) (fact : MustFact) → IsOfLocks fact → AreNames scope code fact
-      → Tests (comes (change.Use depth base) fact) (UsedIf R true base fact)
+      → Decides (comes (change.Use depth base) fact) (UsedIf R true base fact)
   use_comes base (With p x) is named = absurd is
   use_comes base (Saved b x) is named = absurd is
   use_comes base (Kept (on_stack p) x) is named = never ⊥ (λ q. q)
@@ -606,7 +607,7 @@ module _ (scope : Scope) (code : FunctionCode) (names slots : List Variable) (as
 
   -- the same, if it is unlocked or its state is set
   unlock_comes : (base : ℕ) (fact : MustFact) → IsOfLocks fact → AreNames scope code fact
-      → Tests (comes (change.Unlock depth base) fact) (UsedIf R true base fact)
+      → Decides (comes (change.Unlock depth base) fact) (UsedIf R true base fact)
   unlock_comes base (With p x) is named = absurd is
   unlock_comes base (Saved b x) is named = absurd is
   unlock_comes base (Kept (on_stack p) x) is named = never ⊥ (λ q. q)
@@ -617,7 +618,7 @@ module _ (scope : Scope) (code : FunctionCode) (names slots : List Variable) (as
   unlock_comes base (New p) is named = never ⊥ (λ q. q)
 
   set_state_comes : (base : ℕ) (fact : MustFact) → IsOfLocks fact → AreNames scope code fact
-      → Tests (comes (change.SetState depth base) fact) (UsedIf R true base fact)
+      → Decides (comes (change.SetState depth base) fact) (UsedIf R true base fact)
   set_state_comes base (With p x) is named = absurd is
   set_state_comes base (Saved b x) is named = absurd is
   set_state_comes base (Kept (on_stack p) x) is named = never ⊥ (λ q. q)
@@ -628,7 +629,7 @@ module _ (scope : Scope) (code : FunctionCode) (names slots : List Variable) (as
   set_state_comes base (New p) is named = never ⊥ (λ q. q)
 
   lock_comes : (base : ℕ) (fact : MustFact) → IsOfLocks fact → AreNames scope code fact
-      → Tests (comes (change.Lock depth base) fact) (UsedIf R true base fact ⊎ LockedBy R base fact ⊎ ⊥)
+      → Decides (comes (change.Lock depth base) fact) (UsedIf R true base fact ⊎ LockedBy R base fact ⊎ ⊥)
   lock_comes base (With p x) is named = absurd is
   lock_comes base (Saved b x) is named = absurd is
   lock_comes base (Kept (on_stack p) x) is named =
@@ -653,7 +654,7 @@ module _ (scope : Scope) (code : FunctionCode) (names slots : List Variable) (as
   lock_comes base (New p) is named = never_three
 
   read_comes : (base : ℕ) (fact : MustFact) → IsOfLocks fact → AreNames scope code fact
-      → Tests (comes (change.ReadState depth base) fact) (UsedIf R true base fact ⊎ Read R base fact ⊎ ⊥)
+      → Decides (comes (change.ReadState depth base) fact) (UsedIf R true base fact ⊎ Read R base fact ⊎ ⊥)
   read_comes base (With p x) is named = absurd is
   read_comes base (Saved b x) is named = absurd is
   read_comes base (Kept (on_stack p) x) is named =
@@ -665,7 +666,7 @@ module _ (scope : Scope) (code : FunctionCode) (names slots : List Variable) (as
   read_comes base (Distinct x y) is named = never_three
   read_comes base (New p) is named = never_three
 
-  make_comes : (base : ℕ) (fact : MustFact) → IsOfLocks fact → Tests (comes (change.Make base) fact) (⊥ ⊎ ⊥ ⊎ MadeIf true base fact)
+  make_comes : (base : ℕ) (fact : MustFact) → IsOfLocks fact → Decides (comes (change.Make base) fact) (⊥ ⊎ ⊥ ⊎ MadeIf true base fact)
   make_comes base (With p x) is = absurd is
   make_comes base (Saved b x) is = absurd is
   make_comes base (Kept (on_stack p) x) is = never_three
@@ -675,7 +676,7 @@ module _ (scope : Scope) (code : FunctionCode) (names slots : List Variable) (as
   make_comes base (Distinct x y) is = never_three
   make_comes base (New p) is = third_only (p == base) (p ≡ base) (eq_test p base)
 
-  dispose_comes : (base : ℕ) (fact : MustFact) → IsOfLocks fact → Tests (comes (change.Dispose depth base) fact) (⊥ ⊎ ⊥ ⊎ ⊥)
+  dispose_comes : (base : ℕ) (fact : MustFact) → IsOfLocks fact → Decides (comes (change.Dispose depth base) fact) (⊥ ⊎ ⊥ ⊎ ⊥)
   dispose_comes base (With p x) is = absurd is
   dispose_comes base (Saved b x) is = absurd is
   dispose_comes base (Kept (on_stack p) x) is = never_three
@@ -686,11 +687,11 @@ module _ (scope : Scope) (code : FunctionCode) (names slots : List Variable) (as
   dispose_comes base (New p) is = never_three
 
   -- what stays if all below the base does
-  plain_stays : (base : ℕ) (fact : MustFact) → IsOfLocks fact → Tests (stay_by (change.Pop base) fact) (Under base fact × Unit {0})
+  plain_stays : (base : ℕ) (fact : MustFact) → IsOfLocks fact → Decides (stay_by (change.Pop base) fact) (Under base fact × Unit {0})
   plain_stays base fact is = with_unit (stay_by (change.Pop base) fact) (Under base fact) (under_test base fact is)
 
   unlock_stays : (base : ℕ) (fact : MustFact) → IsOfLocks fact → AreNames scope code fact
-      → Tests (stay_by (change.Unlock depth base) fact) (Under base fact × StaysInRole R (Some role.Unlock) base fact)
+      → Decides (stay_by (change.Unlock depth base) fact) (Under base fact × StaysInRole R (Some role.Unlock) base fact)
   unlock_stays base (With p x) is named = absurd is
   unlock_stays base (Saved b x) is named = absurd is
   unlock_stays base (Kept (on_stack p) x) is named =
@@ -703,7 +704,7 @@ module _ (scope : Scope) (code : FunctionCode) (names slots : List Variable) (as
       with_unit (nat_lt p base && true) (p < base) (and_true (nat_lt p base) (p < base) (lt_test p base))
 
   restored_test : (base : ℕ) (y : Variable) → is_name scope code y ≡ true
-      → Tests (apart_of base (index_of names y) || (any (length names) (λ x. with_of low depth base x && saved_of low depth (suc base) x)
+      → Decides (apart_of base (index_of names y) || (any (length names) (λ x. with_of low depth base x && saved_of low depth (suc base) x)
       && kept_of (suc base) (index_of names y))) (Apart R base y ⊎ Restored R base y)
   restored_test base y named =
       or_test (apart_of base (index_of names y)) (any (length names) (λ x. with_of low depth base x && saved_of low depth (suc base) x)
@@ -712,7 +713,7 @@ module _ (scope : Scope) (code : FunctionCode) (names slots : List Variable) (as
       (IsRestore R base (suc base)) (R (Kept (on_stack (suc base)) y)) (restore_test base) (kept_test (suc base) y named))
 
   set_state_stays : (base : ℕ) (fact : MustFact) → IsOfLocks fact → AreNames scope code fact
-      → Tests (stay_by (change.SetState depth base) fact) (Under base fact × StaysInRole R (Some role.SetState) base fact)
+      → Decides (stay_by (change.SetState depth base) fact) (Under base fact × StaysInRole R (Some role.SetState) base fact)
   set_state_stays base (With p x) is named = absurd is
   set_state_stays base (Saved b x) is named = absurd is
   set_state_stays base (Kept (on_stack p) x) is named =
@@ -730,7 +731,7 @@ module _ (scope : Scope) (code : FunctionCode) (names slots : List Variable) (as
       with_unit (nat_lt p base && true) (p < base) (and_true (nat_lt p base) (p < base) (lt_test p base))
 
   dispose_stays : (base : ℕ) (fact : MustFact) → IsOfLocks fact → AreNames scope code fact
-      → Tests (stay_by (change.Dispose depth base) fact) (Under base fact × StaysInRole R (Some role.DisposeHandle) base fact)
+      → Decides (stay_by (change.Dispose depth base) fact) (Under base fact × StaysInRole R (Some role.DisposeHandle) base fact)
   dispose_stays base (With p x) is named = absurd is
   dispose_stays base (Saved b x) is named = absurd is
   dispose_stays base (Kept (on_stack p) x) is named =
@@ -750,13 +751,13 @@ module _ (scope : Scope) (code : FunctionCode) (names slots : List Variable) (as
       ⊎ UsedIf R (uses_handle its) base fact ⊎ BroughtByRole R its base fact ⊎ MadeIf (makes_by its by_type) base fact
 
   nothing : (base : ℕ) (fact : MustFact) → base ≤ depth → IsOfLocks fact → AreNames scope code fact
-      → Tests (given (change.Pop base) (field_of names slots fact) (bit_of names slots fact)) (((Under base fact × Unit {0}) × R fact) ⊎ ⊥ ⊎ ⊥ ⊎ ⊥)
+      → Decides (given (change.Pop base) (field_of names slots fact) (bit_of names slots fact)) (((Under base fact × Unit {0}) × R fact) ⊎ ⊥ ⊎ ⊥ ⊎ ⊥)
   nothing base fact low is named =
       whole_test (change.Pop base) fact (Under base fact × Unit {0}) (⊥ ⊎ ⊥ ⊎ ⊥) is named (λ h. under_more base depth low fact h.0)
       (plain_stays base fact is) (none_test base fact (⊥ ⊎ ⊥ ⊎ ⊥) none_of_three is)
 
   uses : (base : ℕ) (fact : MustFact) → base ≤ depth → IsOfLocks fact → AreNames scope code fact
-      → Tests (given (change.Use depth base) (field_of names slots fact) (bit_of names slots fact))
+      → Decides (given (change.Use depth base) (field_of names slots fact) (bit_of names slots fact))
       (((Under base fact × Unit {0}) × R fact) ⊎ UsedIf R true base fact ⊎ ⊥ ⊎ ⊥)
   uses base fact low is named =
       whole_test (change.Use depth base) fact (Under base fact × Unit {0}) (UsedIf R true base fact ⊎ ⊥ ⊎ ⊥) is named
@@ -764,14 +765,14 @@ module _ (scope : Scope) (code : FunctionCode) (names slots : List Variable) (as
       (first_only (comes (change.Use depth base) fact) (UsedIf R true base fact) (use_comes base fact is named))
 
   makes : (base : ℕ) (fact : MustFact) → base ≤ depth → IsOfLocks fact → AreNames scope code fact
-      → Tests (given (change.Make base) (field_of names slots fact) (bit_of names slots fact))
+      → Decides (given (change.Make base) (field_of names slots fact) (bit_of names slots fact))
       (((Under base fact × Unit {0}) × R fact) ⊎ ⊥ ⊎ ⊥ ⊎ MadeIf true base fact)
   makes base fact low is named =
       whole_test (change.Make base) fact (Under base fact × Unit {0}) (⊥ ⊎ ⊥ ⊎ MadeIf true base fact) is named
       (λ h. under_more base depth low fact h.0) (plain_stays base fact is) (make_comes base fact is)
 
   unlock_all : (base : ℕ) (fact : MustFact) → base ≤ depth → IsOfLocks fact → AreNames scope code fact
-      → Tests (given (change.Unlock depth base) (field_of names slots fact) (bit_of names slots fact))
+      → Decides (given (change.Unlock depth base) (field_of names slots fact) (bit_of names slots fact))
       (((Under base fact × StaysInRole R (Some role.Unlock) base fact) × R fact) ⊎ UsedIf R true base fact ⊎ ⊥ ⊎ ⊥)
   unlock_all base fact low is named =
       whole_test (change.Unlock depth base) fact (Under base fact × StaysInRole R (Some role.Unlock) base fact) (UsedIf R true base fact ⊎ ⊥ ⊎ ⊥) is named
@@ -779,7 +780,7 @@ module _ (scope : Scope) (code : FunctionCode) (names slots : List Variable) (as
       (first_only (comes (change.Unlock depth base) fact) (UsedIf R true base fact) (unlock_comes base fact is named))
 
   role_test : (its : Option Role) (by_type : Bool) (base : ℕ) (fact : MustFact) → base ≤ depth → IsOfLocks fact → AreNames scope code fact
-      → Tests (given (role_change its by_type depth base) (field_of names slots fact) (bit_of names slots fact)) (RoleGives its by_type base fact)
+      → Decides (given (role_change its by_type depth base) (field_of names slots fact) (bit_of names slots fact)) (RoleGives its by_type base fact)
   role_test None t base fact low is named = nothing base fact low is named
   role_test (Some role.NewHandle) t base fact low is named = makes base fact low is named
   role_test (Some role.DisposeHandle) t base fact low is named =
@@ -813,12 +814,12 @@ module _ (scope : Scope) (code : FunctionCode) (names slots : List Variable) (as
   -- ---- calls
 
   spared_name : (f : ℕ) (x : Variable) → is_name scope code x ≡ true
-      → Tests (not (gone (assigned f) names (index_of names x))) ((g : ℕ) → assigned f g ≡ true → not (same_variable x (name.Global g)) ≡ true)
+      → Decides (not (gone (assigned f) names (index_of names x))) ((g : ℕ) → assigned f g ≡ true → not (same_variable x (name.Global g)) ≡ true)
   spared_name f x named =
-      subst (λ (it : Option Variable). Tests (not (gone_of (assigned f) it)) ((g : ℕ) → assigned f g ≡ true → not (same_variable x (name.Global g)) ≡ true))
+      subst (λ (it : Option Variable). Decides (not (gone_of (assigned f) it)) ((g : ℕ) → assigned f g ≡ true → not (same_variable x (name.Global g)) ≡ true))
       (sym (index_found names x (listed x named))) (spared x)
     where
-      spared : (v : Variable) → Tests (not (gone_of (assigned f) (Some v))) ((g : ℕ) → assigned f g ≡ true → not (same_variable v (name.Global g)) ≡ true)
+      spared : (v : Variable) → Decides (not (gone_of (assigned f) (Some v))) ((g : ℕ) → assigned f g ≡ true → not (same_variable v (name.Global g)) ≡ true)
       spared (name.Local p) = always ((g : ℕ) → assigned f g ≡ true → true ≡ true) (λ g a. refl)
       spared (name.Global h) = (there, back)
         where
@@ -832,10 +833,10 @@ module _ (scope : Scope) (code : FunctionCode) (names slots : List Variable) (as
 
   spared_slot : (f : ℕ) (b : Variable) → is_slot_in scope.types (variable_in scope b) ≡ true
       → ((g : ℕ) → is_slot_in scope.types (variable_in scope (name.Global g)) ≡ true → assigned f g ≡ true → index_of slots (name.Global g) < length slots)
-      → Tests (not (gone (assigned f) slots (index_of slots b))) ((g : ℕ) → assigned f g ≡ true → not (same_variable b (name.Global g)) ≡ true)
+      → Decides (not (gone (assigned f) slots (index_of slots b))) ((g : ℕ) → assigned f g ≡ true → not (same_variable b (name.Global g)) ≡ true)
   spared_slot f b slot are = by_place (cases_lt (index_of slots b) (length slots))
     where
-      spared : (v : Variable) → Tests (not (gone_of (assigned f) (Some v))) ((g : ℕ) → assigned f g ≡ true → not (same_variable v (name.Global g)) ≡ true)
+      spared : (v : Variable) → Decides (not (gone_of (assigned f) (Some v))) ((g : ℕ) → assigned f g ≡ true → not (same_variable v (name.Global g)) ≡ true)
       spared (name.Local p) = always ((g : ℕ) → assigned f g ≡ true → true ≡ true) (λ g a. refl)
       spared (name.Global h) = (there, back)
         where
@@ -854,22 +855,22 @@ module _ (scope : Scope) (code : FunctionCode) (names slots : List Variable) (as
           omega (arith, far, here)
 
       by_place : (index_of slots b < length slots) ⊎ (length slots ≤ index_of slots b)
-          → Tests (not (gone (assigned f) slots (index_of slots b))) ((g : ℕ) → assigned f g ≡ true → not (same_variable b (name.Global g)) ≡ true)
+          → Decides (not (gone (assigned f) slots (index_of slots b))) ((g : ℕ) → assigned f g ≡ true → not (same_variable b (name.Global g)) ≡ true)
       by_place (inl l) =
-          subst (λ (it : Option Variable). Tests (not (gone_of (assigned f) it)) ((g : ℕ) → assigned f g ≡ true → not (same_variable b (name.Global g))
+          subst (λ (it : Option Variable). Decides (not (gone_of (assigned f) it)) ((g : ℕ) → assigned f g ≡ true → not (same_variable b (name.Global g))
           ≡ true)) (sym (index_found slots b l)) (spared b)
       by_place (inr far) =
-          subst (λ (t : Bool). Tests (not t) ((g : ℕ) → assigned f g ≡ true → not (same_variable b (name.Global g)) ≡ true))
+          subst (λ (t : Bool). Decides (not t) ((g : ℕ) → assigned f g ≡ true → not (same_variable b (name.Global g)) ≡ true))
           (sym (gone_past (assigned f) slots (index_of slots b) far))
           (always ((g : ℕ) → assigned f g ≡ true → not (same_variable b (name.Global g)) ≡ true)
           (λ g a. ap not (other_variables b (name.Global g) (λ e. past far g a e))))
 
-  may_test : (effect : Bool) → Tests (not effect) (effect ≡ true → ⊥)
+  may_test : (effect : Bool) → Decides (not effect) (effect ≡ true → ⊥)
   may_test effect = not_test effect (effect ≡ true) (self_test effect)
 
   -- two that are spared, by one test
-  spared_two : (f : ℕ) (a b : Bool) (x y : ℕ → Bool) → Tests a ((g : ℕ) → assigned f g ≡ true → x g ≡ true) → Tests b ((g : ℕ) → assigned f g ≡ true
-      → y g ≡ true) → Tests (a && b) ((g : ℕ) → assigned f g ≡ true → (x g && y g) ≡ true)
+  spared_two : (f : ℕ) (a b : Bool) (x y : ℕ → Bool) → Decides a ((g : ℕ) → assigned f g ≡ true → x g ≡ true) → Decides b ((g : ℕ) → assigned f g ≡ true
+      → y g ≡ true) → Decides (a && b) ((g : ℕ) → assigned f g ≡ true → (x g && y g) ≡ true)
   spared_two f a b x y s t =
       as_test (a && b) (((g : ℕ) → assigned f g ≡ true → x g ≡ true) × ((g : ℕ) → assigned f g ≡ true → y g ≡ true))
       ((g : ℕ) → assigned f g ≡ true → (x g && y g) ≡ true)
@@ -885,13 +886,13 @@ module _ (scope : Scope) (code : FunctionCode) (names slots : List Variable) (as
       Under base fact × StaysInCall (impact_with assigned unlocks disposes) f fact × IsSpared (impact_with assigned unlocks disposes) f fact
 
   -- in the order of the test
-  turn_three : (test : Bool) (P Q S : Type 0) → Tests test (P × S × Q) → Tests test (P × Q × S)
+  turn_three : (test : Bool) (P Q S : Type 0) → Decides test (P × S × Q) → Decides test (P × Q × S)
   turn_three test P Q S t = as_test test (P × S × Q) (P × Q × S) (λ h. (h.0, h.2, h.1)) (λ h. (h.0, h.2, h.1)) t
 
   call_stays : (base f : ℕ) (fact : MustFact)
       → ((g : ℕ) → is_slot_in scope.types (variable_in scope (name.Global g)) ≡ true → assigned f g ≡ true → index_of slots (name.Global g) < length slots)
       → IsOfLocks fact → AreNames scope code fact
-      → Tests (stay_by (change.Call base f (unlocks f) (disposes f)) fact) (CallStays base f fact)
+      → Decides (stay_by (change.Call base f (unlocks f) (disposes f)) fact) (CallStays base f fact)
   call_stays base f (With p x) are is named = absurd is
   call_stays base f (Saved b x) are is named = absurd is
   call_stays base f (Kept (on_stack p) x) are is named =
@@ -945,7 +946,7 @@ module _ (scope : Scope) (code : FunctionCode) (names slots : List Variable) (as
       as_test (nat_lt p base && true) (p < base) (CallStays base f (New p)) (λ h. (h, tt, λ g k. refl)) (λ h. h.0)
       (and_true (nat_lt p base) (p < base) (lt_test p base))
 
-  call_comes : (base f : ℕ) (fact : MustFact) → IsOfLocks fact → Tests (comes (change.Call base f (unlocks f) (disposes f)) fact) ⊥
+  call_comes : (base f : ℕ) (fact : MustFact) → IsOfLocks fact → Decides (comes (change.Call base f (unlocks f) (disposes f)) fact) ⊥
   call_comes base f (With p x) is = absurd is
   call_comes base f (Saved b x) is = absurd is
   call_comes base f (Kept (on_stack p) x) is = never ⊥ (λ q. q)
@@ -957,12 +958,12 @@ module _ (scope : Scope) (code : FunctionCode) (names slots : List Variable) (as
 
   -- ---- all operations
 
-  abbrev OpTests : Op → MustFact → Type 0
-  OpTests its fact =
-      Tests (given (change_of scope code names slots unlocks disposes its depth) (field_of names slots fact) (bit_of names slots fact))
+  abbrev OpDecides : Op → MustFact → Type 0
+  OpDecides its fact =
+      Decides (given (change_of scope code names slots unlocks disposes its depth) (field_of names slots fact) (bit_of names slots fact))
       (Gives scope code (impact_with assigned unlocks disposes) R its depth fact)
 
-  pub gives_test : (its : Op) (fact : MustFact) → OpFits scope slots assigned its → IsOfLocks fact → AreNames scope code fact → OpTests its fact
+  pub gives_test : (its : Op) (fact : MustFact) → OpFits scope slots assigned its → IsOfLocks fact → AreNames scope code fact → OpDecides its fact
   gives_test (op.Num bits) fact fits is named = pop_test (depth - taken scope (op.Num bits)) fact (omega arith) is named
   gives_test op.Nil fact fits is named = pop_test (depth - taken scope op.Nil) fact (omega arith) is named
   gives_test (op.Address its) fact fits is named = pop_test (depth - taken scope (op.Address its)) fact (omega arith) is named

@@ -6,6 +6,7 @@
 use Rattle.std.proofs.Common.{◌≡◌, ◌≢◌, ◌<◌, ◌≤◌, ◌⊎◌, ℕ, zero, suc, ◌+◌, ◌*◌, Bool, true, false, ap, sym, subst, ◌∙◌, refl, inl, inr, arith, List, length, slice_get, Option, Some, None}
 use Rattle.std.proofs.lemmas.Nat.{row_fits}
 use Rattle.std.proofs.lemmas.Option.{slice_get_within}
+use Rattle.std.specs.Bool.{Decides}
 use Rattle.hs_code.specs.Following.{Follows, IsNext, IsNextOf}
 use Rattle.hs_code.specs.Stacks.{Scope}
 use Rattle.hs_code.specs.declared.function_code.Placed.{Placed}
@@ -26,7 +27,6 @@ use Rattle.hs_lock_rows.specs.Changing.{change_of}
 use Rattle.hs_lock_rows.specs.Laws.Exact.{gives_test, impact_with}
 use Rattle.hs_lock_rows.specs.Layout.{IsField, IsOfLocks, bit_of, field_number, field_of, fields, number, total}
 use Rattle.hs_lock_rows.specs.Given.{given}
-use Rattle.hs_lock_rows.specs.Laws.Tests.{Tests}
 use Rattle.hs_lock_rows.specs.Making.{gone_by, locks_in, makes}
 use Rattle.hs_lock_rows.specs.declared.change.Change.{Change}
 use Rattle.hs_lock_rows.specs.declared.field.Field.{Field}
@@ -187,13 +187,13 @@ module _ (scope : Scope) (task : low_rows.Task) (unlocks disposes : ℕ → Bool
   -- what an operation gives of a row is what it gives of its facts
   row_test : (sets : Sets) → NoneFirst sets → (from : ℕ) (its : Placed) → slice_get task.code.ops from ≡ Some its → (fact : MustFact) → IsOfLocks fact
       → AreNames scope task.code fact
-      → Tests (given task.plan.names (gone_by task.assigned task.names) (gone_by task.assigned task.slots) (low_rows.facts_at task low from)
+      → Decides (given task.plan.names (gone_by task.assigned task.names) (gone_by task.assigned task.slots) (low_rows.facts_at task low from)
       (locks_in task.plan (has sets from))
       (change_of scope task.code task.names task.slots unlocks disposes its.op its.places) (field_of task.names task.slots fact)
       (bit_of task.names task.slots fact))
       (Gives scope task.code (impact_with task.assigned unlocks disposes) (Rows sets from) its.op its.places fact)
   row_test sets none from its there fact is named =
-      subst (λ n. Tests (given n (gone_by task.assigned task.names) (gone_by task.assigned task.slots) (low_rows.facts_at task low from)
+      subst (λ n. Decides (given n (gone_by task.assigned task.names) (gone_by task.assigned task.slots) (low_rows.facts_at task low from)
       (locks_in task.plan (has sets from))
       (change_of scope task.code task.names task.slots unlocks disposes its.op its.places) (field_of task.names task.slots fact)
       (bit_of task.names task.slots fact))

@@ -1,13 +1,10 @@
--- Tests that are true exactly if something is so.
---     Tests test P        each way
+-- Tests that are true exactly if something is so (`Decides`).
 --     and_test, or_test, any_test, ..     of tests that are put together
 use Rattle.std.proofs.Common.{◌≡◌, ◌≢◌, ◌<◌, ◌≤◌, ◌⊎◌, ℕ, zero, suc, ◌==◌, nat_lt, nat_le, Bool, true, false, not, ◌&&◌, ◌||◌, ap, sym, subst, ◌∙◌, refl, inl, inr, arith}
 use Rattle.std.proofs.lemmas.Bool.{cases_eq, cases_lt}
 use Rattle.std.proofs.lemmas.Bool.Decides.{nat_tests}
+use Rattle.std.specs.Bool.{Decides}
 use Rattle.hs_lock_rows.specs.Given.{any}
-
-abbrev pub Tests : Bool → Type 0 → Type 0
-Tests test P = (test ≡ true → P) × (P → test ≡ true)
 
 true_false : {P : Type 0} → true ≡ false → P
 true_false h = grind arith
@@ -15,43 +12,43 @@ true_false h = grind arith
 pub false_true : {P : Type 0} → false ≡ true → P
 false_true h = grind arith
 
-pub always : (P : Type 0) → P → Tests true P
+pub always : (P : Type 0) → P → Decides true P
 always P p = (λ h. p, λ q. refl)
 
-pub never : (P : Type 0) → (P → ⊥) → Tests false P
+pub never : (P : Type 0) → (P → ⊥) → Decides false P
 never P none = (λ h. false_true h, λ q. absurd (none q))
 
 -- the same thing in other words
-pub as_test : (test : Bool) (P Q : Type 0) → (P → Q) → (Q → P) → Tests test P → Tests test Q
+pub as_test : (test : Bool) (P Q : Type 0) → (P → Q) → (Q → P) → Decides test P → Decides test Q
 as_test test P Q there back t = (λ h. there (t.0 h), λ q. t.1 (back q))
 
 -- the test itself
-pub self_test : (test : Bool) → Tests test (test ≡ true)
+pub self_test : (test : Bool) → Decides test (test ≡ true)
 self_test test = (λ h. h, λ h. h)
 
-pub same_test : (a b : Bool) → a ≡ b → Tests a (b ≡ true)
+pub same_test : (a b : Bool) → a ≡ b → Decides a (b ≡ true)
 same_test a b e = (λ h. sym e ∙ h, λ h. e ∙ h)
 
-pub and_test : (a b : Bool) (P Q : Type 0) → Tests a P → Tests b Q → Tests (a && b) (P × Q)
+pub and_test : (a b : Bool) (P Q : Type 0) → Decides a P → Decides b Q → Decides (a && b) (P × Q)
 and_test true b P Q s t = (λ h. (s.0 refl, t.0 h), λ q. t.1 q.1)
 and_test false b P Q s t = (λ h. false_true h, λ q. s.1 q.0)
 
 -- the second test counts only if the first thing is so
-pub and_then : (a b : Bool) (P Q : Type 0) → Tests a P → (P → Tests b Q) → Tests (a && b) (P × Q)
+pub and_then : (a b : Bool) (P Q : Type 0) → Decides a P → (P → Decides b Q) → Decides (a && b) (P × Q)
 and_then true b P Q s t = (λ h. let p = s.0 refl in (p, (t p).0 h), λ q. (t q.0).1 q.1)
 and_then false b P Q s t = (λ h. false_true h, λ q. s.1 q.0)
 
 -- a second test that is always true
-pub and_true : (a : Bool) (P : Type 0) → Tests a P → Tests (a && true) P
+pub and_true : (a : Bool) (P : Type 0) → Decides a P → Decides (a && true) P
 and_true true P s = s
 and_true false P s = s
 
-pub and_three : (a b c : Bool) (P Q S : Type 0) → Tests a P → Tests b Q → Tests c S → Tests (a && (b && c)) (P × Q × S)
+pub and_three : (a b c : Bool) (P Q S : Type 0) → Decides a P → Decides b Q → Decides c S → Decides (a && (b && c)) (P × Q × S)
 and_three a b c P Q S s t u =
     as_test (a && (b && c)) (P × (Q × S)) (P × Q × S) (λ h. (h.0, h.1.0, h.1.1)) (λ h. (h.0, (h.1, h.2)))
     (and_test a (b && c) P (Q × S) s (and_test b c Q S t u))
 
-pub or_test : (a b : Bool) (P Q : Type 0) → Tests a P → Tests b Q → Tests (a || b) (P ⊎ Q)
+pub or_test : (a b : Bool) (P Q : Type 0) → Decides a P → Decides b Q → Decides (a || b) (P ⊎ Q)
 or_test true b P Q s t = (λ h. inl (s.0 refl), λ q. refl)
 or_test false b P Q s t = (λ h. inr (t.0 h), right)
   where
@@ -59,17 +56,17 @@ or_test false b P Q s t = (λ h. inr (t.0 h), right)
     right (inl p) = false_true (s.1 p)
     right (inr q) = t.1 q
 
-pub not_test : (a : Bool) (P : Type 0) → Tests a P → Tests (not a) (P → ⊥)
+pub not_test : (a : Bool) (P : Type 0) → Decides a P → Decides (not a) (P → ⊥)
 not_test true P s = (λ h. false_true h, λ none. absurd (none (s.0 refl)))
 not_test false P s = (λ h p. false_true (s.1 p), λ none. refl)
 
-pub eq_test : (a b : ℕ) → Tests (a == b) (a ≡ b)
+pub eq_test : (a b : ℕ) → Decides (a == b) (a ≡ b)
 eq_test a b = (λ h. grind (arith, nat_tests), λ h. grind (arith, nat_tests))
 
-pub lt_test : (a b : ℕ) → Tests (nat_lt a b) (a < b)
+pub lt_test : (a b : ℕ) → Decides (nat_lt a b) (a < b)
 lt_test a b = (λ h. grind (arith, nat_tests), λ h. grind (arith, nat_tests))
 
-pub le_test : (a b : ℕ) → Tests (nat_le a b) (a ≤ b)
+pub le_test : (a b : ℕ) → Decides (nat_le a b) (a ≤ b)
 le_test a b = (λ h. grind (arith, nat_tests), λ h. grind (arith, nat_tests))
 
 -- ---- one number of many

@@ -1,63 +1,32 @@
-use Rattle.std.proofs.Common.{◌≡◌, ◌≤◌, ◌+◌, List, length, sym, subst, ◌∙◌, ap}
+use Rattle.std.proofs.Common.{◌≤◌, ◌+◌, List, length, sym, subst}
 use Rattle.hs_code.specs.declared.function_code.Placed.{Placed}
 use Rattle.hs_effects.specs.Calling.{whole_of}
-use Rattle.hs_fact_rows.specs.Cuts.{IsSolved, IsTask, Task}
-use Rattle.hs_restores.specs.Laws.Jobs.{same_task, task_whole}
-use Rattle.hs_restores.specs.Laws.Naming.{distinct_names}
-use Rattle.hs_restores.specs.Laws.Numbering.{IsDistinct}
-use Rattle.hs_restores.specs.Laws.Noting.{noted_more, window_is}
+use Rattle.hs_restores.specs.Laws.Noting.{noted_more}
 use Rattle.hs_restores.specs.Restoring.{AddsShown, Noted, assigned_of}
-use Rattle.hs_restores.specs.Stepping.{greatest, scope_in}
+use Rattle.hs_restores.specs.Stepping.{scope_in}
 use Rattle.hs_tree.specs.Views.{view_function}
 use Rattle.hs_tree.specs.declared.head.Variable.{Variable}
 use Rattle.hs_restores.proofs.finding.note_window.Goals as goal
 
--- no name is there twice
-pub steps_by-requires-clause-distinct : goal.steps_by-requires-clause-distinct
-steps_by-requires-clause-distinct c =
-    subst IsDistinct (sym c.requires.names)
-    (distinct_names (scope_in c.args.code.now.program.now (view_function c.args.own.function.now)) c.args.own.code.now)
-
--- the job is the task of the window
-pub solve-requires-clause-task : goal.solve-requires-clause-task
-solve-requires-clause-task c =
-    subst IsTask
-    (sym (same_task (scope_in c.args.code.now.program.now (view_function c.args.own.function.now)) c.args.own.code.now c.in_ok-plan.plan
-    c.args.window.0 c.args.window.1 (assigned_of c.args.callees.now) c.args.own.names.now c.part.result.now c.args.own.slots.now c.items-slots.result.now
-    c.deref.result.now c.items-ops.result.now c.part.ensures c.items-slots.ensures
-    (c.deref.ensures.value ∙ c.in_ok-steps.ensures (view_function c.args.own.function.now)) c.items-ops.ensures.lends c.requires.names))
-    (task_whole (scope_in c.args.code.now.program.now (view_function c.args.own.function.now)) c.args.own.code.now c.in_ok-plan.plan
-    c.args.window.0 c.args.window.1 c.args.own.slots.now (assigned_of c.args.callees.now)
-    (window_is (whole_of c.args.code.now) c.args.own.number (view_function c.args.own.function.now) c.args.own.code.now c.args.own.slots.now
-    (assigned_of c.args.callees.now) c.requires.ready c.in_ok-plan.plan c.args.window.0 c.args.window.1
-    (subst (λ (list : List Variable). c.args.window.0 + c.args.window.1 ≤ length list) c.requires.names c.requires.fits) c.in_ok-plan.ensures.names
-    (c.in_ok-plan.ensures.slots ∙ ap length c.items-slots.ensures)
-    (c.in_ok-plan.ensures.places ∙ c.greatest.ensures ∙ ap (greatest 0) c.items-ops.ensures.lends)))
-
 -- each operation has a row
 pub note_shown-requires-clause-fit : goal.note_shown-requires-clause-fit
 note_shown-requires-clause-fit c at low =
-    c.in_ok-rows.ensures.fit at (subst (λ (ops : List Placed). at ≤ length ops) c.items-ops.ensures.lends low)
+    c.in_ok-its.ensures.fit at (subst (λ (ops : List Placed). at ≤ length ops) c.items.ensures.lends low)
 
 -- the restores of the window are noted
 pub returns : goal.returns
 returns c =
     let fits = subst (λ (list : List Variable). c.args.window.0 + c.args.window.1 ≤ length list) c.requires.names c.requires.fits in
-    let slots : c.in_ok-plan.plan.slots ≡ length c.args.own.slots.now = c.in_ok-plan.ensures.slots ∙ ap length c.items-slots.ensures in
-    let places : c.in_ok-plan.plan.places ≡ greatest 0 c.args.own.code.now.ops =
-    c.in_ok-plan.ensures.places ∙ c.greatest.ensures ∙ ap (greatest 0) c.items-ops.ensures.lends in
-    let same = same_task (scope_in c.args.code.now.program.now (view_function c.args.own.function.now)) c.args.own.code.now
-    c.in_ok-plan.plan c.args.window.0 c.args.window.1 (assigned_of c.args.callees.now) c.args.own.names.now c.part.result.now c.args.own.slots.now
-    c.items-slots.result.now c.deref.result.now c.items-ops.result.now c.part.ensures c.items-slots.ensures
-    (c.deref.ensures.value ∙ c.in_ok-steps.ensures (view_function c.args.own.function.now)) c.items-ops.ensures.lends c.requires.names in
+    let its = c.in_ok-its.its in
+    let for_window = c.in_ok-its.ensures.for_window in
     subst (λ (list : List Variable). Noted (whole_of c.args.code.now) c.args.own.number list (c.args.window.0 + c.args.window.1) c.note_shown.new.restores)
     (sym c.requires.names)
     (noted_more (whole_of c.args.code.now) c.args.own.number (view_function c.args.own.function.now) c.args.own.code.now c.args.own.slots.now
-    (assigned_of c.args.callees.now) c.requires.ready c.in_ok-plan.plan c.args.window.0 c.args.window.1 fits c.in_ok-plan.ensures.names slots places
-    c.in_ok-rows.rows (subst (λ (its : Task). IsSolved its c.in_ok-rows.rows) same c.in_ok-rows.ensures.solved) c.args.restores.now
+    (assigned_of c.args.callees.now) c.requires.ready its.plan c.args.window.0 c.args.window.1 fits for_window.plan_names for_window.plan_slots
+    for_window.plan_places its.rows c.in_ok-its.ensures.solved c.args.restores.now
     c.note_shown.new.restores
     (subst (λ (ops : List Placed). AddsShown (scope_in c.args.code.now.program.now (view_function c.args.own.function.now))
-    c.in_ok-plan.plan c.in_ok-rows.rows ops (length ops) c.args.restores.now c.note_shown.new.restores) c.items-ops.ensures.lends
+    its.plan its.rows ops (length ops) c.args.restores.now c.note_shown.new.restores) c.items.ensures.lends
     (c.note_shown.ensures (view_function c.args.own.function.now)))
     (subst (λ (list : List Variable). Noted (whole_of c.args.code.now) c.args.own.number list c.args.window.0 c.args.restores.now) c.requires.names
     c.requires.noted))

@@ -11,8 +11,10 @@ use hs_code::Op;
 use hs_table::Role;
 use hs_tree::{BoundRoutine, Function, Program};
 
-/// How many values an operation takes.
-pub(crate) fn taken(program: &Program, op: Op) -> usize
+/// Returns how many values an operation takes.
+///
+/// Example: 2 for `Op::Tuck`.
+pub fn taken(program: &Program, op: Op) -> usize
     ensures { (function : TypedFunction) → result ≡ taken (scope_in program.now function) op }
 {
     match op {
@@ -71,8 +73,10 @@ fn taken_by_function(functions: &[Function], place: u32) -> usize
     }
 }
 
-/// The role of the routine of that number, if it is there.
-pub(crate) fn role_at(routines: &[BoundRoutine], place: u32) -> Option<Role>
+/// Returns the role of the routine of that number, if it is there.
+///
+/// Example: `None` for a number past the routines.
+pub fn role_at(routines: &[BoundRoutine], place: u32) -> Option<Role>
     ensures { result ≡ role_in (slice_get routines.now place) }
 {
     match routines.get(place as usize) {

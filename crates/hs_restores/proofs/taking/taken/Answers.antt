@@ -5,7 +5,7 @@ use Rattle.hs_code.specs.declared.op.Op.{Op}
 use Rattle.hs_facts.specs.Names.{taken}
 use Rattle.hs_tree.specs.declared.function.Function.{Function}
 use Rattle.hs_restores.specs.Stepping.{scope_in}
-use Rattle.hs_restores.proofs.taken.taken.Goals as goal
+use Rattle.hs_restores.proofs.taking.taken.Goals as goal
 
 pub returns-in-Call : goal.returns-in-Call
 returns-in-Call c function =
