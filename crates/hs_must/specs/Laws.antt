@@ -1,0 +1,3 @@
+pub mod Changing
+pub mod Exact
+pub mod Impacts
