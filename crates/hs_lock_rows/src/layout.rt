@@ -1,9 +1,9 @@
 //! Where the fields of a row are.
 
-ghost use Rattle.std.specs.Prelude.{◌≡◌, ◌<◌, ◌≤◌, ◌+◌, ◌*◌, ◌^◌, ℕ, false};
+ghost use Rattle.std.specs.Prelude.{◌≡◌, ◌<◌, ◌≤◌, ◌+◌, ◌*◌, ◌^◌, ℕ, false, IfSome, IsTrue};
 ghost use Rattle.hs_lock_rows.specs.Given.{Locks};
 ghost use Rattle.hs_lock_rows.specs.Knowing.{HasRoom};
-ghost use Rattle.hs_lock_rows.specs.Layout.{IsField, field_number, fields, fixed, total};
+ghost use Rattle.hs_lock_rows.specs.Layout.{IsField, field_number, fields, fixed, number, total};
 ghost use Rattle.hs_lock_rows.specs.Making.{Shows};
 ghost use Rattle.hs_rows.specs.Sets.{bit_in, has};
 
@@ -105,4 +105,36 @@ pub(crate) fn read(rows: &Rows, plan: Plan, row: usize, its: Field) -> u64
     ensures few { (i : ℕ) → plan.names ≤ i → bit_in result i ≡ false }
 {
     field(rows, row, first(plan, its), plan.names)
+}
+
+/// Returns whether the row before an operation has a name in a field.
+///
+/// Example: of `Field::Locked`, whether the name is locked.
+pub fn has_name(rows: &Rows, plan: Plan, row: usize, its: Field, name: usize) -> bool
+    requires there { IsField plan its }
+    requires name_in_range { name < plan.names }
+    requires room { HasRoom plan rows.now row }
+    ensures { result ≡ has rows.now row (number plan its name) }
+{
+    rows.has(row, first(plan, its) + name)
+}
+
+/// Returns whether the numbers of the facts of a plan are numbers of the machine.
+///
+/// Example: false for 64 names and 2^60 places.
+pub fn fits(plan: Plan) -> bool
+    ensures fields { IsTrue result → fields plan < 2 ^ 64 }
+    ensures numbers { IsTrue result → total plan < 2 ^ 64 }
+{
+    numbers(plan).is_some()
+}
+
+/// How many numbers the facts of a plan have, if that is a number of the machine.
+fn numbers(plan: Plan) -> Option<usize>
+    ensures fields { IfSome result (λ its. fields plan < 2 ^ 64) }
+    ensures all { IfSome result (λ its. total plan < 2 ^ 64) }
+{
+    let places = plan.places.checked_mul(2)?;
+    let front = plan.slots.checked_add(plan.names)?.checked_add(3)?;
+    front.checked_add(places)?.checked_mul(plan.names)
 }

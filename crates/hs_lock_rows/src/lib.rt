@@ -14,4 +14,6 @@ mod words;
 
 pub use change::Change;
 pub use field::Field;
+pub use layout::{fits, has_name};
 pub use solving::{LockJob, solve_locks};
+pub use words::has_bit;

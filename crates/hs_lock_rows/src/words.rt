@@ -6,9 +6,11 @@ ghost use Rattle.hs_rows.specs.Sets.{bit_in};
 
 use hs_fact_rows::one;
 
-/// Whether the word has a bit.
+/// Returns whether the word has a bit.
+///
+/// Example: true for 6 and the bit 1.
 #[tactic(auto, using(crate::proofs::Bits::has_read))]
-pub(crate) fn has_bit(word: u64, bit: usize) -> bool
+pub fn has_bit(word: u64, bit: usize) -> bool
     requires fits { bit < 64 }
     ensures { result ≡ bit_in word bit }
 {

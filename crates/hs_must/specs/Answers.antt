@@ -61,12 +61,13 @@ module _ (its : FunctionAnswers) where
 
 -- ---- all functions
 
--- of the function of that number, if it is there
-abbrev pub asked : Option FunctionAnswers → (FunctionAnswers → Bool) → Bool
+-- of the function of that number, if it is there and has a name
+abbrev pub asked : Option (Option FunctionAnswers) → (FunctionAnswers → Bool) → Bool
 asked None answer = false
-asked (Some its) answer = answer its
+asked (Some None) answer = false
+asked (Some (Some its)) answer = answer its
 
-module _ (answers : List FunctionAnswers) (f at : ℕ) where
+module _ (answers : List (Option FunctionAnswers)) (f at : ℕ) where
   abbrev pub locked_in : ℕ → Bool
   locked_in h = asked (slice_get answers f) (λ its. locked_by its at h)
 
@@ -124,7 +125,7 @@ pub record IsFacts (whole : WholeCode) (f : ℕ) (its : FunctionAnswers) : Type 
   pub saved : (at : ℕ) (b : Variable) (h : ℕ) (x : Variable) → IsName whole f h x → IsSlot whole f b
       → Decides (saved_by its at b h) (HoldsAt whole f at (Saved (in_slot b) x))
 
-pub record IsExact (whole : WholeCode) (answers : List FunctionAnswers) : Type 0 where
+pub record IsExact (whole : WholeCode) (answers : List (Option FunctionAnswers)) : Type 0 where
   pub locked : (f at h : ℕ) (x : Variable) → IsName whole f h x → Decides (locked_in answers f at h) (HoldsAt whole f at (Locked x))
   pub live : (f at h : ℕ) (x : Variable) → IsName whole f h x → Decides (live_in answers f at h) (HoldsAt whole f at (Live x))
   pub distinct : (f at a b : ℕ) (x y : Variable) → IsName whole f a x → IsName whole f b y

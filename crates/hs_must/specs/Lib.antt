@@ -1,3 +1,4 @@
 pub mod Answers
 pub mod Changing
+pub mod Ends
 pub mod Laws

@@ -79,7 +79,7 @@ assigned_of its f g = nat_lt f its.functions && (nat_lt g its.globals && has its
 pub record IsAssigned (whole : WholeCode) (sets : Sets) : Type 0 where
   pub count : sets.count ≡ length whole.functions
   pub wide : length whole.program.globals ≤ width sets
-  pub exact : (f g : ℕ) → f < sets.count → g < width sets → Decides (has sets f g) (Assigns whole f g)
+  pub exact : (f g : ℕ) → f < sets.count → g < length whole.program.globals → Decides (has sets f g) (Assigns whole f g)
 
 -- a function of the program with its code; what calls may assign, and which slots are listed
 pub record IsReady (whole : WholeCode) (f : ℕ) (function : TypedFunction) (code : FunctionCode) (slots : List Variable) (assigned : ℕ → ℕ → Bool)

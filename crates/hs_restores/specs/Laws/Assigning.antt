@@ -139,8 +139,7 @@ module _ (whole : WholeCode) (are : ∥ IsCode whole.program whole.classes whole
         let low = less_numbers f (length whole.functions) one.0 in
         let below = less_numbers g (length whole.program.globals) two.0 in
         let count = known.count in
-        let wide = known.wide in
-        (known.exact f g (omega (arith, low, count)) (omega (arith, below, wide))).0 two.1
+        (known.exact f g (omega (arith, low, count)) below).0 two.1
 
     leads_there : (f last at : ℕ) (its : Placed) → Leads whole f last → placed_in whole last at ≡ Some its → f < length whole.functions
     leads_there f last at its (itself it) there = function_there whole it at its there
@@ -150,11 +149,10 @@ module _ (whole : WholeCode) (are : ∥ IsCode whole.program whole.classes whole
     assigns_true f g does =
         let low = leads_there f does.last does.at does.its does.leads does.there in
         let count = known.count in
-        let wide = known.wide in
         let below = set_there does.last does.at does.its g does.there does.so in
         both_true (nat_lt f (length whole.functions)) (nat_lt g (length whole.program.globals) && has sets f g) (less_number f (length whole.functions) low)
         (both_true (nat_lt g (length whole.program.globals)) (has sets f g) (less_number g (length whole.program.globals) below)
-        ((known.exact f g (omega (arith, low, count)) (omega (arith, below, wide))).1 does))
+        ((known.exact f g (omega (arith, low, count)) below).1 does))
 
     -- ---- of one function
 

@@ -1,0 +1,12 @@
+use Rattle.std.proofs.Common.{◌&&◌, ap, sym, ◌∙◌}
+use Rattle.hs_effects.specs.Effecting.{number_of}
+use Rattle.hs_fact_rows.specs.Laws.Numbers.{less_number}
+use Rattle.hs_facts.specs.Effects.{disposes}
+use Rattle.hs_rows.specs.Sets.{has}
+use Rattle.hs_must.proofs.changing.may_dispose.Goals as goal
+
+-- there are so many functions
+pub returns-then-f-functions : goal.returns-then-f-functions
+returns-then-f-functions c =
+    c.contains.ensures tt ∙ c.of.ensures disposes
+    ∙ ap (λ t. t && has c.args.effects.now.effects c.args.f (number_of disposes)) (sym (less_number c.args.f c.args.functions c.if-f-functions.true))

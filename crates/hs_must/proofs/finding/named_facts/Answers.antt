@@ -1,0 +1,115 @@
+use Rattle.std.proofs.Common.{◌≡◌, ◌<◌, ◌≤◌, ◌&&◌, ℕ, Bool, List, length, nat_lt, option_map, sym, subst, ◌∙◌, ap, arith, rules, Some, slice_get}
+use Rattle.std.proofs.lemmas.Option.{slice_get-map}
+use Rattle.hs_code.specs.declared.function_code.Placed.{Placed}
+use Rattle.hs_cuts.specs.Cuts as cuts
+use Rattle.hs_effects.specs.Calling.{whole_of}
+use Rattle.hs_fact_rows.specs.Cuts as low_rows
+use Rattle.hs_facts.specs.Effects.{disposes, unlocks}
+use Rattle.hs_lock_rows.specs.Layout.{total}
+use Rattle.hs_lock_rows.specs.Making.{makes}
+use Rattle.hs_lock_rows.specs.declared.change.Change.{Change}
+use Rattle.hs_must.proofs.Found.{facts_found}
+use Rattle.hs_must.specs.Changing.{changes_by, may}
+use Rattle.hs_must.specs.Laws.Changing.{changes_fit, changes_length}
+use Rattle.hs_restores.specs.Laws.Assigning.{ready_is}
+use Rattle.hs_restores.specs.Laws.Jobs.{IsFor, task_is, task_of}
+use Rattle.hs_restores.specs.Restoring.{IsAssigned, IsReady}
+use Rattle.hs_restores.specs.Stepping.{scope_in}
+use Rattle.hs_rows.specs.Sets.{Sets, has}
+use Rattle.hs_tree.specs.Views.{view_function}
+use Rattle.hs_tree.specs.declared.globals.Global.{Global}
+use Rattle.hs_tree.specs.declared.head.Variable.{Variable}
+use Rattle.hs_must.proofs.finding.named_facts.Goals as goal
+
+-- the lists are made from the code of the program
+pub window_rows-requires-clause-ready : goal.window_rows-requires-clause-ready
+window_rows-requires-clause-ready c =
+    let functions : c.len.result ≡ length c.args.code.now.functions.items = search rules in
+    let globals : c.items.result.now ≡ c.args.code.now.program.now.globals = c.items.ensures in
+    let known : IsAssigned (whole_of c.args.code.now) c.assigned-assigned.result.now =
+    subst (IsAssigned (whole_of c.args.code.now)) (sym c.assigned-assigned.ensures)
+    (record { count = c.requires.assigned; wide = c.requires.globals; exact = λ f g low below.
+        c.requires.exact.assigns f g (let count = c.requires.assigned in omega (arith, low, count)) below }) in
+    subst (λ n. IsReady (whole_of c.args.code.now) c.args.number (view_function c.args.function.now) c.args.own.now c.in_ok-slots.slots
+    (λ f g. nat_lt f n && (nat_lt g (length c.items.result.now) && has c.assigned-assigned.result.now f g))) (sym functions)
+    (subst (λ (list : List Global). IsReady (whole_of c.args.code.now) c.args.number (view_function c.args.function.now) c.args.own.now c.in_ok-slots.slots
+    (λ f g. nat_lt f (length c.args.code.now.functions.items) && (nat_lt g (length list) && has c.assigned-assigned.result.now f g))) (sym globals)
+    (ready_is (whole_of c.args.code.now) c.args.code.now.whole c.assigned-assigned.result.now known c.args.number
+    (view_function c.args.function.now) c.args.own.now
+    (slice_get-map view_function c.args.code.now.program.now.functions.items c.args.number ∙ ap (option_map view_function) c.requires.of_function)
+    c.requires.of_code c.in_ok-slots.slots c.in_ok-slots.ensures))
+
+-- one change for each operation
+pub solve_locks-requires-clause-changes : goal.solve_locks-requires-clause-changes
+solve_locks-requires-clause-changes c =
+    ap length (c.deref.ensures.value ∙ c.in_ok-changes.ensures (view_function c.args.function.now))
+    ∙ changes_length (scope_in c.args.code.now.program.now (view_function c.args.function.now)) c.args.names.now c.in_ok-slots.slots
+    (may c.args.effects.now c.len-2.result unlocks) (may c.args.effects.now c.len-2.result disposes) c.items-ops.result.now
+    ∙ ap length c.items-ops.ensures.lends
+
+-- each has a row of With and Saved
+pub solve_locks-requires-clause-low_fits : goal.solve_locks-requires-clause-low_fits
+solve_locks-requires-clause-low_fits c at low =
+    let long : length c.deref.result.now ≡ length c.args.own.now.ops =
+    ap length (c.deref.ensures.value ∙ c.in_ok-changes.ensures (view_function c.args.function.now))
+    ∙ changes_length (scope_in c.args.code.now.program.now (view_function c.args.function.now)) c.args.names.now c.in_ok-slots.slots
+    (may c.args.effects.now c.len-2.result unlocks) (may c.args.effects.now c.len-2.result disposes) c.items-ops.result.now
+    ∙ ap length c.items-ops.ensures.lends in
+    c.in_ok-plan.ensures.fit at (omega (arith, low, long))
+
+-- the changes are those of the code
+pub solve_locks-requires-clause-changes_fit : goal.solve_locks-requires-clause-changes_fit
+solve_locks-requires-clause-changes_fit c at its there =
+    let plan = c.in_ok-plan.field-0.plan in
+    let scope = scope_in c.args.code.now.program.now (view_function c.args.function.now) in
+    let assigned = λ (f g : ℕ). nat_lt f c.len.result && (nat_lt g (length c.items.result.now) && has c.assigned-assigned.result.now f g) in
+    changes_fit scope c.args.names.now c.in_ok-slots.slots
+    (may c.args.effects.now c.len-2.result unlocks) (may c.args.effects.now c.len-2.result disposes) plan c.in_ok-plan.ensures.for_window.plan_slots
+    c.items-ops.result.now
+    (λ k it is. (task_is scope c.args.own.now plan 0 (length c.items-2.result.now) c.in_ok-slots.slots assigned c.in_ok-plan.ensures.for_window).places k it
+    (subst (λ (ops : List Placed). slice_get ops k ≡ Some it) c.items-ops.ensures.lends is))
+    at its
+    (subst (λ (list : List Change). slice_get list at ≡ Some its) (c.deref.ensures.value ∙ c.in_ok-changes.ensures (view_function c.args.function.now)) there)
+
+-- the rows have room for the facts of all operations
+pub invariant_of-result : goal.invariant_of-result
+invariant_of-result c =
+    let lends = ap length c.items-ops.ensures.lends in
+    let low = c.in_ok-plan.ensures.fit (length c.args.own.now.ops) (omega arith) in
+    let locks = c.in_ok-locks.ensures.fit (length c.args.own.now.ops) (omega arith) in
+    let low_there = low.there in
+    let locks_there = locks.there in (
+      omega (arith, lends, low_there),
+      omega (arith, lends, locks_there),
+      low.names,
+      sym c.in_ok-plan.ensures.for_window.plan_slots,
+      low.fields,
+      low.numbers,
+      low.room,
+      locks.fields_fit,
+      locks.numbers,
+      locks.room,
+    )
+
+-- the rows are solved
+pub returns : goal.returns
+returns c =
+    let plan = c.in_ok-plan.field-0.plan in
+    let scope = scope_in c.args.code.now.program.now (view_function c.args.function.now) in
+    let assigned = λ (f g : ℕ). nat_lt f c.len.result && (nat_lt g (length c.items.result.now) && has c.assigned-assigned.result.now f g) in
+    let low = c.in_ok-plan.field-0.rows in
+    facts_found (whole_of c.args.code.now) c.args.number (view_function c.args.function.now) c.args.own.now
+    (slice_get-map view_function c.args.code.now.program.now.functions.items c.args.number ∙ ap (option_map view_function) c.requires.of_function)
+    c.requires.of_code c.args.effects.now c.requires.exact plan c.in_ok-slots.slots assigned (window_rows-requires-clause-ready c)
+    c.args.names.now c.requires.names c.requires.some
+    (subst (λ (list : List Variable). IsFor scope c.args.own.now plan 0 (length list) c.in_ok-slots.slots assigned) c.items-2.ensures
+    c.in_ok-plan.ensures.for_window)
+    low c.in_ok-locks.locks
+    (subst (λ (list : List Variable). low_rows.IsSolved (task_of scope c.args.own.now plan 0 (length list) c.in_ok-slots.slots assigned) low) c.items-2.ensures
+    c.in_ok-plan.ensures.solved)
+    c.len-2.result c.items-ops.result.now c.deref.result.now (search rules) c.items-ops.ensures.lends
+    (c.deref.ensures.value ∙ c.in_ok-changes.ensures (view_function c.args.function.now))
+    (subst (λ (list : List Variable). cuts.IsSolved (cuts.the_task (total plan) c.args.own.now (makes plan list c.in_ok-slots.slots assigned low
+    c.deref.result.now)) c.in_ok-locks.locks) c.items-3.ensures
+    (subst (λ (list : List Variable). cuts.IsSolved (cuts.the_task (total plan) c.args.own.now (makes plan c.items-3.result.now list assigned low
+    c.deref.result.now)) c.in_ok-locks.locks) c.items-4.ensures c.in_ok-locks.ensures.solved))
