@@ -1,30 +1,38 @@
 -- What is found of a function, and of all of them.
 --     facts_found      the answers of a function are right
 --     named            its handle names
---     some_none, some_next, all_of      so many functions are found
-use Rattle.std.proofs.Common.{◌≡◌, ◌≢◌, ◌<◌, ◌≤◌, ◌⊎◌, ℕ, zero, suc, ap, sym, subst, ◌∙◌, refl, inl, inr, arith, List, [], ◌∷◌, ◌++◌, length, slice_get, Bool, Option, Some, None}
+--     ready_from       its lists are made from the code of the program
+--     some_none, some_next      so many functions are found
+--     all_exact        all are, and the answers are exact
+use Rattle.std.proofs.Common.{◌≡◌, ◌<◌, ◌≤◌, ◌⊎◌, ℕ, zero, suc, nat_lt, ◌&&◌, ap, sym, subst, ◌∙◌, refl, inl, inr, arith, List, [], ◌∷◌, ◌++◌, length, slice_get, Bool, Option, Some, None}
 use Rattle.std.proofs.lemmas.Bool.{cases_lt}
 use Rattle.std.proofs.lemmas.Option.{slice_get_within}
-use Rattle.hs_code.specs.Codes.{scope_of}
+use Rattle.std.specs.Bool.{Decides}
+use Rattle.hs_code.specs.Codes.{IsCode, scope_of}
 use Rattle.hs_code.specs.declared.function_code.FunctionCode.{FunctionCode}
 use Rattle.hs_code.specs.declared.function_code.Placed.{Placed}
 use Rattle.hs_cuts.specs.Cuts as cuts
 use Rattle.hs_effects.specs.Answers as effects
 use Rattle.hs_fact_rows.specs.Cuts as low_rows
 use Rattle.hs_fact_rows.specs.declared.plan.Plan.{Plan}
-use Rattle.hs_facts.specs.Effects.{WholeCode, disposes, unlocks}
+use Rattle.hs_facts.specs.Effects.{HoldsAt, WholeCode, disposes, unlocks}
+use Rattle.hs_facts.specs.MustFacts.{in_slot, With, Saved, Locked, Live, Distinct}
 use Rattle.hs_facts.specs.Names.{names_of}
 use Rattle.hs_lock_rows.specs.Layout.{total}
 use Rattle.hs_lock_rows.specs.Making.{makes}
 use Rattle.hs_lock_rows.specs.declared.change.Change.{Change}
-use Rattle.hs_must.specs.Answers.{FunctionAnswers, IsFacts, names_by, names_in}
+use Rattle.hs_must.specs.Answers.{FunctionAnswers, HasMany, IsExact, IsFacts, IsName, asked, distinct_by, live_by, locked_by, names_by, names_in, saved_by, with_by}
 use Rattle.hs_must.specs.Changing.{changes_by, may}
 use Rattle.hs_must.specs.Ends.{AreSome, IsFound}
 use Rattle.hs_must.specs.Laws.Exact.{facts_are}
 use Rattle.hs_restores.specs.Laws.Jobs.{IsFor, task_of}
-use Rattle.hs_restores.specs.Restoring.{IsReady}
-use Rattle.hs_rows.specs.Sets.{Sets}
+use Rattle.hs_restores.specs.Laws.Assigning.{ready_is}
+use Rattle.hs_restores.specs.Laws.Numbering.{is_in}
+use Rattle.hs_restores.specs.Marks.{is_changed}
+use Rattle.hs_restores.specs.Restoring.{IsAssigned, IsReady}
+use Rattle.hs_rows.specs.Sets.{Sets, has, width}
 use Rattle.hs_tree.specs.Trees.{TypedFunction}
+use Rattle.hs_tree.specs.declared.globals.Global.{Global}
 use Rattle.hs_tree.specs.declared.head.Variable.{Variable}
 
 module _ (whole : WholeCode) (f : ℕ) (function : TypedFunction) (code : FunctionCode) (of_function : slice_get whole.program.functions f ≡ Some function)
@@ -59,6 +67,25 @@ module _ (whole : WholeCode) (f : ℕ) (function : TypedFunction) (code : Functi
         (changes_by (scope_of whole.program function) names slots (may answers m unlocks) (may answers m disposes) ops))) rows) n_is
         (subst (λ (list : List Change). cuts.IsSolved (cuts.the_task (total plan) code (makes plan names slots assigned low list)) rows) changes_are
         solved)))))
+
+  -- what its slots and assigned globals are made of
+  pub ready_from : (are : ∥ IsCode whole.program whole.classes whole.functions ∥₁) (answers : effects.Answers) → effects.IsExact whole answers
+      → answers.assigned.count ≡ length whole.functions → length whole.program.globals ≤ width answers.assigned → (sets : Sets) → sets ≡ answers.assigned
+      → (slots : List Variable) → ((v : Variable) → is_in slots v ≡ is_changed (scope_of whole.program function) code (has sets f) v)
+      → (n : ℕ) → n ≡ length whole.functions → (globals : List Global) → globals ≡ whole.program.globals
+      → IsReady whole f function code slots (λ g h. nat_lt g n && (nat_lt h (length globals) && has sets g h))
+  ready_from are answers exact count wide sets same slots changed n n_is globals globals_is =
+      subst (λ m. IsReady whole f function code slots (λ g h. nat_lt g m && (nat_lt h (length globals) && has sets g h))) (sym n_is)
+      (subst (λ (list : List Global). IsReady whole f function code slots (λ g h. nat_lt g (length whole.functions) && (nat_lt h (length list)
+      && has sets g h))) (sym globals_is)
+      (ready_is whole are sets known f function code of_function of_code slots changed))
+    where
+      known : IsAssigned whole sets
+      known = subst (IsAssigned whole) (sym same) (record {
+        count = count;
+        wide = wide;
+        exact = λ g h low below. exact.assigns g h (omega (arith, low, count)) below;
+      })
 
 -- ---- all functions
 
@@ -105,3 +132,74 @@ some_next whole count all its are new = record {
       where
         some_same : (a b : Option FunctionAnswers) → Some a ≡ Some b → a ≡ b
         some_same a b e = cc
+
+-- ---- the answers
+
+past_none : {X : Type 0} (list : List X) (k : ℕ) → length list ≤ k → slice_get list k ≡ None
+past_none [] k far = refl
+past_none (x ∷ rest) zero far = absurd (omega arith)
+past_none (x ∷ rest) (suc k) far = past_none rest k (omega (arith, far))
+
+none_past : {X : Type 0} (list : List X) (k : ℕ) → slice_get list k ≡ None → length list ≤ k
+none_past [] k none = omega arith
+none_past (x ∷ rest) zero none = absurd cc
+none_past (x ∷ rest) (suc k) none = let far = none_past rest k none in omega (arith, far)
+
+-- a function without code has no names
+no_code : (whole : WholeCode) (f : ℕ) → slice_get whole.functions f ≡ None → names_in whole f ≡ []
+no_code whole f none =
+    ap (λ (c : Option FunctionCode). names_by whole (slice_get whole.program.functions f) c) none ∙ by_case (slice_get whole.program.functions f)
+  where
+    by_case : (t : Option TypedFunction) → names_by whole t None ≡ []
+    by_case None = refl
+    by_case (Some function) = refl
+
+module _ (whole : WholeCode) (all : List (Option FunctionAnswers)) (are : AreSome whole (length whole.functions) all) where
+  -- a function that is not there, or of which nothing is kept, has no names
+  no_names : (f : ℕ) → slice_get all f ≡ None → names_in whole f ≡ []
+  no_names f none =
+      let far = none_past all f none in
+      let long = are.long in
+      no_code whole f (past_none whole.functions f (omega (arith, far, long)))
+
+  in_function : (f : ℕ) (P : Type 0) (answer : FunctionAnswers → Bool) → (names_in whole f ≡ [] → ⊥)
+      → ((its : FunctionAnswers) → IsFacts whole f its → Decides (answer its) P) → Decides (asked (slice_get all f) answer) P
+  in_function f P answer some tests = by_case (slice_get all f) refl
+    where
+      by_case : (it : Option (Option FunctionAnswers)) → slice_get all f ≡ it → Decides (asked it answer) P
+      by_case None e = absurd (some (no_names f e))
+      by_case (Some None) e = absurd (some (are.found f None e))
+      by_case (Some (Some its)) e = tests its (are.found f (Some its) e).0
+
+  has_names : (f h : ℕ) (x : Variable) → IsName whole f h x → names_in whole f ≡ [] → ⊥
+  has_names f h x is none = none_there (subst (λ (list : List Variable). slice_get list h ≡ Some x) none is)
+    where
+      none_there : slice_get [] h ≡ Some x → ⊥
+      none_there e = absurd cc
+
+  few : (f : ℕ) → HasMany whole f → ⊥
+  few f many = by_case (slice_get all f) refl
+    where
+      empty : names_in whole f ≡ [] → ⊥
+      empty none = let long = ap length none in absurd (omega (arith, many, long))
+
+      by_case : (it : Option (Option FunctionAnswers)) → slice_get all f ≡ it → ⊥
+      by_case None e = empty (no_names f e)
+      by_case (Some None) e = empty (are.found f None e)
+      by_case (Some (Some its)) e = let most = (are.found f (Some its) e).1 in absurd (omega (arith, many, most))
+
+  pub all_exact : IsExact whole all × ((f : ℕ) → HasMany whole f → ⊥)
+  all_exact = (
+    record {
+      locked = λ f at h x is. in_function f (HoldsAt whole f at (Locked x)) (λ its. locked_by its at h) (has_names f h x is)
+          (λ its facts. facts.locked at h x is);
+      live = λ f at h x is. in_function f (HoldsAt whole f at (Live x)) (λ its. live_by its at h) (has_names f h x is) (λ its facts. facts.live at h x is);
+      distinct = λ f at a b x y is also. in_function f (HoldsAt whole f at (Distinct x y)) (λ its. distinct_by its at a b) (has_names f a x is)
+          (λ its facts. facts.distinct at a b x y is also);
+      with = λ f at place h x is there. in_function f (HoldsAt whole f at (With place x)) (λ its. with_by its at place h) (has_names f h x is)
+          (λ its facts. facts.with at place h x is there);
+      saved = λ f at b h x is slot. in_function f (HoldsAt whole f at (Saved (in_slot b) x)) (λ its. saved_by its at b h) (has_names f h x is)
+          (λ its facts. facts.saved at b h x is slot);
+    },
+    few,
+  )

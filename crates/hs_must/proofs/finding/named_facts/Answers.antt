@@ -8,7 +8,7 @@ use Rattle.hs_facts.specs.Effects.{disposes, unlocks}
 use Rattle.hs_lock_rows.specs.Layout.{total}
 use Rattle.hs_lock_rows.specs.Making.{makes}
 use Rattle.hs_lock_rows.specs.declared.change.Change.{Change}
-use Rattle.hs_must.proofs.Found.{facts_found}
+use Rattle.hs_must.proofs.Found.{facts_found, ready_from}
 use Rattle.hs_must.specs.Changing.{changes_by, may}
 use Rattle.hs_must.specs.Laws.Changing.{changes_fit, changes_length}
 use Rattle.hs_restores.specs.Laws.Assigning.{ready_is}
@@ -24,20 +24,10 @@ use Rattle.hs_must.proofs.finding.named_facts.Goals as goal
 -- the lists are made from the code of the program
 pub window_rows-requires-clause-ready : goal.window_rows-requires-clause-ready
 window_rows-requires-clause-ready c =
-    let functions : c.len.result ≡ length c.args.code.now.functions.items = search rules in
-    let globals : c.items.result.now ≡ c.args.code.now.program.now.globals = c.items.ensures in
-    let known : IsAssigned (whole_of c.args.code.now) c.assigned-assigned.result.now =
-    subst (IsAssigned (whole_of c.args.code.now)) (sym c.assigned-assigned.ensures)
-    (record { count = c.requires.assigned; wide = c.requires.globals; exact = λ f g low below.
-        c.requires.exact.assigns f g (let count = c.requires.assigned in omega (arith, low, count)) below }) in
-    subst (λ n. IsReady (whole_of c.args.code.now) c.args.number (view_function c.args.function.now) c.args.own.now c.in_ok-slots.slots
-    (λ f g. nat_lt f n && (nat_lt g (length c.items.result.now) && has c.assigned-assigned.result.now f g))) (sym functions)
-    (subst (λ (list : List Global). IsReady (whole_of c.args.code.now) c.args.number (view_function c.args.function.now) c.args.own.now c.in_ok-slots.slots
-    (λ f g. nat_lt f (length c.args.code.now.functions.items) && (nat_lt g (length list) && has c.assigned-assigned.result.now f g))) (sym globals)
-    (ready_is (whole_of c.args.code.now) c.args.code.now.whole c.assigned-assigned.result.now known c.args.number
-    (view_function c.args.function.now) c.args.own.now
+    ready_from (whole_of c.args.code.now) c.args.number (view_function c.args.function.now) c.args.own.now
     (slice_get-map view_function c.args.code.now.program.now.functions.items c.args.number ∙ ap (option_map view_function) c.requires.of_function)
-    c.requires.of_code c.in_ok-slots.slots c.in_ok-slots.ensures))
+    c.requires.of_code c.args.code.now.whole c.args.effects.now c.requires.exact c.requires.assigned c.requires.globals c.assigned-assigned.result.now
+    c.assigned-assigned.ensures c.in_ok-slots.slots c.in_ok-slots.ensures c.len.result (search rules) c.items.result.now c.items.ensures
 
 -- one change for each operation
 pub solve_locks-requires-clause-changes : goal.solve_locks-requires-clause-changes
@@ -100,7 +90,11 @@ returns c =
     let low = c.in_ok-plan.field-0.rows in
     facts_found (whole_of c.args.code.now) c.args.number (view_function c.args.function.now) c.args.own.now
     (slice_get-map view_function c.args.code.now.program.now.functions.items c.args.number ∙ ap (option_map view_function) c.requires.of_function)
-    c.requires.of_code c.args.effects.now c.requires.exact plan c.in_ok-slots.slots assigned (window_rows-requires-clause-ready c)
+    c.requires.of_code c.args.effects.now c.requires.exact plan c.in_ok-slots.slots assigned
+    (ready_from (whole_of c.args.code.now) c.args.number (view_function c.args.function.now) c.args.own.now
+    (slice_get-map view_function c.args.code.now.program.now.functions.items c.args.number ∙ ap (option_map view_function) c.requires.of_function)
+    c.requires.of_code c.args.code.now.whole c.args.effects.now c.requires.exact c.requires.assigned c.requires.globals c.assigned-assigned.result.now
+    c.assigned-assigned.ensures c.in_ok-slots.slots c.in_ok-slots.ensures c.len.result (search rules) c.items.result.now c.items.ensures)
     c.args.names.now c.requires.names c.requires.some
     (subst (λ (list : List Variable). IsFor scope c.args.own.now plan 0 (length list) c.in_ok-slots.slots assigned) c.items-2.ensures
     c.in_ok-plan.ensures.for_window)
