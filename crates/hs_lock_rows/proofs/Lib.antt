@@ -1,3 +1,4 @@
 mod Bits
 mod Numbering
+mod Popping
 mod Written

@@ -1,7 +1,7 @@
 -- Where fields begin, and that two fields with one number are one.
 --     first_in        a field has its numbers below the total
 --     one_field       fields with one number are one
-use Rattle.std.proofs.Common.{◌≡◌, ◌≢◌, ◌<◌, ◌≤◌, ℕ, suc, ◌+◌, ◌*◌, ap, arith, refl}
+use Rattle.std.proofs.Common.{◌≡◌, ◌≤◌, ◌+◌, ◌*◌, ap, arith, refl}
 use Rattle.std.proofs.lemmas.Nat.{row_fits}
 use Rattle.hs_fact_rows.specs.declared.plan.Plan.{Plan}
 use Rattle.hs_lock_rows.specs.Laws.Solved.{field_under}

@@ -5,8 +5,8 @@
 --     IsPoint ..                     the rows before an operation have room
 --     IsKnown ..                     the words are those of a change
 use Rattle.std.proofs.Props.{props}
-use Rattle.std.specs.Prelude.{◌≡◌, ◌<◌, ◌≤◌, ◌^◌, ℕ, ◌-◌, Bool, true, false, List, length}
-use Rattle.hs_fact_rows.specs.Given.{Facts, Names, IsFit, facts_in, with_of}
+use Rattle.std.specs.Prelude.{◌≡◌, ◌<◌, ◌≤◌, ◌^◌, ℕ, ◌-◌, Bool, false, List}
+use Rattle.hs_fact_rows.specs.Given.{Names, IsFit, facts_in, with_of}
 use Rattle.hs_fact_rows.specs.declared.plan.Plan.{Plan}
 use Rattle.hs_lock_rows.specs.Given.{Locks, Stay, apart_of, comes, kept_of, new_of, stay_of}
 use Rattle.hs_lock_rows.specs.Layout.{fields, total}

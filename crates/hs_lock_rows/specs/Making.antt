@@ -1,11 +1,12 @@
 -- The rows that an operation makes (own).
 --     ends_by, loses_by          the names and the slots that a call of a function ends
 --     makes ..                   a row has exactly the facts that are given by the change of the operation
+--     Popped ..                  values were taken from the stack
 --     IsMade ..                  the same of a row that is written, which leaves all others
-use Rattle.std.specs.Prelude.{◌≡◌, ◌<◌, ℕ, Bool, List, slice_get, Some}
+use Rattle.std.specs.Prelude.{◌≡◌, ◌<◌, ℕ, Bool, ◌&&◌, List, slice_get, Some}
 use Rattle.hs_fact_rows.specs.Given.{Names, facts_in, gone}
 use Rattle.hs_fact_rows.specs.declared.plan.Plan.{Plan}
-use Rattle.hs_lock_rows.specs.Given.{Locks, given}
+use Rattle.hs_lock_rows.specs.Given.{Locks, given, plain, stay_by}
 use Rattle.hs_lock_rows.specs.Layout.{IsField, number}
 use Rattle.hs_lock_rows.specs.declared.change.Change.{Change}
 use Rattle.hs_lock_rows.specs.declared.field.Field.{Field}
@@ -24,6 +25,12 @@ module _ (plan : Plan) where
   -- they have those bits
   abbrev pub Shows : (ℕ → Bool) → Locks → Type 0
   Shows row facts = (field : Field) (i : ℕ) → IsField plan field → i < plan.names → facts field i ≡ row (number plan field i)
+
+-- what is about places from the base on ends, and all else of a row is in another one
+module _ (plan : Plan) (to at base : ℕ) where
+  abbrev pub Popped : Sets → Sets → Type 0
+  Popped old new = (field : Field) (i : ℕ) → IsField plan field → i < plan.names
+      → has new to (number plan field i) ≡ (stay_by (plain base) field i && has old at (number plan field i))
 
 -- `low` has the facts With and Saved
 module _ (plan : Plan) (names slots : List Variable) (assigned : ℕ → ℕ → Bool) (low : Sets) where

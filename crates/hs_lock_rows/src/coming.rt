@@ -36,7 +36,9 @@ fn kept_in_comes(rows: &Rows, point: Point, change: Change, known: Known, slot: 
 {
     match change {
         Change::SetName {
-            name, slot: other, ..
+            name,
+            slot: other,
+            ..
         } => {
             let its = read(rows, point.plan, point.at, Field::KeptIn(slot));
             let met = meet(known.with, its, point.plan.names);

@@ -2,18 +2,18 @@
 
 ghost use Rattle.std.specs.Prelude.{◌≡◌, ◌≢◌, ◌<◌, ◌≤◌, ℕ, Bool, false, length};
 ghost use Rattle.hs_lock_rows.specs.Given.{Locks};
-ghost use Rattle.hs_lock_rows.specs.Knowing.{FitsChange, IsKnown, IsPoint};
+ghost use Rattle.hs_lock_rows.specs.Knowing.{FitsChange, HasRoom, IsKnown, IsPoint};
 ghost use Rattle.hs_lock_rows.specs.Layout.{IsField, number};
-ghost use Rattle.hs_lock_rows.specs.Making.{IsMade, Shows, given_at};
-ghost use Rattle.hs_rows.specs.Sets.{bit_in, has};
+ghost use Rattle.hs_lock_rows.specs.Making.{IsMade, Popped, Shows, given_at};
+ghost use Rattle.hs_rows.specs.Sets.{KeepsRows, SameSize, bit_in, has};
 
 use crate::coming::comes;
 use crate::knowing::{Known, Point, known_at};
-use crate::layout::{field_at, fields, first, read};
+use crate::layout::{field_at, fields, first, read, total};
 use crate::staying::stay;
 use crate::words::{both, either};
 use crate::{Change, Field};
-use hs_fact_rows::{Callees, Lists, write};
+use hs_fact_rows::{Callees, Lists, Plan, clear, write};
 use hs_rows::Rows;
 
 /// The names of a field after a change.
@@ -41,8 +41,8 @@ fn names_after<C: Callees>(
     either(both(stays, before), new)
 }
 
-/// Makes the row after a change from the row before it.
-pub(crate) fn make<C: Callees>(
+/// Makes the row after a change from the row before it, field by field.
+fn make_fields<C: Callees>(
     rows: &mut Rows,
     point: Point,
     to: usize,
@@ -61,12 +61,43 @@ pub(crate) fn make<C: Callees>(
     'fields: for number in 0..fields(point.plan) {
         let its = field_at(point.plan, number);
         let word = names_after(rows, point, change, known, lists, callees, its);
-        write(
-            rows,
-            to,
-            first(point.plan, its),
-            point.plan.names,
-            word,
-        );
+        write(rows, to, first(point.plan, its), point.plan.names, word);
+    }
+}
+
+/// Makes the row after values are taken: what is about their places ends.
+fn pop(rows: &mut Rows, plan: Plan, at: usize, to: usize, base: usize)
+    requires room { HasRoom plan rows.old at }
+    requires to_in_range { to < rows.old.count }
+    ensures popped { Popped plan to at base rows.old rows.new }
+    ensures others { KeepsRows to rows.old rows.new }
+    ensures size { SameSize rows.old rows.new }
+{
+    rows.copy_row(to, at);
+    if base < plan.places {
+        let first = first(plan, Field::KeptAt(base));
+        clear(rows, to, first, total(plan) - first);
+    }
+}
+
+/// Makes the row after a change from the row before it. Most operations only take values.
+pub(crate) fn make<C: Callees>(
+    rows: &mut Rows,
+    point: Point,
+    to: usize,
+    change: Change,
+    lists: Lists,
+    callees: &C,
+)
+    requires point { IsPoint point.plan point.low.now rows.old point.at }
+    requires to_in_range { to < rows.old.count }
+    requires apart { point.at ≢ to }
+    requires fits { FitsChange point.plan change }
+    requires names { length lists.names.now ≡ point.plan.names }
+    ensures { IsMade point.entry.plan lists.entry.names.now lists.entry.slots.now (C.assigned callees.now) point.entry.low.now point.entry.at to change rows.old rows.new }
+{
+    match change {
+        Change::Pop { base } => pop(rows, point.plan, point.at, to, base),
+        _ => make_fields(rows, point, to, change, lists, callees),
     }
 }

@@ -6,7 +6,7 @@
 --     IsFacts whole f its            the answers of a function are right
 --     IsExact whole answers          those of all functions are
 use Rattle.std.specs.Bool.{Decides}
-use Rattle.std.specs.Prelude.{◌≡◌, ◌<◌, ◌≤◌, ℕ, ◌==◌, nat_lt, Bool, true, false, not, ◌&&◌, List, [], length, Option, Some, None, slice_get}
+use Rattle.std.specs.Prelude.{◌≡◌, ◌<◌, ℕ, ◌==◌, nat_lt, Bool, true, false, not, ◌&&◌, List, [], length, Option, Some, None, slice_get}
 use Rattle.hs_code.specs.Codes.{is_slot_in, scope_of}
 use Rattle.hs_code.specs.Stacks.{variable_in}
 use Rattle.hs_code.specs.declared.function_code.FunctionCode.{FunctionCode}
@@ -15,7 +15,7 @@ use Rattle.hs_fact_rows.specs.Cells.{index_of, saved_in, with_at}
 use Rattle.hs_fact_rows.specs.Given.{facts_in}
 use Rattle.hs_fact_rows.specs.declared.plan.Plan.{Plan}
 use Rattle.hs_facts.specs.Effects.{HoldsAt, WholeCode, placed_in}
-use Rattle.hs_facts.specs.MustFacts.{MustFact, in_slot, With, Saved, Locked, Live, Distinct}
+use Rattle.hs_facts.specs.MustFacts.{in_slot, With, Saved, Locked, Live, Distinct}
 use Rattle.hs_facts.specs.Names.{names_of}
 use Rattle.hs_lock_rows.specs.Layout.{number}
 use Rattle.hs_lock_rows.specs.declared.field.Field.{Field}

@@ -35,7 +35,11 @@ pub(crate) struct Maker<'a> {
 }
 
 /// The changes of the operations of a function.
-pub(crate) fn changes_by(alloc: Global, maker: Maker, ops: &[Placed]) -> Result<Vec<Change>, NoMemory>
+pub(crate) fn changes_by(
+    alloc: Global,
+    maker: Maker,
+    ops: &[Placed],
+) -> Result<Vec<Change>, NoMemory>
     requires functions { maker.functions ≤ maker.effects.now.effects.count }
     ensures { IfOk result (λ its. (function : TypedFunction) → its.items
         ≡ changes_by (scope_in maker.entry.program.now function) maker.entry.names.now maker.entry.slots.now

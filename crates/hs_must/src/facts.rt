@@ -84,9 +84,6 @@ impl FunctionFacts {
         ensures { result ≡ saved_by self.now at slot h }
     {
         self.is_there(at, h)
-            && has_bit(
-                saved_in(&self.low, self.plan, at, self.slots.find(slot)),
-                h,
-            )
+            && has_bit(saved_in(&self.low, self.plan, at, self.slots.find(slot)), h)
     }
 }

@@ -112,8 +112,13 @@ fn named_facts<'a>(
         names,
         slots: &slots,
     };
-    let WindowRows { plan, rows } =
-        window_rows(alloc, code, its, &callees, (0, names.items().len()))?;
+    let WindowRows { plan, rows } = window_rows(
+        alloc,
+        code,
+        its,
+        &callees,
+        (0, names.items().len()),
+    )?;
     if !fits(plan) {
         return Err(NoMemory);
     }

@@ -3,7 +3,7 @@
 --     number_in                    a fact of the plan has a number below the total
 --     Holds-locks, locks-Holds     such a fact holds exactly if its row has it
 --     Holds-low, low-Holds         so do With and Saved, by the rows that were found before
-use Rattle.std.proofs.Common.{◌≡◌, ◌≢◌, ◌<◌, ◌≤◌, ◌⊎◌, ℕ, zero, suc, ◌+◌, ◌*◌, Bool, true, false, ap, sym, subst, ◌∙◌, refl, inl, inr, arith, List, length, slice_get, Option, Some, None}
+use Rattle.std.proofs.Common.{◌≡◌, ◌≢◌, ◌<◌, ◌≤◌, ◌⊎◌, ℕ, zero, suc, ◌+◌, ◌*◌, Bool, true, sym, subst, ◌∙◌, refl, inl, inr, arith, List, length, slice_get, Option, Some, None}
 use Rattle.std.proofs.lemmas.Nat.{row_fits}
 use Rattle.std.proofs.lemmas.Option.{slice_get_within}
 use Rattle.std.specs.Bool.{Decides}

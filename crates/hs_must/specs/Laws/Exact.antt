@@ -2,7 +2,7 @@
 --     Rows ..            what was found of a function
 --     facts_are          its answers are right
 --     all_exact          so are those of a program, if those of each function are
-use Rattle.std.proofs.Common.{◌≡◌, ◌≢◌, ◌<◌, ◌≤◌, ◌⊎◌, ℕ, zero, suc, ◌==◌, nat_lt, Bool, true, false, not, ◌&&◌, ap, sym, subst, ◌∙◌, refl, inl, inr, arith, List, [], ◌∷◌, length, slice_get, Option, Some, None}
+use Rattle.std.proofs.Common.{◌≡◌, ◌≢◌, ◌<◌, ℕ, zero, suc, ◌==◌, nat_lt, Bool, true, false, not, ◌&&◌, ap, sym, subst, ◌∙◌, refl, arith, List, [], ◌∷◌, length, slice_get, Option, Some, None}
 use Rattle.std.proofs.lemmas.Option.{slice_get_within}
 use Rattle.std.specs.Bool.{Decides}
 use Rattle.hs_code.specs.Codes.{scope_of}
@@ -17,28 +17,26 @@ use Rattle.hs_fact_rows.specs.Cuts as low_rows
 use Rattle.hs_fact_rows.specs.Given.{facts_in}
 use Rattle.hs_fact_rows.specs.Laws.Numbers.{some_one, less_number, less_numbers, other_variables, same_itself}
 use Rattle.hs_fact_rows.specs.declared.plan.Plan.{Plan}
-use Rattle.hs_facts.specs.Changes.{Impact}
 use Rattle.hs_facts.specs.Effects.{Assigns, Effect, HasEffect, HoldsAt, Leads, WholeCode, disposes, impact_of, itself, ops_in, placed_in, through, unlocks}
 use Rattle.hs_facts.specs.Laws.Bytes.{IsOfByte}
 use Rattle.hs_facts.specs.MustFacts.{AreNames, MustFact, Under, in_slot, With, Saved, Locked, Live, Distinct}
 use Rattle.hs_facts.specs.Names.{is_name, names_of, same_variable}
-use Rattle.hs_facts.specs.Rounds.{ExistsAt, Holds}
+use Rattle.hs_facts.specs.Rounds.{Holds}
 use Rattle.hs_lock_rows.specs.Laws.Exact.{impact_with}
 use Rattle.hs_lock_rows.specs.Laws.Solved as locks
-use Rattle.hs_lock_rows.specs.Laws.Tests.{and_test, and_then, as_test, eq_test, lt_test, not_test, self_test, false_true}
+use Rattle.hs_lock_rows.specs.Laws.Tests.{and_test, and_then, as_test, eq_test, lt_test, not_test, false_true}
 use Rattle.hs_lock_rows.specs.Changing.{change_of}
 use Rattle.hs_lock_rows.specs.Layout.{IsOfLocks, bit_of, field_of, number, total}
 use Rattle.hs_lock_rows.specs.Making.{makes}
 use Rattle.hs_lock_rows.specs.declared.change.Change.{Change}
 use Rattle.hs_lock_rows.specs.declared.field.Field.{Field}
 use Rattle.hs_lock_rows.specs.declared.field.Field.TheVariants as field
-use Rattle.hs_must.specs.Answers.{FunctionAnswers, IsExact, IsFacts, IsName, IsPlace, IsSlot, asked, distinct_by, has_in, is_slot_of, is_there, live_by, locked_by, names_by, names_in, saved_by, with_by}
+use Rattle.hs_must.specs.Answers.{FunctionAnswers, IsFacts, IsName, IsPlace, IsSlot, distinct_by, has_in, is_slot_of, is_there, live_by, locked_by, names_by, names_in, saved_by, with_by}
 use Rattle.hs_must.specs.Changing.{changes_by, may}
 use Rattle.hs_must.specs.Laws.Changing.{change_is, changes_at}
 use Rattle.hs_must.specs.Laws.Impacts.{Holds-impact}
 use Rattle.hs_restores.specs.Laws.Jobs.{IsFor, task_is, task_of}
 use Rattle.hs_restores.specs.Laws.Naming.{are_names, distinct_names}
-use Rattle.hs_restores.specs.Laws.Numbering.{is_in}
 use Rattle.hs_restores.specs.Laws.Windows.{part_of}
 use Rattle.hs_rows.specs.Sets.{Sets, has}
 use Rattle.hs_tree.specs.Trees.{TypedFunction}

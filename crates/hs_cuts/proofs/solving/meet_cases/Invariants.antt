@@ -1,6 +1,6 @@
 use Rattle.std.proofs.Common.{◌≤◌, ℕ}
 use Rattle.hs_cuts.specs.Meeting.{Met, Flagged, SeenBefore}
-use Rattle.hs_rows.specs.Sets.{SameSize, has, width}
+use Rattle.hs_rows.specs.Sets.{has, width}
 use Rattle.hs_cuts.proofs.solving.meet_cases.Given as goal
 
 -- the rows of the cases so far are met

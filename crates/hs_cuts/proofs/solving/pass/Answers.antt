@@ -1,5 +1,5 @@
 use Rattle.std.proofs.Common.{add-one}
-use Rattle.hs_cuts.proofs.Cutting.{passed_none, passed_next, room_kept}
+use Rattle.hs_cuts.proofs.Cutting.{passed_none, passed_next}
 use Rattle.hs_cuts.specs.Cuts.{the_task}
 use Rattle.hs_cuts.proofs.solving.pass.Goals as goal
 

@@ -1,8 +1,7 @@
-use Rattle.std.proofs.Common.{rules, arith, refl, inl, ◌≡◌, ◌∙◌, ap, sym, replicate, true, length, List, get_or, false, subst, Bool, ◌≤◌}
+use Rattle.std.proofs.Common.{rules, arith, refl, inl, ◌≡◌, ◌∙◌, ap, sym, replicate, true, length, List, get_or, false, subst, Bool}
 use Rattle.std.proofs.Math.ListN.{length-replicate}
 use Rattle.hs_cuts.proofs.Cutting.{cuts_then, solved, full_of, written, all_flags}
-use Rattle.hs_cuts.specs.Cuts.{IsSolved, the_task, uncut}
-use Rattle.hs_rows.specs.Sets.{width}
+use Rattle.hs_cuts.specs.Cuts.{the_task, uncut}
 use Rattle.hs_cuts.proofs.solving.solve.Goals as goal
 
 -- all operations are flagged

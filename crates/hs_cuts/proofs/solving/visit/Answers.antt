@@ -1,4 +1,3 @@
-use Rattle.std.proofs.Common.{sym, ◌∙◌}
 use Rattle.hs_cuts.proofs.Cutting.{visit_done, room_kept}
 use Rattle.hs_cuts.specs.Cuts.{the_task}
 use Rattle.hs_cuts.proofs.solving.visit.Goals as goal

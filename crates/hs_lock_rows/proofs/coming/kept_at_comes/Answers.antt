@@ -1,8 +1,6 @@
-use Rattle.std.proofs.Common.{ℕ, suc, ◌≡◌, ◌<◌, ◌≤◌, ◌-◌, ◌==◌, nat_lt, Bool, ◌&&◌, ap, ◌∙◌, arith, add-one}
+use Rattle.std.proofs.Common.{◌<◌, ◌-◌, ◌==◌, nat_lt, ◌&&◌, ap, ◌∙◌, arith, add-one}
 use Rattle.hs_fact_rows.specs.Given.{facts_in, saved_of, with_of}
 use Rattle.hs_lock_rows.specs.Knowing.{apart_at, kept_at}
-use Rattle.hs_lock_rows.specs.declared.field.Field.TheVariants as field
-use Rattle.hs_rows.specs.Sets.{bit_in}
 use Rattle.hs_lock_rows.proofs.coming.kept_at_comes.Goals as goal
 
 -- the value of a slot

@@ -1,11 +1,8 @@
-use Rattle.std.proofs.Common.{ℕ, ◌≡◌, ◌<◌, ◌≤◌, ◌-◌, ◌==◌, Bool, false, not, ◌&&◌, ap, ◌∙◌, arith}
+use Rattle.std.proofs.Common.{◌<◌, ◌-◌, ◌==◌, not, ◌&&◌, ap, ◌∙◌, arith}
 use Rattle.hs_fact_rows.specs.Cells.{saved_in}
 use Rattle.hs_fact_rows.specs.Given.{facts_in, with_of}
-use Rattle.hs_lock_rows.proofs.Bits.{and_none}
-use Rattle.hs_lock_rows.specs.Given.{any}
 use Rattle.hs_lock_rows.specs.Knowing.{apart_at}
 use Rattle.hs_lock_rows.specs.declared.field.Field.TheVariants as field
-use Rattle.hs_rows.specs.Sets.{bit_in}
 use Rattle.hs_lock_rows.proofs.coming.kept_in_comes.Goals as goal
 
 -- the name, if a name of the top is kept

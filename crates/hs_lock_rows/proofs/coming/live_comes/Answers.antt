@@ -1,4 +1,4 @@
-use Rattle.std.proofs.Common.{ℕ, ◌<◌, ◌≤◌, ◌-◌, ◌==◌, ◌&&◌, ◌||◌, ap, ◌∙◌, arith}
+use Rattle.std.proofs.Common.{◌<◌, ◌-◌, ◌==◌, ◌&&◌, ◌||◌, ap, ◌∙◌, arith}
 use Rattle.hs_fact_rows.specs.Given.{facts_in, with_of}
 use Rattle.hs_lock_rows.specs.Knowing.{new_at}
 use Rattle.hs_lock_rows.specs.declared.field.Field.TheVariants as field

@@ -1,4 +1,4 @@
-use Rattle.std.proofs.Common.{◌≡◌, ◌≤◌, ℕ, add-one, ◌&&◌, ◌||◌, ap, ◌∙◌, arith, subst}
+use Rattle.std.proofs.Common.{◌≡◌, add-one, ◌&&◌, ◌||◌, ap, ◌∙◌, arith, subst}
 use Rattle.hs_lock_rows.specs.Given.{any, other}
 use Rattle.hs_lock_rows.specs.declared.field.Field.TheVariants as field
 use Rattle.hs_rows.specs.Sets.{bit_in}

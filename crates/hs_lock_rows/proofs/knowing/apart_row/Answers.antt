@@ -1,7 +1,6 @@
-use Rattle.std.proofs.Common.{ℕ, ◌<◌, ◌≤◌, ◌&&◌, ap, ◌∙◌, arith}
+use Rattle.std.proofs.Common.{◌<◌, ◌&&◌, ap, ◌∙◌, arith}
 use Rattle.hs_lock_rows.proofs.Bits.{other_turned}
 use Rattle.hs_lock_rows.specs.Given.{other}
-use Rattle.hs_lock_rows.specs.declared.field.Field.TheVariants as field
 use Rattle.hs_rows.specs.Sets.{bit_in}
 use Rattle.hs_lock_rows.proofs.knowing.apart_row.Goals as goal
 

@@ -1,8 +1,7 @@
-use Rattle.std.proofs.Common.{ℕ, suc, ◌≡◌, ◌<◌, ◌≤◌, Bool, false, ◌&&◌, ◌||◌, ap, sym, subst, ◌∙◌, arith, add-one}
+use Rattle.std.proofs.Common.{ℕ, suc, ◌≡◌, ◌≤◌, false, ◌&&◌, ◌||◌, ap, ◌∙◌, add-one}
 use Rattle.hs_fact_rows.specs.Given.{facts_in, with_of, saved_of}
 use Rattle.hs_lock_rows.specs.Given.{any}
-use Rattle.hs_lock_rows.specs.Knowing.{apart_at, argument_of, kept_at, stay_at}
-use Rattle.hs_lock_rows.specs.declared.change.Change.{Change}
+use Rattle.hs_lock_rows.specs.Knowing.{apart_at}
 use Rattle.hs_rows.specs.Sets.{bit_in}
 use Rattle.hs_lock_rows.proofs.knowing.locks_of.Goals as goal
 

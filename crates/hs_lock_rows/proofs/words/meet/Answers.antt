@@ -1,4 +1,4 @@
-use Rattle.std.proofs.Common.{sym, ap, ◌∙◌, true, ◌≡◌}
+use Rattle.std.proofs.Common.{sym, ◌∙◌}
 use Rattle.hs_lock_rows.proofs.Bits.{met}
 use Rattle.hs_rows.specs.Sets.{bit_in}
 use Rattle.hs_lock_rows.proofs.words.meet.Goals as goal

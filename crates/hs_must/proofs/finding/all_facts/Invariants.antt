@@ -1,4 +1,4 @@
-use Rattle.std.proofs.Common.{◌≡◌, length}
+use Rattle.std.proofs.Common.{◌≡◌}
 use Rattle.hs_effects.specs.Calling.{whole_of}
 use Rattle.hs_must.specs.Ends.{AreSome}
 use Rattle.hs_must.proofs.finding.all_facts.Given as goal

@@ -1,9 +1,8 @@
-use Rattle.std.proofs.Common.{◌≡◌, ◌≤◌, List, length, option_map, sym, subst, ◌∙◌, ap, arith}
+use Rattle.std.proofs.Common.{length, option_map, sym, ◌∙◌, ap, arith}
 use Rattle.std.proofs.lemmas.Option.{slice_get-map}
 use Rattle.hs_effects.specs.Calling.{whole_of}
 use Rattle.hs_must.proofs.Found.{named, none_empty}
 use Rattle.hs_tree.specs.Views.{view_function}
-use Rattle.hs_tree.specs.declared.head.Variable.{Variable}
 use Rattle.hs_must.proofs.finding.facts_of.Goals as goal
 
 -- it has no name

@@ -1,4 +1,4 @@
-use Rattle.std.proofs.Common.{◌≡◌, ◌<◌, ◌≤◌, ◌&&◌, ℕ, Bool, List, length, nat_lt, option_map, sym, subst, ◌∙◌, ap, arith, rules, Some, slice_get}
+use Rattle.std.proofs.Common.{◌≡◌, ◌&&◌, ℕ, List, length, nat_lt, option_map, sym, subst, ◌∙◌, ap, arith, rules, Some, slice_get}
 use Rattle.std.proofs.lemmas.Option.{slice_get-map}
 use Rattle.hs_code.specs.declared.function_code.Placed.{Placed}
 use Rattle.hs_cuts.specs.Cuts as cuts
@@ -9,15 +9,12 @@ use Rattle.hs_lock_rows.specs.Layout.{total}
 use Rattle.hs_lock_rows.specs.Making.{makes}
 use Rattle.hs_lock_rows.specs.declared.change.Change.{Change}
 use Rattle.hs_must.proofs.Found.{facts_found, ready_from}
-use Rattle.hs_must.specs.Changing.{changes_by, may}
+use Rattle.hs_must.specs.Changing.{may}
 use Rattle.hs_must.specs.Laws.Changing.{changes_fit, changes_length}
-use Rattle.hs_restores.specs.Laws.Assigning.{ready_is}
 use Rattle.hs_restores.specs.Laws.Jobs.{IsFor, task_is, task_of}
-use Rattle.hs_restores.specs.Restoring.{IsAssigned, IsReady}
 use Rattle.hs_restores.specs.Stepping.{scope_in}
-use Rattle.hs_rows.specs.Sets.{Sets, has}
+use Rattle.hs_rows.specs.Sets.{has}
 use Rattle.hs_tree.specs.Views.{view_function}
-use Rattle.hs_tree.specs.declared.globals.Global.{Global}
 use Rattle.hs_tree.specs.declared.head.Variable.{Variable}
 use Rattle.hs_must.proofs.finding.named_facts.Goals as goal
 

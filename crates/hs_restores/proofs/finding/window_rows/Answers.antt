@@ -1,9 +1,7 @@
-use Rattle.std.proofs.Common.{◌≡◌, ◌≤◌, ◌+◌, List, length, sym, subst, ◌∙◌, ap}
-use Rattle.hs_code.specs.declared.function_code.Placed.{Placed}
+use Rattle.std.proofs.Common.{◌≤◌, ◌+◌, List, length, sym, subst, ◌∙◌, ap}
 use Rattle.hs_effects.specs.Calling.{whole_of}
 use Rattle.hs_fact_rows.specs.Cuts.{IsSolved, IsTask, Task}
-use Rattle.hs_fact_rows.specs.Given.{IsFit}
-use Rattle.hs_restores.specs.Laws.Jobs.{IsFor, same_task, task_of, task_whole}
+use Rattle.hs_restores.specs.Laws.Jobs.{same_task, task_whole}
 use Rattle.hs_restores.specs.Laws.Naming.{distinct_names}
 use Rattle.hs_restores.specs.Laws.Numbering.{IsDistinct}
 use Rattle.hs_restores.specs.Laws.Noting.{window_is}

@@ -4,7 +4,7 @@ use Rattle.hs_lock_rows.specs.Layout.{IsField, field_number, number}
 use Rattle.hs_lock_rows.specs.Making.{Shows, given_at}
 use Rattle.hs_lock_rows.specs.declared.field.Field.{Field}
 use Rattle.hs_rows.specs.Sets.{has, KeepsRows, SameSize}
-use Rattle.hs_lock_rows.proofs.making.make.Given as goal
+use Rattle.hs_lock_rows.proofs.making.make_fields.Given as goal
 
 -- the fields so far are written
 abbrev pub invariant-fields : goal.invariant-fields
