@@ -8,6 +8,7 @@ mod effects;
 mod expressions;
 mod functions;
 mod initialisers;
+mod must_facts;
 mod programs;
 mod refusal;
 mod statements;
@@ -53,6 +54,7 @@ fn answer(alloc: Global, it: &Case<'_>) -> Result<String, Refusal> {
         "may" => analysis::answer(alloc, analysis::Asked::Effects, it.text),
         "assigned" => analysis::answer(alloc, analysis::Asked::Assigned, it.text),
         "restores" => analysis::answer(alloc, analysis::Asked::Restores, it.text),
+        "must" => must_facts::answer(alloc, it.text),
         _ => Err(Why::Unread.into()),
     }
 }
