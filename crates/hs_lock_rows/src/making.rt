@@ -1,11 +1,13 @@
 //! The row after a change.
 
-ghost use Rattle.std.specs.Prelude.{◌≡◌, ◌≢◌, ◌<◌, ◌≤◌, ℕ, Bool, false, length};
+ghost use Rattle.std.specs.Prelude.{◌≡◌, ◌≢◌, ◌<◌, ◌≤◌, ℕ, Bool, List, false, length};
 ghost use Rattle.hs_lock_rows.specs.Given.{Locks};
 ghost use Rattle.hs_lock_rows.specs.Knowing.{FitsChange, HasRoom, IsKnown, IsPoint};
 ghost use Rattle.hs_lock_rows.specs.Layout.{IsField, number};
 ghost use Rattle.hs_lock_rows.specs.Making.{IsMade, Popped, Shows, given_at};
+ghost use Rattle.hs_lock_rows.specs.declared.change.Change.TheVariants as change;
 ghost use Rattle.hs_rows.specs.Sets.{KeepsRows, SameSize, bit_in, has};
+ghost use Rattle.hs_tree.specs.declared.head.Variable.{Variable};
 
 use crate::coming::comes;
 use crate::knowing::{Known, Point, known_at};
@@ -13,7 +15,7 @@ use crate::layout::{field_at, fields, first, read, total};
 use crate::staying::stay;
 use crate::words::{both, either};
 use crate::{Change, Field};
-use hs_fact_rows::{Callees, Lists, Plan, clear, write};
+use hs_fact_rows::{Callees, Lists, Plan, clear, with_at, write};
 use hs_rows::Rows;
 
 /// The names of a field after a change.
@@ -80,7 +82,29 @@ fn pop(rows: &mut Rows, plan: Plan, at: usize, to: usize, base: usize)
     }
 }
 
-/// Makes the row after a change from the row before it. Most operations only take values.
+/// Makes the row after a handle is used: its names are live.
+fn use_handle(rows: &mut Rows, point: Point, to: usize, depth: usize, base: usize)
+    requires point { IsPoint point.plan point.low.now rows.old point.at }
+    requires to_in_range { to < rows.old.count }
+    requires apart { point.at ≢ to }
+    requires depth_in_range { depth ≤ point.plan.places }
+    ensures { (names slots : List Variable) (assigned : ℕ → ℕ → Bool)
+        → IsMade point.entry.plan names slots assigned point.entry.low.now point.entry.at to (change.Use depth base) rows.old rows.new }
+{
+    let live = read(rows, point.plan, point.at, Field::Live);
+    let with = with_at(point.low, point.plan, point.at, depth, base);
+    let word = either(live, with);
+    pop(rows, point.plan, point.at, to, base);
+    write(
+        rows,
+        to,
+        first(point.plan, Field::Live),
+        point.plan.names,
+        word,
+    );
+}
+
+/// Makes the row after a change from the row before it. Most operations only take values, or use a handle.
 pub(crate) fn make<C: Callees>(
     rows: &mut Rows,
     point: Point,
@@ -98,6 +122,7 @@ pub(crate) fn make<C: Callees>(
 {
     match change {
         Change::Pop { base } => pop(rows, point.plan, point.at, to, base),
+        Change::Use { depth, base } => use_handle(rows, point, to, depth, base),
         _ => make_fields(rows, point, to, change, lists, callees),
     }
 }

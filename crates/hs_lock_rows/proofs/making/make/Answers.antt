@@ -21,3 +21,8 @@ returns-in-Pop g c =
       others = c.pop.ensures.others;
       size = c.pop.ensures.size;
     })
+
+-- a handle is used
+pub returns-in-Use : goal.returns-in-Use
+returns-in-Use g c =
+    rw c.in-Use.is (c.use_handle.ensures c.args.lists.names.now c.args.lists.slots.now (g.C.Callees.assigned c.args.callees.now))
