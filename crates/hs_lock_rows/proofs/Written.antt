@@ -1,7 +1,7 @@
 -- Fields of a row that are written one after the other.
 --     shows_kept      another row still has its facts
 --     made_next       one field more is written
-use Rattle.std.proofs.Common.{◌≡◌, ◌≢◌, ◌<◌, ◌≤◌, ◌⊎◌, ℕ, suc, ◌+◌, ◌*◌, Bool, ap, sym, subst, ◌∙◌, inl, inr, arith}
+use Rattle.std.proofs.Common.{◌≡◌, ◌≢◌, ◌<◌, ◌≤◌, ◌⊎◌, ℕ, suc, ◌+◌, ◌*◌, ◌&&◌, ◌||◌, Bool, ap, sym, subst, ◌∙◌, inl, inr, arith}
 use Rattle.std.proofs.lemmas.Bool.{cases_eq}
 use Rattle.std.proofs.lemmas.Nat.{row_fits}
 use Rattle.hs_fact_rows.specs.Fields.{Writes}
@@ -47,3 +47,9 @@ module _ (plan : Plan) (to : ℕ) where
       → KeepsRows to old new
   others_next first word old mid new size others w r b inside within apart =
       w.outside r b (subst (λ n. r < n) (sym size.count) inside) (subst (λ n. b < 64 * n) (sym size.per) within) (inl apart) ∙ others r b inside within apart
+
+-- what stays of what was there, and what comes
+pub stayed_or_came : (word both stays before new s b n : Bool) → word ≡ (both || new) → both ≡ (stays && before) → stays ≡ s → before ≡ b → new ≡ n
+    → word ≡ ((s && b) || n)
+stayed_or_came word both stays before new s b n whole parts stay was come =
+    whole ∙ ap (λ t. t || new) (parts ∙ ap (λ t. t && before) stay ∙ ap (λ t. s && t) was) ∙ ap (λ t. (s && b) || t) come

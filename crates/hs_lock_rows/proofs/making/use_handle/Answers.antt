@@ -1,5 +1,4 @@
 use Rattle.std.proofs.Common.{◌∙◌}
-use Rattle.hs_fact_rows.specs.Given.{facts_in, with_of}
 use Rattle.hs_lock_rows.proofs.Popping.{used_made}
 use Rattle.hs_lock_rows.proofs.Written.{others_next}
 use Rattle.hs_rows.specs.Sets.{bit_in}
