@@ -1,4 +1,4 @@
 mod Bits
-mod Numbering
 mod Popping
+mod Rows
 mod Written

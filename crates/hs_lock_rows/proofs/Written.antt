@@ -6,7 +6,7 @@ use Rattle.std.proofs.lemmas.Bool.{cases_eq}
 use Rattle.std.proofs.lemmas.Nat.{row_fits}
 use Rattle.hs_fact_rows.specs.Fields.{Writes}
 use Rattle.hs_fact_rows.specs.declared.plan.Plan.{Plan}
-use Rattle.hs_lock_rows.proofs.Numbering.{one_field}
+use Rattle.hs_lock_rows.specs.Laws.Numbering.{one_field}
 use Rattle.hs_lock_rows.specs.Given.{Locks}
 use Rattle.hs_lock_rows.specs.Laws.Solved.{number_in}
 use Rattle.hs_lock_rows.specs.Layout.{IsField, field_number, number, total}

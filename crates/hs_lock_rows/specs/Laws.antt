@@ -1,3 +1,4 @@
 pub mod Exact
+pub mod Numbering
 pub mod Solved
 pub mod Tests

@@ -43,15 +43,15 @@ module _ (names slots : List Variable) where
 module _ (plan : Plan) where
   -- the fields that are in front of those of places
   abbrev pub fixed : ℕ
-  fixed = suc (suc (suc (plan.slots + plan.names)))
+  fixed = suc (suc (suc (plan.names + plan.slots)))
 
-  -- The row is one field of bits after another, each with a bit for each name: of each slot, then of the slots that are in no list, of what is
-  -- locked, of what is live, of what is apart from each name, and then two of each place.
+  -- The row is one field of bits after another, each with a bit for each name: of what is locked, of what is live, of what is apart from each name,
+  -- of each slot, then of the slots that are in no list, and then two of each place.
   abbrev pub field_number : Field → ℕ
-  field_number (field.KeptIn slot) = slot
-  field_number field.Locked = suc plan.slots
-  field_number field.Live = suc (suc plan.slots)
-  field_number (field.Apart name) = suc (suc (suc (plan.slots + name)))
+  field_number field.Locked = 0
+  field_number field.Live = 1
+  field_number (field.Apart name) = suc (suc name)
+  field_number (field.KeptIn slot) = suc (suc (plan.names + slot))
   field_number (field.KeptAt place) = fixed + 2 * place
   field_number (field.NewAt place) = suc (fixed + 2 * place)
 

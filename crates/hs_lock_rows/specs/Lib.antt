@@ -4,3 +4,4 @@ pub mod Knowing
 pub mod Laws
 pub mod Layout
 pub mod Making
+pub mod Own

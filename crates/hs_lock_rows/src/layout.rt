@@ -16,7 +16,7 @@ fn fixed(plan: Plan) -> usize
     requires fields_fit { fields plan < 2 ^ 64 }
     ensures { result ≡ fixed plan }
 {
-    plan.slots + plan.names + 3
+    plan.names + plan.slots + 3
 }
 
 /// How many fields there are.
@@ -43,10 +43,10 @@ pub(crate) fn field_number(plan: Plan, field: Field) -> usize
     ensures { result ≡ field_number plan field }
 {
     match field {
-        Field::KeptIn(slot) => slot,
-        Field::Locked => plan.slots + 1,
-        Field::Live => plan.slots + 2,
-        Field::Apart(name) => plan.slots + name + 3,
+        Field::Locked => 0,
+        Field::Live => 1,
+        Field::Apart(name) => name + 2,
+        Field::KeptIn(slot) => plan.names + slot + 2,
         Field::KeptAt(place) => fixed(plan) + 2 * place,
         Field::NewAt(place) => fixed(plan) + 2 * place + 1,
     }
@@ -59,17 +59,18 @@ pub(crate) fn field_at(plan: Plan, number: usize) -> Field
     ensures is { field_number plan result ≡ number }
     ensures there { IsField plan result }
 {
-    if number <= plan.slots {
-        return Field::KeptIn(number);
-    }
-    if number == plan.slots + 1 {
+    if number == 0 {
         return Field::Locked;
     }
-    if number == plan.slots + 2 {
+    if number == 1 {
         return Field::Live;
     }
+    let rest = number - 2;
+    if rest < plan.names {
+        return Field::Apart(rest);
+    }
     if number < fixed(plan) {
-        return Field::Apart(number - plan.slots - 3);
+        return Field::KeptIn(rest - plan.names);
     }
     place_field(number - fixed(plan))
 }
@@ -86,7 +87,7 @@ fn place_field(number: usize) -> Field
 }
 
 /// The first number of a field.
-#[tactic(auto, using(crate::proofs::Numbering::first_in))]
+#[tactic(auto, using(crate::specs::Laws::Numbering::first_in))]
 pub(crate) fn first(plan: Plan, field: Field) -> usize
     requires there { IsField plan field }
     requires fields_fit { fields plan < 2 ^ 64 }
@@ -135,6 +136,6 @@ fn numbers(plan: Plan) -> Option<usize>
     ensures all { IfSome result (λ its. total plan < 2 ^ 64) }
 {
     let places = plan.places.checked_mul(2)?;
-    let front = plan.slots.checked_add(plan.names)?.checked_add(3)?;
+    let front = plan.names.checked_add(plan.slots)?.checked_add(3)?;
     front.checked_add(places)?.checked_mul(plan.names)
 }

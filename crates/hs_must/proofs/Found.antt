@@ -4,7 +4,7 @@
 --     ready_from       its lists are made from the code of the program
 --     some_none, some_next      so many functions are found
 --     all_exact        all are, and the answers are exact
-use Rattle.std.proofs.Common.{◌≡◌, ◌<◌, ◌≤◌, ◌⊎◌, ℕ, zero, suc, nat_lt, ◌&&◌, ap, sym, subst, ◌∙◌, refl, inl, inr, arith, List, [], ◌∷◌, ◌++◌, length, slice_get, Bool, Option, Some, None}
+use Rattle.std.proofs.Common.{◌≡◌, ◌<◌, ◌≤◌, ◌⊎◌, ℕ, zero, suc, ◌+◌, nat_lt, ◌&&◌, ap, sym, subst, ◌∙◌, refl, inl, inr, arith, List, [], ◌∷◌, ◌++◌, length, slice_get, Bool, Option, Some, None}
 use Rattle.std.proofs.lemmas.Bool.{cases_lt}
 use Rattle.std.proofs.lemmas.Option.{slice_get_within}
 use Rattle.std.specs.Bool.{Decides}
@@ -21,10 +21,13 @@ use Rattle.hs_facts.specs.Names.{names_of}
 use Rattle.hs_lock_rows.specs.Layout.{total}
 use Rattle.hs_lock_rows.specs.Making.{makes}
 use Rattle.hs_lock_rows.specs.declared.change.Change.{Change}
-use Rattle.hs_must.specs.Answers.{FunctionAnswers, HasMany, IsExact, IsFacts, IsName, asked, distinct_by, live_by, locked_by, names_by, names_in, saved_by, with_by}
+use Rattle.hs_must.specs.Answers.{HasMany, IsExact, IsFacts, IsName, asked, distinct_by, live_by, locked_by, names_by, names_in, saved_by, with_by}
 use Rattle.hs_must.specs.Changing.{changes_by, may}
-use Rattle.hs_must.specs.Ends.{AreSome, IsFound}
+use Rattle.hs_must.specs.Ends.{AreKept, AreSome, IsFound}
+use Rattle.hs_must.specs.Functions.{FunctionAnswers}
 use Rattle.hs_must.specs.Laws.Exact.{facts_are}
+use Rattle.hs_must.specs.declared.kept.Kept.{Kept}
+use Rattle.hs_must.specs.declared.kept.Kept.TheVariants as kept
 use Rattle.hs_restores.specs.Laws.Jobs.{IsFor, task_of}
 use Rattle.hs_restores.specs.Laws.Assigning.{ready_is}
 use Rattle.hs_restores.specs.Laws.Numbering.{is_in}
@@ -114,14 +117,14 @@ end_length [] x = refl
 end_length (y ∷ rest) x = ap (λ n. suc n) (end_length rest x)
 
 -- one function more
-pub some_next : (whole : WholeCode) (count : ℕ) (all : List (Option FunctionAnswers)) (its : Option FunctionAnswers) → AreSome whole count all
-    → IsFound whole count its → AreSome whole (suc count) (all ++ its ∷ [])
+pub some_next : (whole : WholeCode) (count : ℕ) (all : List Kept) (its : Kept) → AreSome whole count all
+    → IsFound whole count its → AreSome whole (count + 1) (all ++ its ∷ [])
 some_next whole count all its are new = record {
-  long = end_length all its ∙ ap (λ n. suc n) are.long;
+  long = let last = end_length all its in let long = are.long in omega (arith, last, long);
   found = λ f it there. by_place f it there (cases_lt f (length all));
 }
   where
-    by_place : (f : ℕ) (it : Option FunctionAnswers) → slice_get (all ++ its ∷ []) f ≡ Some it → (f < length all) ⊎ (length all ≤ f) → IsFound whole f it
+    by_place : (f : ℕ) (it : Kept) → slice_get (all ++ its ∷ []) f ≡ Some it → (f < length all) ⊎ (length all ≤ f) → IsFound whole f it
     by_place f it there (inl low) = are.found f it (sym (before_end all its f low) ∙ there)
     by_place f it there (inr high) =
         let within = slice_get_within (all ++ its ∷ []) f it there in
@@ -130,7 +133,7 @@ some_next whole count all its are new = record {
         let is : its ≡ it = some_same its it (sym (at_end all its) ∙ sym (ap (slice_get (all ++ its ∷ [])) last) ∙ there) in
         subst (λ n. IsFound whole n it) (sym (last ∙ are.long)) (subst (IsFound whole count) is new)
       where
-        some_same : (a b : Option FunctionAnswers) → Some a ≡ Some b → a ≡ b
+        some_same : (a b : Kept) → Some a ≡ Some b → a ≡ b
         some_same a b e = cc
 
 -- ---- the answers
@@ -154,7 +157,7 @@ no_code whole f none =
     by_case None = refl
     by_case (Some function) = refl
 
-module _ (whole : WholeCode) (all : List (Option FunctionAnswers)) (are : AreSome whole (length whole.functions) all) where
+module _ (whole : WholeCode) (all : List Kept) (are : AreSome whole (length whole.functions) all) where
   -- a function that is not there, or of which nothing is kept, has no names
   no_names : (f : ℕ) → slice_get all f ≡ None → names_in whole f ≡ []
   no_names f none =
@@ -166,10 +169,13 @@ module _ (whole : WholeCode) (all : List (Option FunctionAnswers)) (are : AreSom
       → ((its : FunctionAnswers) → IsFacts whole f its → Decides (answer its) P) → Decides (asked (slice_get all f) answer) P
   in_function f P answer some tests = by_case (slice_get all f) refl
     where
-      by_case : (it : Option (Option FunctionAnswers)) → slice_get all f ≡ it → Decides (asked it answer) P
+      by_kept : (it : Kept) → AreKept whole f it → Decides (asked (Some it) answer) P
+      by_kept (kept.Named its) are = tests its are
+      by_kept (kept.Nameless rows) none = absurd (some none)
+
+      by_case : (it : Option Kept) → slice_get all f ≡ it → Decides (asked it answer) P
       by_case None e = absurd (some (no_names f e))
-      by_case (Some None) e = absurd (some (are.found f None e))
-      by_case (Some (Some its)) e = tests its (are.found f (Some its) e).0
+      by_case (Some it) e = by_kept it (are.found f it e).facts
 
   has_names : (f h : ℕ) (x : Variable) → IsName whole f h x → names_in whole f ≡ [] → ⊥
   has_names f h x is none = none_there (subst (λ (list : List Variable). slice_get list h ≡ Some x) none is)
@@ -183,14 +189,15 @@ module _ (whole : WholeCode) (all : List (Option FunctionAnswers)) (are : AreSom
       empty : names_in whole f ≡ [] → ⊥
       empty none = let long = ap length none in absurd (omega (arith, many, long))
 
-      by_case : (it : Option (Option FunctionAnswers)) → slice_get all f ≡ it → ⊥
+      by_case : (it : Option Kept) → slice_get all f ≡ it → ⊥
       by_case None e = empty (no_names f e)
-      by_case (Some None) e = empty (are.found f None e)
-      by_case (Some (Some its)) e = let most = (are.found f (Some its) e).1 in absurd (omega (arith, many, most))
+      by_case (Some it) e = let most = (are.found f it e).few in absurd (omega (arith, many, most))
 
   pub all_exact : IsExact whole all × ((f : ℕ) → HasMany whole f → ⊥)
   all_exact = (
     record {
+      functions = are.long;
+      rows = λ f its there. (are.found f its there).rows;
       locked = λ f at h x is. in_function f (HoldsAt whole f at (Locked x)) (λ its. locked_by its at h) (has_names f h x is)
           (λ its facts. facts.locked at h x is);
       live = λ f at h x is. in_function f (HoldsAt whole f at (Live x)) (λ its. live_by its at h) (has_names f h x is) (λ its facts. facts.live at h x is);

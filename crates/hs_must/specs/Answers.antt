@@ -1,38 +1,33 @@
 -- What the must facts of a program answer (own).
---     FunctionAnswers                what is kept of a function
---     locked_by, live_by, ..         its answers
+--     locked_by, live_by, ..         the answers of what is kept of a function
 --     locked_in, live_in, ..         the answers of the function of that number
+--     rows_in                        its rows
 --     names_in whole f               the handle names of a function
 --     IsFacts whole f its            the answers of a function are right
+--     AreRows whole f kept           its rows have them too
 --     IsExact whole answers          those of all functions are
 use Rattle.std.specs.Bool.{Decides}
-use Rattle.std.specs.Prelude.{◌≡◌, ◌<◌, ℕ, ◌==◌, nat_lt, Bool, true, false, not, ◌&&◌, List, [], length, Option, Some, None, slice_get}
+use Rattle.std.specs.Prelude.{◌≡◌, ◌<◌, ◌≤◌, ℕ, ◌+◌, ◌*◌, ◌==◌, nat_lt, Bool, true, false, not, ◌&&◌, List, [], length, Option, Some, None, slice_get}
 use Rattle.hs_code.specs.Codes.{is_slot_in, scope_of}
 use Rattle.hs_code.specs.Stacks.{variable_in}
 use Rattle.hs_code.specs.declared.function_code.FunctionCode.{FunctionCode}
 use Rattle.hs_code.specs.declared.function_code.Placed.{Placed}
 use Rattle.hs_fact_rows.specs.Cells.{index_of, saved_in, with_at}
 use Rattle.hs_fact_rows.specs.Given.{facts_in}
-use Rattle.hs_fact_rows.specs.declared.plan.Plan.{Plan}
 use Rattle.hs_facts.specs.Effects.{HoldsAt, WholeCode, placed_in}
 use Rattle.hs_facts.specs.MustFacts.{in_slot, With, Saved, Locked, Live, Distinct}
 use Rattle.hs_facts.specs.Names.{names_of}
 use Rattle.hs_lock_rows.specs.Layout.{number}
 use Rattle.hs_lock_rows.specs.declared.field.Field.{Field}
 use Rattle.hs_lock_rows.specs.declared.field.Field.TheVariants as field
-use Rattle.hs_rows.specs.Sets.{Sets, has}
+use Rattle.hs_must.specs.Functions.{FunctionAnswers}
+use Rattle.hs_must.specs.declared.kept.Kept.{Kept}
+use Rattle.hs_must.specs.declared.kept.Kept.TheVariants as kept
+use Rattle.hs_rows.specs.Sets.{Sets, has, width}
 use Rattle.hs_tree.specs.Trees.{TypedFunction}
 use Rattle.hs_tree.specs.declared.head.Variable.{Variable}
 
 -- ---- a function
-
--- so many operations, with the rows of With and Saved before them, and the rows of all other facts
-pub record FunctionAnswers : Type 0 where
-  pub plan : Plan
-  pub ops : ℕ
-  pub low : Sets
-  pub locks : Sets
-  pub slots : List Variable
 
 module _ (its : FunctionAnswers) where
   -- an operation and a name that are there
@@ -61,13 +56,17 @@ module _ (its : FunctionAnswers) where
 
 -- ---- all functions
 
--- of the function of that number, if it is there and has a name
-abbrev pub asked : Option (Option FunctionAnswers) → (FunctionAnswers → Bool) → Bool
-asked None answer = false
-asked (Some None) answer = false
-asked (Some (Some its)) answer = answer its
+-- of a function, if it has a name
+abbrev pub asked_of : Kept → (FunctionAnswers → Bool) → Bool
+asked_of (kept.Named its) answer = answer its
+asked_of (kept.Nameless rows) answer = false
 
-module _ (answers : List (Option FunctionAnswers)) (f at : ℕ) where
+-- of the function of that number, if it is there
+abbrev pub asked : Option Kept → (FunctionAnswers → Bool) → Bool
+asked None answer = false
+asked (Some its) answer = asked_of its answer
+
+module _ (answers : List Kept) (f at : ℕ) where
   abbrev pub locked_in : ℕ → Bool
   locked_in h = asked (slice_get answers f) (λ its. locked_by its at h)
 
@@ -82,6 +81,19 @@ module _ (answers : List (Option FunctionAnswers)) (f at : ℕ) where
 
   abbrev pub saved_in_slot : Variable → ℕ → Bool
   saved_in_slot b h = asked (slice_get answers f) (λ its. saved_by its at b h)
+
+-- the rows of a function
+abbrev pub rows_of : Kept → Sets
+rows_of (kept.Named its) = its.locks
+rows_of (kept.Nameless rows) = rows
+
+-- if it is there
+abbrev pub some_rows : Option Kept → Sets
+some_rows None = record { count = 0; per = 0; words = [] }
+some_rows (Some its) = rows_of its
+
+abbrev pub rows_in : List Kept → ℕ → Sets
+rows_in answers f = some_rows (slice_get answers f)
 
 -- ---- what is right
 
@@ -125,7 +137,22 @@ pub record IsFacts (whole : WholeCode) (f : ℕ) (its : FunctionAnswers) : Type 
   pub saved : (at : ℕ) (b : Variable) (h : ℕ) (x : Variable) → IsName whole f h x → IsSlot whole f b
       → Decides (saved_by its at b h) (HoldsAt whole f at (Saved (in_slot b) x))
 
-pub record IsExact (whole : WholeCode) (answers : List (Option FunctionAnswers)) : Type 0 where
+-- There is a row for each operation. Where the function has n names it has the number a if a is locked, n + a if a is live, and 2n + a * n + b if a and b
+-- are two names that are apart.
+pub record AreRows (whole : WholeCode) (f : ℕ) (its : Kept) : Type 0 where
+  pub there : (at : ℕ) (it : Placed) → placed_in whole f at ≡ Some it → at < (rows_of its).count
+  pub wide : 2 * length (names_in whole f) + length (names_in whole f) * length (names_in whole f) ≤ width (rows_of its)
+  pub locked : (at a : ℕ) (it : Placed) → placed_in whole f at ≡ Some it → a < length (names_in whole f)
+      → has (rows_of its) at a ≡ asked_of its (λ its. locked_by its at a)
+  pub live : (at a : ℕ) (it : Placed) → placed_in whole f at ≡ Some it → a < length (names_in whole f)
+      → has (rows_of its) at (length (names_in whole f) + a) ≡ asked_of its (λ its. live_by its at a)
+  pub distinct : (at a b : ℕ) (it : Placed) → placed_in whole f at ≡ Some it → a < length (names_in whole f) → b < length (names_in whole f)
+      → has (rows_of its) at (2 * length (names_in whole f) + a * length (names_in whole f) + b)
+      ≡ (not (a == b) && asked_of its (λ its. distinct_by its at a b))
+
+pub record IsExact (whole : WholeCode) (answers : List Kept) : Type 0 where
+  pub functions : length answers ≡ length whole.functions
+  pub rows : (f : ℕ) (its : Kept) → slice_get answers f ≡ Some its → AreRows whole f its
   pub locked : (f at h : ℕ) (x : Variable) → IsName whole f h x → Decides (locked_in answers f at h) (HoldsAt whole f at (Locked x))
   pub live : (f at h : ℕ) (x : Variable) → IsName whole f h x → Decides (live_in answers f at h) (HoldsAt whole f at (Live x))
   pub distinct : (f at a b : ℕ) (x y : Variable) → IsName whole f a x → IsName whole f b y

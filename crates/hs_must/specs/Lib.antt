@@ -1,4 +1,5 @@
 pub mod Answers
 pub mod Changing
 pub mod Ends
+pub mod Functions
 pub mod Laws

@@ -24,7 +24,7 @@ impl Model for FunctionFacts {
     ghost use Rattle.std.specs.Prelude.{◌≡◌, ◌≤◌, ◌<◌, ◌^◌, length};
     ghost use Rattle.hs_fact_rows.specs.Cells as cells;
     ghost use Rattle.hs_lock_rows.specs.Layout as layout;
-    ghost use Rattle.hs_must.specs.Answers.{FunctionAnswers};
+    ghost use Rattle.hs_must.specs.Functions.{FunctionAnswers};
     ghost use Rattle.hs_rows.specs.Sets.{width};
 
     ghost Value = { FunctionAnswers };

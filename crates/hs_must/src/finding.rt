@@ -4,20 +4,23 @@ ghost use Rattle.std.specs.Prelude.{◌≡◌, ◌<◌, ◌≤◌, Some, IfOk, l
 ghost use Rattle.hs_effects.specs.Answers.{IsExact};
 ghost use Rattle.hs_effects.specs.Calling.{whole_of};
 ghost use Rattle.hs_facts.specs.Names.{names_of};
-ghost use Rattle.hs_must.specs.Answers.{IsFacts};
-ghost use Rattle.hs_must.specs.Ends.{AreFound, Finds};
+ghost use Rattle.hs_must.specs.Answers.{AreRows, IsFacts};
+ghost use Rattle.hs_must.specs.Ends.{AreFound, Finds, HasNone};
+ghost use Rattle.hs_must.specs.declared.kept.Kept.TheVariants as kept;
 ghost use Rattle.hs_restores.specs.Stepping.{scope_in};
 ghost use Rattle.hs_rows.specs.Sets.{width};
 ghost use Rattle.hs_tree.specs.Views.{view_function};
 
 use crate::changing::{Maker, changes_by};
 use crate::facts::FunctionFacts;
+use crate::kept::Kept;
 use hs_base::NoMemory;
 use hs_code::{Code, FunctionCode};
 use hs_effects::EffectTable;
 use hs_fact_rows::Lists;
-use hs_lock_rows::{LockJob, fits, solve_locks};
+use hs_lock_rows::{LockJob, clear_own, fits, solve_locks};
 use hs_restores::{Assigning, Numbers, Own, WindowRows, names_of, slots_of, window_rows};
+use hs_rows::Rows;
 use hs_tree::Function;
 use std::alloc::Global;
 
@@ -26,7 +29,7 @@ pub(crate) fn all_facts(
     alloc: Global,
     code: &Code,
     effects: &EffectTable,
-) -> Result<Option<Vec<Option<FunctionFacts>>>, NoMemory>
+) -> Result<Option<Vec<Kept>>, NoMemory>
     requires functions { effects.now.effects.count ≡ length code.now.functions.items }
     requires assigned { effects.now.assigned.count ≡ length code.now.functions.items }
     requires globals { length code.now.program.now.globals ≤ width effects.now.assigned }
@@ -36,19 +39,44 @@ pub(crate) fn all_facts(
     let mut all = Vec::new(alloc);
     'functions: for (number, own) in code.functions.iter().enumerate() {
         let number = u32::try_from(number).or(Err(NoMemory))?;
-        let found = match code.program.functions.get(number as usize) {
-            Some(function) => facts_of(alloc, code, number, function, own, effects)?,
-            None => Some(None),
-        };
-        let Some(facts) = found else {
+        let Some(kept) = kept_of(alloc, code, number, own, effects)? else {
             return Ok(None);
         };
-        all.push(facts)?;
+        all.push(kept)?;
     }
     Ok(Some(all))
 }
 
-/// The facts of a function, if it has no more than 64 handle names, and of those only if it has one.
+/// What is kept of a function, if it has no more than 64 handle names.
+fn kept_of(
+    alloc: Global,
+    code: &Code,
+    number: u32,
+    own: &FunctionCode,
+    effects: &EffectTable,
+) -> Result<Option<Kept>, NoMemory>
+    requires of_code { slice_get code.now.functions.items number ≡ Some own.now }
+    requires functions { effects.now.effects.count ≡ length code.now.functions.items }
+    requires assigned { effects.now.assigned.count ≡ length code.now.functions.items }
+    requires globals { length code.now.program.now.globals ≤ width effects.now.assigned }
+    requires exact { IsExact (whole_of code.now) effects.now }
+    ensures { IfOk result (Finds (whole_of code.now) number) }
+{
+    match code.program.functions.get(number as usize) {
+        Some(function) => facts_of(alloc, code, number, function, own, effects),
+        None => Ok(Some(nameless(alloc, own)?)),
+    }
+}
+
+/// What is kept of a function without handle names.
+fn nameless(alloc: Global, own: &FunctionCode) -> Result<Kept, NoMemory>
+    ensures { IfOk result (HasNone own.now) }
+{
+    let rows = Rows::new(alloc, own.ops.items().len(), 0)?;
+    Ok(Kept::Nameless(rows))
+}
+
+/// The same of a function that is there.
 fn facts_of(
     alloc: Global,
     code: &Code,
@@ -56,7 +84,7 @@ fn facts_of(
     function: &Function,
     own: &FunctionCode,
     effects: &EffectTable,
-) -> Result<Option<Option<FunctionFacts>>, NoMemory>
+) -> Result<Option<Kept>, NoMemory>
     requires of_function { slice_get code.now.program.now.functions.items number ≡ Some function.now }
     requires of_code { slice_get code.now.functions.items number ≡ Some own.now }
     requires functions { effects.now.effects.count ≡ length code.now.functions.items }
@@ -71,10 +99,10 @@ fn facts_of(
         return Ok(None);
     }
     if count == 0 {
-        return Ok(Some(None));
+        return Ok(Some(nameless(alloc, own)?));
     }
     let facts = named_facts(alloc, code, number, function, own, effects, &names)?;
-    Ok(Some(Some(facts)))
+    Ok(Some(Kept::Named(facts)))
 }
 
 /// The facts of a function that has so many handle names.
@@ -96,7 +124,8 @@ fn named_facts<'a>(
     requires names { names.now ≡ names_of (scope_in code.now.program.now (view_function function.now)) own.now }
     requires some { 0 < length names.now }
     requires few { length names.now ≤ 64 }
-    ensures { IfOk result (IsFacts (whole_of code.now) number) }
+    ensures facts { IfOk result (IsFacts (whole_of code.now) number) }
+    ensures rows { IfOk result (λ its. AreRows (whole_of code.now) number (kept.Named its)) }
 {
     let assigned = effects.assigned();
     let slots = slots_of(alloc, code.program, function, own, number, assigned)?;
@@ -142,7 +171,8 @@ fn named_facts<'a>(
         code: own,
         low: &rows,
     };
-    let locks = solve_locks(alloc, job, &callees)?;
+    let mut locks = solve_locks(alloc, job, &callees)?;
+    clear_own(&mut locks, plan, ops.len());
     Ok(FunctionFacts {
         plan,
         ops: ops.len(),

@@ -5,6 +5,7 @@
 mod changing;
 mod facts;
 mod finding;
+mod kept;
 mod must_end;
 mod table;
 mod whole;

@@ -1,9 +1,10 @@
 //! The must facts of a program, as they are asked for.
 
-ghost use Rattle.std.specs.Prelude.{◌≡◌, ◌&&◌};
-ghost use Rattle.hs_must.specs.Answers.{distinct_in, live_in, locked_in, saved_in_slot, with_in};
+ghost use Rattle.std.specs.Prelude.{◌≡◌, ◌<◌, ◌&&◌, length};
+ghost use Rattle.hs_must.specs.Answers.{distinct_in, live_in, locked_in, rows_in, saved_in_slot, with_in};
 
-use crate::facts::FunctionFacts;
+use crate::kept::Kept;
+use hs_rows::Rows;
 use hs_tree::Variable;
 use std::marker::Model;
 
@@ -11,15 +12,14 @@ use std::marker::Model;
 /// function, in the order of the functions.
 #[derive(Drop)]
 pub struct Must {
-    /// Nothing of a function without handle names.
-    pub(crate) functions: Vec<Option<FunctionFacts>>,
+    pub(crate) functions: Vec<Kept>,
 }
 
 impl Model for Must {
-    ghost use Rattle.std.specs.Prelude.{List, Option};
-    ghost use Rattle.hs_must.specs.Answers.{FunctionAnswers};
+    ghost use Rattle.std.specs.Prelude.{List};
+    ghost use Rattle.hs_must.specs.declared.kept.Kept.{Kept};
 
-    ghost Value = { List (Option FunctionAnswers) };
+    ghost Value = { List Kept };
 
     ghost view = { λ it. it.functions.items };
 }
@@ -33,8 +33,8 @@ impl Must {
         ensures { result ≡ locked_in self.now f at h }
     {
         match self.functions.get(f as usize) {
-            Some(Some(its)) => its.locked(at as usize, h as usize),
-            Some(None) | None => false,
+            Some(Kept::Named(its)) => its.locked(at as usize, h as usize),
+            Some(Kept::Nameless(_)) | None => false,
         }
     }
 
@@ -45,8 +45,8 @@ impl Must {
         ensures { result ≡ live_in self.now f at h }
     {
         match self.functions.get(f as usize) {
-            Some(Some(its)) => its.live(at as usize, h as usize),
-            Some(None) | None => false,
+            Some(Kept::Named(its)) => its.live(at as usize, h as usize),
+            Some(Kept::Nameless(_)) | None => false,
         }
     }
 
@@ -57,8 +57,8 @@ impl Must {
         ensures { result ≡ distinct_in self.now f at a b }
     {
         match self.functions.get(f as usize) {
-            Some(Some(its)) => its.distinct(at as usize, a as usize, b as usize),
-            Some(None) | None => false,
+            Some(Kept::Named(its)) => its.distinct(at as usize, a as usize, b as usize),
+            Some(Kept::Nameless(_)) | None => false,
         }
     }
 
@@ -69,8 +69,8 @@ impl Must {
         ensures { result ≡ with_in self.now f at place h }
     {
         match self.functions.get(f as usize) {
-            Some(Some(its)) => its.with(at as usize, place as usize, h as usize),
-            Some(None) | None => false,
+            Some(Kept::Named(its)) => its.with(at as usize, place as usize, h as usize),
+            Some(Kept::Nameless(_)) | None => false,
         }
     }
 
@@ -90,8 +90,21 @@ impl Must {
         ensures { result ≡ saved_in_slot self.now f at slot h }
     {
         match self.functions.get(f as usize) {
-            Some(Some(its)) => its.saved(at as usize, slot, h as usize),
-            Some(None) | None => false,
+            Some(Kept::Named(its)) => its.saved(at as usize, slot, h as usize),
+            Some(Kept::Nameless(_)) | None => false,
+        }
+    }
+    /// Lends the rows of a function, one for each of its operations. In a function with n handle names the row of an operation has the number a if
+    /// `locked` answers true of a there, n + a if `live` does, and 2n + a * n + b if a and b are two names of which `distinct` does.
+    ///
+    /// Example: in `void f(Handle h) { HLock(h); g(); }` the row of the call of `g` has the numbers 0 and 1.
+    pub fn rows(&self, f: u32) -> &Rows
+        requires function_in_range { f < length self.now }
+        ensures { result.now ≡ rows_in self.now f }
+    {
+        match &self.functions[f as usize] {
+            Kept::Named(its) => &its.locks,
+            Kept::Nameless(rows) => rows,
         }
     }
 }

@@ -1,12 +1,13 @@
 -- The restores of a function, as they are found (own).
 --     sets_state routines op         the operation is a set_state
+--     sets_any routines ops          one of the operations is
 --     Shows scope plan sets at its   the row before the operation shows that it is a restore
 --     Noted whole f names bound row  restores are noted: those whose handle is among so many of the names
 --     AddsShown ..                   those that the rows show are noted too
 --     IsAssigned whole sets          which globals functions may assign
 --     IsReady ..                     what is known of a function and its lists
 use Rattle.std.specs.Bool.{Decides}
-use Rattle.std.specs.Prelude.{◌≡◌, ◌<◌, ◌≤◌, ◌⊎◌, ℕ, suc, set, nat_lt, Bool, true, false, ◌&&◌, List, length, slice_get, Option, Some}
+use Rattle.std.specs.Prelude.{◌≡◌, ◌<◌, ◌≤◌, ◌⊎◌, ℕ, suc, set, nat_lt, Bool, true, false, ◌&&◌, ◌||◌, List, [], ◌∷◌, length, slice_get, Option, Some}
 use Rattle.hs_code.specs.Codes.{is_slot_in, scope_of}
 use Rattle.hs_code.specs.Stacks.{Scope, variable_in}
 use Rattle.hs_code.specs.declared.function_code.FunctionCode.{FunctionCode}
@@ -38,6 +39,11 @@ is_set_state _ = false
 abbrev pub sets_state : List BoundRoutine → Op → Bool
 sets_state routines (op.Routine place) = is_set_state (role_in (slice_get routines place))
 sets_state routines _ = false
+
+-- one of these operations is
+abbrev pub sets_any : List BoundRoutine → List Placed → Bool
+sets_any routines [] = false
+sets_any routines (its ∷ rest) = sets_state routines its.op || sets_any routines rest
 
 -- a name has With of its first argument, and Saved of its second one
 pub record IsSharedIn (scope : Scope) (plan : Plan) (sets : Sets) (at : ℕ) (its : Placed) : Type 0 where

@@ -15,7 +15,7 @@ ghost use Rattle.hs_tree.specs.Views.{view_function};
 
 use crate::assigning::Assigning;
 use crate::names::names_of;
-use crate::noting::note_shown;
+use crate::noting::{note_shown, sets_any};
 use crate::numbers::Numbers;
 use crate::plan::plan_of;
 use crate::slots::slots_of;
@@ -68,8 +68,28 @@ pub(crate) fn restores_of(
     Ok(rows)
 }
 
-/// The restores of a function: so many of its names at a time as a row has bits for.
+/// The restores of a function. Most functions put no state byte, and so have none.
 fn restores_in(
+    alloc: Global,
+    code: &Code,
+    number: u32,
+    function: &Function,
+    own: &FunctionCode,
+    assigned: &Assignments,
+) -> Result<Vec<bool>, NoMemory>
+    requires of_function { slice_get code.now.program.now.functions.items number ≡ Some function.now }
+    requires of_code { slice_get code.now.functions.items number ≡ Some own.now }
+    requires assigned { IsAssigned (whole_of code.now) assigned.now }
+    ensures { IfOk result (λ its. (at : ℕ) → Decides (noted (slice_get its.items at)) (IsRestoreAt (whole_of code.now) number at)) }
+{
+    if sets_any(code.program.routines.items(), own.ops.items()) {
+        return restores_by_facts(alloc, code, number, function, own, assigned);
+    }
+    Ok(Vec::new(alloc))
+}
+
+/// The same, from its facts: so many of its names at a time as a row has bits for.
+fn restores_by_facts(
     alloc: Global,
     code: &Code,
     number: u32,

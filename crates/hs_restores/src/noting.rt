@@ -3,7 +3,7 @@
 ghost use Rattle.std.specs.Bool.{Decides};
 ghost use Rattle.std.specs.Prelude.{◌≡◌, ◌<◌, ◌≤◌, ℕ, suc, length};
 ghost use Rattle.hs_fact_rows.specs.Given.{IsFit};
-ghost use Rattle.hs_restores.specs.Restoring.{AddsShown, Shows, is_set_state, note, sets_state};
+ghost use Rattle.hs_restores.specs.Restoring.{AddsShown, Shows, is_set_state, note, sets_any, sets_state};
 ghost use Rattle.hs_restores.specs.Stepping.{greatest, scope_in};
 ghost use Rattle.hs_tree.specs.Trees.{TypedFunction};
 
@@ -54,6 +54,18 @@ fn is_shown(program: &Program, rows: &Rows, plan: Plan, at: usize, its: Placed) 
     let first = depth.saturating_sub(taken(program, its.op));
     sets_state(program.routines.items(), its.op)
         && shares(rows, plan, at, depth, (first, first + 1))
+}
+
+/// Whether one of the operations is a set_state.
+pub(crate) fn sets_any(routines: &[BoundRoutine], ops: &[Placed]) -> bool
+    ensures { result ≡ sets_any routines.now ops.now }
+{
+    'ops: for its in ops {
+        if sets_state(routines, its.op) {
+            return true;
+        }
+    }
+    false
 }
 
 /// Whether the operation is a set_state.

@@ -31,8 +31,9 @@ use Rattle.hs_lock_rows.specs.Making.{makes}
 use Rattle.hs_lock_rows.specs.declared.change.Change.{Change}
 use Rattle.hs_lock_rows.specs.declared.field.Field.{Field}
 use Rattle.hs_lock_rows.specs.declared.field.Field.TheVariants as field
-use Rattle.hs_must.specs.Answers.{FunctionAnswers, IsFacts, IsName, IsPlace, IsSlot, distinct_by, has_in, is_slot_of, is_there, live_by, locked_by, names_by, names_in, saved_by, with_by}
+use Rattle.hs_must.specs.Answers.{IsFacts, IsName, IsPlace, IsSlot, distinct_by, has_in, is_slot_of, is_there, live_by, locked_by, names_by, names_in, saved_by, with_by}
 use Rattle.hs_must.specs.Changing.{changes_by, may}
+use Rattle.hs_must.specs.Functions.{FunctionAnswers}
 use Rattle.hs_must.specs.Laws.Changing.{change_is, changes_at}
 use Rattle.hs_must.specs.Laws.Impacts.{Holds-impact}
 use Rattle.hs_restores.specs.Laws.Jobs.{IsFor, task_is, task_of}

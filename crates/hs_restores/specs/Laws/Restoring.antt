@@ -1,11 +1,15 @@
 -- What the rows of a window show is a restore whose handle is in the window, and each of those is shown.
 --     shown_restore, restore_shown
-use Rattle.std.proofs.Common.{◌≡◌, ◌<◌, ◌≤◌, ℕ, suc, ◌+◌, Bool, true, ap, sym, subst, ◌∙◌, refl, arith, List, slice_get, Option, Some, None}
+--     no_restore        a function that puts no state byte has no restore
+--     nothing_noted     and nothing is noted of it
+use Rattle.std.proofs.Common.{◌≡◌, ◌<◌, ◌≤◌, ℕ, zero, suc, ◌+◌, Bool, true, false, ◌||◌, ap, sym, subst, ◌∙◌, refl, arith, List, [], ◌∷◌, slice_get, Option, Some, None}
+use Rattle.std.specs.Bool.{Decides}
 use Rattle.hs_code.specs.Codes.{scope_of}
 use Rattle.hs_code.specs.declared.function_code.FunctionCode.{FunctionCode}
 use Rattle.hs_code.specs.declared.function_code.Placed.{Placed}
 use Rattle.hs_code.specs.declared.op.Op.{Op}
 use Rattle.hs_code.specs.declared.op.Op.TheVariants as op
+use Rattle.hs_effects.specs.Effecting.{noted}
 use Rattle.hs_fact_rows.specs.Cells.{index_of}
 use Rattle.hs_fact_rows.specs.Cuts.{IsSolved}
 use Rattle.hs_fact_rows.specs.Laws.Exact.{impact_by}
@@ -19,7 +23,7 @@ use Rattle.hs_facts.specs.Names.{names_of, role_in}
 use Rattle.hs_facts.specs.Rounds.{Holds}
 use Rattle.hs_restores.specs.Laws.Jobs.{IsFor, task_of, task_is}
 use Rattle.hs_restores.specs.Laws.Windows.{part_length, part_number}
-use Rattle.hs_restores.specs.Restoring.{Shows, is_set_state, sets_state}
+use Rattle.hs_restores.specs.Restoring.{Shows, is_set_state, sets_any, sets_state}
 use Rattle.hs_rows.specs.Sets.{Sets}
 use Rattle.hs_table.specs.declared.role.Role.{Role}
 use Rattle.hs_table.specs.declared.role.Role.TheVariants as role
@@ -164,3 +168,33 @@ module _ (whole : WholeCode) (f : ℕ) (function : TypedFunction) (code : Functi
         ap (sets_state whole.program.routines) (ap (λ (p : Placed). p.op) (sym three) ∙ r.routine) ∙ ap is_set_state r.sets_state,
         record { number = shared.0; below = shared.1; held = shared.2; read = shared.3 },
       )
+
+-- ---- functions that put no state byte
+
+-- of operations that are none
+none_sets : (routines : List BoundRoutine) (ops : List Placed) → sets_any routines ops ≡ false → (at : ℕ) (its : Placed)
+    → slice_get ops at ≡ Some its → sets_state routines its.op ≡ false
+none_sets routines [] none at its there = absurd cc
+none_sets routines (first ∷ rest) none zero its there =
+    subst (λ (it : Placed). sets_state routines it.op ≡ false) (some_one first its there)
+    (left_false (sets_state routines first.op) (sets_any routines rest) none)
+  where
+    left_false : (a b : Bool) → (a || b) ≡ false → a ≡ false
+    left_false true b is = absurd cc
+    left_false false b is = refl
+none_sets routines (first ∷ rest) none (suc at) its there =
+    none_sets routines rest (right_false (sets_state routines first.op) (sets_any routines rest) none) at its there
+  where
+    right_false : (a b : Bool) → (a || b) ≡ false → b ≡ false
+    right_false true b is = absurd cc
+    right_false false b is = is
+
+pub no_restore : (whole : WholeCode) (f : ℕ) (code : FunctionCode) → slice_get whole.functions f ≡ Some code
+    → sets_any whole.program.routines code.ops ≡ false → (at : ℕ) → IsRestoreAt whole f at → ⊥
+no_restore whole f code of_code none at is =
+    false_not_true (sym (none_sets whole.program.routines code.ops none at is.its
+    (subst (λ (c : FunctionCode). slice_get c.ops at ≡ Some is.its) (some_one is.code code (sym is.its_code ∙ of_code)) is.there))
+    ∙ ap (sets_state whole.program.routines) is.routine ∙ ap is_set_state is.sets_state)
+
+pub nothing_noted : {P : Type 0} → (at : ℕ) → (P → ⊥) → Decides (noted (slice_get [] at)) P
+nothing_noted at none = (λ is. false_not_true is, λ is. absurd (none is))

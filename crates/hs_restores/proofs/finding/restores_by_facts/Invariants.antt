@@ -1,7 +1,7 @@
 use Rattle.std.proofs.Common.{◌≤◌, ◌-◌, length}
 use Rattle.hs_effects.specs.Calling.{whole_of}
 use Rattle.hs_restores.specs.Restoring.{Noted}
-use Rattle.hs_restores.proofs.finding.restores_in.Given as goal
+use Rattle.hs_restores.proofs.finding.restores_by_facts.Given as goal
 
 -- the restores of the names so far
 abbrev pub invariant-windows : goal.invariant-windows
