@@ -10,7 +10,8 @@ use Rattle.hs_effects.specs.Effecting.{restored}
 use Rattle.hs_facts.specs.Effects.{WholeCode, placed_in}
 use Rattle.hs_flow.specs.Given.{Given}
 use Rattle.hs_flow.specs.Programs.{callee_of}
-use Rattle.hs_must.specs.Answers.{FunctionAnswers, distinct_in, is_slot_of, live_in, locked_in, names_in, saved_in_slot, with_in}
+use Rattle.hs_must.specs.declared.kept.Kept.{Kept}
+use Rattle.hs_must.specs.Answers.{distinct_in, is_slot_of, live_in, locked_in, names_in, saved_in_slot, with_in}
 use Rattle.hs_tree.specs.declared.head.Variable.{Variable}
 
 -- the number is that of a name of the function
@@ -26,7 +27,7 @@ abbrev pub is_slot_there : WholeCode → ℕ → Variable → Bool
 is_slot_there whole f b = is_slot_of whole (slice_get whole.program.functions f) b
 
 -- what is known before the operation `at` of the function `f`
-abbrev pub given_by : WholeCode → Answers → List (Option FunctionAnswers) → ℕ → ℕ → Given
+abbrev pub given_by : WholeCode → Answers → List Kept → ℕ → ℕ → Given
 given_by whole effects facts f at =
     record {
       function = f;
@@ -41,5 +42,5 @@ given_by whole effects facts f at =
     }
 
 -- in the whole program
-abbrev pub knowledge_by : WholeCode → Answers → List (Option FunctionAnswers) → Knowledge
+abbrev pub knowledge_by : WholeCode → Answers → List Kept → Knowledge
 knowledge_by whole effects facts = record { at = given_by whole effects facts; of = callee_of whole effects }

@@ -20,7 +20,8 @@ use Rattle.hs_facts.specs.MustFacts.{in_slot, With, Saved, Locked, Live, Distinc
 use Rattle.hs_flow.specs.Calls.{Callee, over_of, enter_of, leave_of}
 use Rattle.hs_flow.specs.Given.{Given}
 use Rattle.hs_flow.specs.Programs.{callee_of, next_in, parameters_of}
-use Rattle.hs_must.specs.Answers.{FunctionAnswers, IsExact as AreExact, distinct_in, is_slot_of, live_in, locked_in, names_in, saved_in_slot, with_in}
+use Rattle.hs_must.specs.declared.kept.Kept.{Kept}
+use Rattle.hs_must.specs.Answers.{IsExact as AreExact, distinct_in, is_slot_of, live_in, locked_in, names_in, saved_in_slot, with_in}
 use Rattle.hs_rows.specs.Sets.{has}
 use Rattle.hs_tree.specs.declared.head.Variable.{Variable}
 
@@ -69,7 +70,7 @@ on_stack o its place there is = subst (λ o. nat_lt place (places_of o) ≡ true
 -- ---- what the tables answer
 
 module _
-    (whole : WholeCode) (effects : Answers) (facts : List (Option FunctionAnswers))
+    (whole : WholeCode) (effects : Answers) (facts : List Kept)
     (exact_effects : IsExact whole effects) (exact : AreExact whole facts)
   where
     -- a fact of a place is of one that is on the stack
