@@ -6,7 +6,7 @@
 --     EndsIn whole known n f at p    a chain of n spots ends before that operation in the pair p
 --     IsShortest ..                  and no chain that does so is shorter
 -- A call that returns goes back to the call on top of the stack, and to no other.
-use Rattle.std.specs.List.{Contains}
+use Rattle.hs_flow.specs.Among.{Among}
 use Rattle.std.specs.Prelude.{◌≡◌, ◌≤◌, ◌<◌, ℕ, suc, List, [], ◌∷◌, length, slice_get, Option, Some, None}
 use Rattle.hs_code.specs.Following.{Follows}
 use Rattle.hs_code.specs.declared.function_code.FunctionCode.{FunctionCode}
@@ -61,7 +61,7 @@ module _ (whole : WholeCode) (known : Knowledge) where
     pub there : placed_in whole x.function x.at ≡ Some its
     pub follows : FollowsIn whole x.function x.at y.at
     pub same : y.function ≡ x.function
-    pub has : Contains (next_in whole x.function (known.at x.function x.at) its.op x.fact) y.fact
+    pub has : Among (next_in whole x.function (known.at x.function x.at) its.op x.fact) y.fact
 
   -- over a call, to the operation after it
   pub record Over (x y : Spot) : Type 0 where
@@ -69,7 +69,7 @@ module _ (whole : WholeCode) (known : Knowledge) where
     pub call : IsCall whole x callee
     pub next : y.at ≡ suc x.at
     pub same : y.function ≡ x.function
-    pub has : Contains (over_of (known.of callee) (known.at x.function x.at) x.fact) y.fact
+    pub has : Among (over_of (known.of callee) (known.at x.function x.at) x.fact) y.fact
 
   -- into the function that is called, to its operation 0
   pub record Enters (x y : Spot) : Type 0 where
@@ -84,7 +84,7 @@ module _ (whole : WholeCode) (known : Knowledge) where
     pub there : placed_in whole x.function x.at ≡ Some its
     pub returns : its.op ≡ op.Return
     pub exit : Fact
-    pub exits : Contains (next_in whole x.function (known.at x.function x.at) op.Return x.fact) exit
+    pub exits : Among (next_in whole x.function (known.at x.function x.at) op.Return x.fact) exit
     pub next : y.at ≡ suc c.at
     pub same : y.function ≡ c.function
     pub has : leave_of (known.of x.function) (known.at c.function c.at) c.fact exit ≡ Some y.fact

@@ -7,7 +7,7 @@ use Rattle.std.proofs.Common.{◌≡◌, ◌<◌, ⊎_elim, ◌∙◌, ℕ, nat_
 use Rattle.std.proofs.lemmas.Bool.Decides.{nat_tests}
 use Rattle.std.proofs.lemmas.Option.{slice_get_cases, slice_get_within}
 use Rattle.std.specs.Bool.{Decides, one_answer}
-use Rattle.std.specs.List.{Contains}
+use Rattle.hs_flow.specs.Among.{Among}
 use Rattle.hs_chains.specs.Answering.{is_number, is_on_stack, is_slot_there, given_by, knowledge_by}
 use Rattle.hs_chains.specs.Chains.{Chain, Spot, Goes, Over, Enters, Leaves, begins, goes, goes_over, enters, leaves}
 use Rattle.hs_chains.specs.Hazards.{Hazard, Kind, ReachesBad}
@@ -165,7 +165,7 @@ module _ (whole : WholeCode) (a b : Knowledge) (by_a : IsKnowledge whole a) (by_
     there = step.there;
     follows = step.follows;
     same = step.same;
-    has = subst (λ given. Contains (next_in whole x.function given step.its.op x.fact) y.fact) (given_same x.function x.at) step.has;
+    has = subst (λ given. Among (next_in whole x.function given step.its.op x.fact) y.fact) (given_same x.function x.at) step.has;
   }
 
   over_known : (x y : Spot) → Over whole a x y → Over whole b x y
@@ -175,8 +175,8 @@ module _ (whole : WholeCode) (a b : Knowledge) (by_a : IsKnowledge whole a) (by_
     next = step.next;
     same = step.same;
     has =
-        subst (λ given. Contains (over_of (b.of step.callee) given x.fact) y.fact) (given_same x.function x.at)
-        (subst (λ callee. Contains (over_of callee (a.at x.function x.at) x.fact) y.fact) (callee_same step.callee step.call.of_function) step.has);
+        subst (λ given. Among (over_of (b.of step.callee) given x.fact) y.fact) (given_same x.function x.at)
+        (subst (λ callee. Among (over_of callee (a.at x.function x.at) x.fact) y.fact) (callee_same step.callee step.call.of_function) step.has);
   }
 
   enters_known : (x y : Spot) → Enters whole a x y → Enters whole b x y
@@ -193,7 +193,7 @@ module _ (whole : WholeCode) (a b : Knowledge) (by_a : IsKnowledge whole a) (by_
     there = step.there;
     returns = step.returns;
     exit = step.exit;
-    exits = subst (λ given. Contains (next_in whole x.function given op.Return x.fact) step.exit) (given_same x.function x.at) step.exits;
+    exits = subst (λ given. Among (next_in whole x.function given op.Return x.fact) step.exit) (given_same x.function x.at) step.exits;
     next = step.next;
     same = step.same;
     has =
