@@ -69,6 +69,14 @@ number_of_status status.Purgeable = 536870909
 number_of_status status.IsHandle = 536870910
 number_of_status status.Reached = 536870911
 
+-- the status of a number, after the first five
+abbrev pub later_status_of : ℕ → FactStatus
+later_status_of number =
+    if nat_lt number 536870908 then status.Fresh (number - 5) else
+    if number == 536870908 then status.SavedPurgeable else
+    if number == 536870909 then status.Purgeable else
+    if number == 536870910 then status.IsHandle else status.Reached
+
 -- the status of a number
 abbrev pub status_of : ℕ → FactStatus
 status_of number =
@@ -76,11 +84,7 @@ status_of number =
     if number == 1 then status.Hollow else
     if number == 2 then status.Loose else
     if number == 3 then status.Outer else
-    if number == 4 then status.Held else
-    if nat_lt number 536870908 then status.Fresh (number - 5) else
-    if number == 536870908 then status.SavedPurgeable else
-    if number == 536870909 then status.Purgeable else
-    if number == 536870910 then status.IsHandle else status.Reached
+    if number == 4 then status.Held else later_status_of number
 
 -- ---- facts
 

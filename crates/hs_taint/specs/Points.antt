@@ -3,8 +3,10 @@
 --     count_of functions            how many operations there are
 --     Point, point_of functions n   the function and the operation of a number
 --     is_there functions f at       the operation is one of the function
-use Rattle.std.specs.Prelude.{ℕ, zero, suc, ◌+◌, ◌-◌, nat_lt, Bool, List, [], ◌∷◌, length, slice_get, Option, Some, None, if◌then◌else◌}
+--     starts_from, owners_from      the first number of each function, and the function of each number
+use Rattle.std.specs.Prelude.{ℕ, zero, suc, ◌+◌, ◌-◌, nat_lt, Bool, List, [], ◌∷◌, ◌++◌, length, map, slice_get, Option, Some, None, if◌then◌else◌}
 use Rattle.hs_code.specs.declared.function_code.FunctionCode.{FunctionCode}
+use Rattle.hs_code.specs.declared.function_code.Placed.{Placed}
 use Rattle.hs_facts.specs.Effects.{ops_in}
 
 -- the number of its first operation
@@ -37,3 +39,19 @@ point_of (code ∷ rest) n =
 -- the function has so many operations
 abbrev pub is_there : List FunctionCode → ℕ → ℕ → Bool
 is_there functions f at = nat_lt at (length (ops_in (slice_get functions f)))
+
+-- ---- as lists
+
+-- the first number of each function, if there are so many operations before
+abbrev pub starts_from : ℕ → List FunctionCode → List ℕ
+starts_from before [] = []
+starts_from before (code ∷ rest) = before ∷ starts_from (before + length code.ops) rest
+
+-- the number of the function
+abbrev pub owned_by : ℕ → Placed → ℕ
+owned_by f its = f
+
+-- the function of each operation, if the first one has that number
+abbrev pub owners_from : ℕ → List FunctionCode → List ℕ
+owners_from f [] = []
+owners_from f (code ∷ rest) = map (owned_by f) code.ops ++ owners_from (suc f) rest

@@ -1,2 +1,5 @@
-//! The facts that chains reach in a program, and its hazards. `specs/Routes.antt` has the graph whose chains are those of the program.
+//! The facts that chains reach in a program, and its hazards. `specs/Routes.antt` has the graph whose ways are the chains of the program.
 #![tactic(auto)]
+
+mod coding;
+mod operations;
