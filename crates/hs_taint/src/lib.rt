@@ -2,4 +2,5 @@
 #![tactic(auto)]
 
 mod coding;
+mod known;
 mod operations;
