@@ -100,3 +100,10 @@ module _ (functions : List FunctionCode) (starts owners : List ℕ) (n : ℕ)
         let number = (located functions n within).there.number in
         let place : (located functions n within).p.at ≡ n - start = omega (arith, same, number) in
         λ i. record { function = function i; at = place i }
+
+-- the start of a function
+pub start_found : (functions : List FunctionCode) (starts : List ℕ) (f d : ℕ) → starts ≡ starts_from 0 functions → f < length functions
+    → (f < length starts) × (get_or starts f d ≡ start_of functions f)
+start_found functions starts f d are below =
+    let long = ap length are ∙ starts_length 0 functions in
+    (omega (arith, long), get_or_from_slice_get starts f (start_of functions f) d (ap (λ list. slice_get list f) are ∙ start_at functions f below))

@@ -1,5 +1,7 @@
 pub mod Coding
 pub mod Knowing
 pub mod Laws
+pub mod Nodes
 pub mod Points
 pub mod Routes
+pub mod Stepping

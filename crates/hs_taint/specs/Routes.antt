@@ -23,6 +23,7 @@ use Rattle.hs_flow.specs.declared.fact.Fact.{Fact}
 use Rattle.hs_search.specs.Graphs.{FlowGraph}
 use Rattle.hs_search.specs.declared.graph.Node.{Node}
 use Rattle.hs_taint.specs.Coding.{code_of, fact_of}
+use Rattle.hs_taint.specs.Nodes.{each_in, node_in}
 use Rattle.hs_taint.specs.Points.{Point, count_of, is_there, point_of, start_of}
 
 -- ---- control
@@ -87,20 +88,15 @@ site_of whole n = site_by whole (point_of whole.functions n)
 
 -- a fact at an operation, in a call that was entered with the fact of that number
 abbrev pub node_at : WholeCode → ℕ → ℕ → ℕ → Fact → Node
-node_at whole f at entered fact = record { at = start_of whole.functions f + at; fact = code_of fact; entered = entered }
+node_at whole f at entered fact = node_in whole.functions f entered at fact
 
 -- a fact with which a function is entered
 abbrev pub entry_node : WholeCode → ℕ → Fact → Node
 entry_node whole f fact = record { at = start_of whole.functions f; fact = code_of fact; entered = code_of fact }
 
--- each of the facts at an operation, if it is there
-abbrev pub nodes_at : WholeCode → ℕ → ℕ → List Fact → ℕ → List Node
-nodes_at whole f entered facts at = if is_there whole.functions f at then map (node_at whole f at entered) facts else []
-
--- at each of the operations
+-- each of the facts at each of the operations, if they are there
 abbrev pub nodes_each : WholeCode → ℕ → ℕ → List Fact → List ℕ → List Node
-nodes_each whole f entered facts [] = []
-nodes_each whole f entered facts (at ∷ rest) = nodes_at whole f entered facts at ++ nodes_each whole f entered facts rest
+nodes_each whole f entered facts ats = each_in whole.functions f entered facts ats
 
 module _ (whole : WholeCode) (known : Knowledge) where
   -- ---- steps

@@ -2,5 +2,8 @@
 #![tactic(auto)]
 
 mod coding;
+mod facts;
+mod graph;
 mod known;
+mod nodes;
 mod operations;

@@ -2,7 +2,7 @@
 
 ghost use Rattle.std.specs.Prelude.{◌≡◌, ◌<◌, ◌≤◌, ◌^◌, ◌++◌, Some, IfOk, length, map};
 ghost use Rattle.hs_taint.specs.Laws.Points.{IsPoint};
-ghost use Rattle.hs_taint.specs.Points.{count_of, owned_by, owners_from, point_of, starts_from};
+ghost use Rattle.hs_taint.specs.Points.{count_of, is_there, owned_by, owners_from, point_of, start_of, starts_from};
 
 use hs_base::NoMemory;
 use hs_code::{FunctionCode, Placed};
@@ -86,5 +86,23 @@ impl Operations<'_> {
             function,
             at: number - self.starts[function as usize],
         }
+    }
+
+    /// Whether the function has that operation.
+    pub(crate) fn has(&self, function: u32, at: u32) -> bool
+        ensures { result ≡ is_there self.now.functions.now function at }
+    {
+        match self.functions.get(function as usize) {
+            Some(code) => (at as usize) < code.ops.items().len(),
+            None => false,
+        }
+    }
+
+    /// The number of the first operation of a function.
+    pub(crate) fn start(&self, function: u32) -> u32
+        requires there { function < length self.now.functions.now }
+        ensures start { result ≡ start_of self.now.functions.now function }
+    {
+        self.starts[function as usize]
     }
 }

@@ -27,8 +27,9 @@ use Rattle.hs_search.specs.declared.graph.Node.{Node}
 use Rattle.hs_taint.specs.Coding.{fact_of}
 use Rattle.hs_taint.specs.Laws.Following.{is_call}
 use Rattle.hs_taint.specs.Laws.Points.{number_below, point_number}
+use Rattle.hs_taint.specs.Nodes.{nodes_in}
 use Rattle.hs_taint.specs.Points.{Point, count_of, is_there, point_of, start_of}
-use Rattle.hs_taint.specs.Routes.{Site, cases_of, enters_at, enters_by, entry_node, facts_after, flow_of, is_callee, is_return, leaves_at, leaves_by, left_by, node_at, nodes_at, nodes_each, site_at, site_by, site_of, steps_at, targets_of}
+use Rattle.hs_taint.specs.Routes.{Site, cases_of, enters_at, enters_by, entry_node, facts_after, flow_of, is_callee, is_return, leaves_at, leaves_by, left_by, node_at, nodes_each, site_at, site_by, site_of, steps_at, targets_of}
 use Rattle.hs_tree.specs.declared.class.Class.{Class}
 use Rattle.hs_tree.specs.declared.globals.Global.{Global}
 use Rattle.hs_tree.specs.declared.head.Variable.TheVariants as name
@@ -89,7 +90,7 @@ module _ (whole : WholeCode) (f entered : ℕ) (facts : List Fact) where
   nodes_each_of [] y is = absurd is
   nodes_each_of (at ∷ rest) y is =
       ⊎_elim (first_of (is_there whole.functions f at) at rest y refl) (λ more. rest_of at rest y (nodes_each_of rest y more))
-      (has_either (nodes_at whole f entered facts at) (nodes_each whole f entered facts rest) y is)
+      (has_either (nodes_in whole.functions f entered facts at) (nodes_each whole f entered facts rest) y is)
 
   first_has : (b : Bool) (at : ℕ) (fact : Fact) → b ≡ true → Among facts fact
       → Has (if b then map (node_at whole f at entered) facts else []) (node_at whole f at entered fact)
@@ -100,11 +101,11 @@ module _ (whole : WholeCode) (f entered : ℕ) (facts : List Fact) where
       → Has (nodes_each whole f entered facts ats) (node_at whole f at entered fact)
   nodes_of_each [] at fact among there is = absurd among
   nodes_of_each (it ∷ rest) at fact (inl among) there is =
-      has_left (nodes_at whole f entered facts it) (nodes_each whole f entered facts rest) (node_at whole f at entered fact)
-      (subst (λ a. Has (nodes_at whole f entered facts a) (node_at whole f at entered fact)) among
+      has_left (nodes_in whole.functions f entered facts it) (nodes_each whole f entered facts rest) (node_at whole f at entered fact)
+      (subst (λ a. Has (nodes_in whole.functions f entered facts a) (node_at whole f at entered fact)) among
       (first_has (is_there whole.functions f at) at fact there is))
   nodes_of_each (it ∷ rest) at fact (inr among) there is =
-      has_right (nodes_at whole f entered facts it) (nodes_each whole f entered facts rest) (node_at whole f at entered fact)
+      has_right (nodes_in whole.functions f entered facts it) (nodes_each whole f entered facts rest) (node_at whole f at entered fact)
       (nodes_of_each rest at fact among there is)
 
 -- ---- operations that are there
