@@ -1,4 +1,5 @@
 pub mod Coding
+pub mod Flowing
 pub mod Knowing
 pub mod Laws
 pub mod Nodes
