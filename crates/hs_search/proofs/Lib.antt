@@ -1,0 +1,9 @@
+mod Chaining
+mod Closing
+mod Exactness
+mod Gathering
+mod Listing
+mod Membership
+mod Nodes
+mod Rounding
+mod Storing
