@@ -1,6 +1,9 @@
+mod Calling
 mod Chaining
 mod Closing
 mod Exactness
+mod Expanding
+mod Expansions
 mod Gathering
 mod Listing
 mod Membership

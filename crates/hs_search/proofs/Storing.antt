@@ -20,30 +20,30 @@ pub none_has : (items : List (Item Reach)) (reach : Reach) → Seen items reach.
 none_has items reach seen has = seen has.0 has.1.it (omega arith) has.1.there has.1.at has.1.fact has.1.call
 
 -- the items of the key from that place on are taken
-pub record IsTakenFrom (most : ℕ) (items : List (Item Reach)) (key at : ℕ) (old new : List (Item Reach)) : Type 0 where
+pub record IsTakenFrom (room most : ℕ) (items : List (Item Reach)) (key at : ℕ) (old new : List (Item Reach)) : Type 0 where
   pub taken : List Reach
-  pub taking : Taking most taken old new
+  pub taking : Taking room most taken old new
   pub each : (reach : Reach) → Has taken reach → IsListed items key reach
   pub seen : Seen items key at (λ n it. Has taken it.value)
 
 -- ---- several offers
 
 -- nothing is taken at first
-pub taken_first : (most : ℕ) (items : List (Item Reach)) (key at : ℕ) (old : List (Item Reach))
-    → Seen items key at (λ n it. Has [] it.value) → IsTakenFrom most items key at old old
-taken_first most items key at old seen = record { taken = []; taking = none_taken old; each = λ reach has. absurd has; seen = seen }
+pub taken_first : (room most : ℕ) (items : List (Item Reach)) (key at : ℕ) (old : List (Item Reach))
+    → Seen items key at (λ n it. Has [] it.value) → IsTakenFrom room most items key at old old
+taken_first room most items key at old seen = record { taken = []; taking = none_taken old; each = λ reach has. absurd has; seen = seen }
 
 -- one more
-pub taking_more : (room most : ℕ) (offers : List Reach) (reach : Reach) (old mid new : List (Item Reach)) (done : Unit {0}) → Taking most offers old mid
-    → Takes room most reach mid new (Ok done) → Taking most (offers ++ reach ∷ []) old new
+pub taking_more : (room most : ℕ) (offers : List Reach) (reach : Reach) (old mid new : List (Item Reach)) (done : Unit {0}) → Taking room most offers old mid
+    → Takes room most reach mid new (Ok done) → Taking room most (offers ++ reach ∷ []) old new
 taking_more room most offers reach old mid new done taking (inl same) =
-    subst (Taking most (offers ++ reach ∷ []) old) (sym same.0) (one_known offers reach old mid taking same.1)
+    subst (Taking room most (offers ++ reach ∷ []) old) (sym same.0) (one_known offers reach old mid taking same.1)
 taking_more room most offers reach old mid new done taking (inr added) = one_added offers reach old mid new taking added
 
 pub taking_next : (room most : ℕ) (offers : List Reach) (n : ℕ) (d : Reach) (old mid new : List (Item Reach)) (done : Unit {0}) → n < length offers
-    → Taking most (take n offers) old mid → Takes room most (slice_index_or offers n d) mid new (Ok done) → Taking most (take (n + 1) offers) old new
+    → Taking room most (take n offers) old mid → Takes room most (slice_index_or offers n d) mid new (Ok done) → Taking room most (take (n + 1) offers) old new
 taking_next room most offers n d old mid new done within taking takes =
-    subst (λ os. Taking most os old new) (sym (take_more offers n d within))
+    subst (λ os. Taking room most os old new) (sym (take_more offers n d within))
     (taking_more room most (take n offers) (slice_index_or offers n d) old mid new done taking takes)
 
 -- each of them is in the list
@@ -54,7 +54,7 @@ take_Has (y ∷ xs) (suc n) x (inl is) = inl is
 take_Has (y ∷ xs) (suc n) x (inr has) = inr (take_Has xs n x has)
 
 -- there was no room for the next one
-pub each_full : (room most : ℕ) (offers taken : List Reach) (one : Reach) (old mid new : List (Item Reach)) (end : SearchEnd) → Taking most taken old mid
+pub each_full : (room most : ℕ) (offers taken : List Reach) (one : Reach) (old mid new : List (Item Reach)) (end : SearchEnd) → Taking room most taken old mid
     → ((reach : Reach) → Has taken reach → Has offers reach) → Has offers one → Takes room most one mid new (Err end)
     → TakesEach room most offers old new (Err end)
 each_full room most offers taken one old mid new Limit taking each offered full =
@@ -62,7 +62,7 @@ each_full room most offers taken one old mid new Limit taking each offered full 
 each_full room most offers taken one old mid new NoMemory taking each offered full = tt
 
 pub listed_full : (room most : ℕ) (items : List (Item Reach)) (key : ℕ) (taken : List Reach) (one : Reach) (old mid new : List (Item Reach)) (end : SearchEnd)
-    → Taking most taken old mid → ((reach : Reach) → Has taken reach → IsListed items key reach) → IsListed items key one
+    → Taking room most taken old mid → ((reach : Reach) → Has taken reach → IsListed items key reach) → IsListed items key one
     → Takes room most one mid new (Err end) → TakesListed room most items key old new (Err end)
 listed_full room most items key taken one old mid new Limit taking each offered full =
     record { taken = taken; mid = mid; taking = taking; each = each; one = one; offered = offered; outside = full.0; full = full.1 }
@@ -74,9 +74,9 @@ listed_at items key n it there own = record { n = n; it = it; there = there; own
 
 -- the walk, with one offer more
 pub from_more : (room most : ℕ) (heads : List ℕ) (items : List (Item Reach)) (key at : ℕ) (it : Item Reach) (old mid new : List (Item Reach)) (done : Unit {0})
-    → IsIndex heads items → IsWalk items key at → IsTakenFrom most items key at old mid → 0 < at → slice_get items (at - 1) ≡ Some it
+    → IsIndex heads items → IsWalk items key at → IsTakenFrom room most items key at old mid → 0 < at → slice_get items (at - 1) ≡ Some it
     → Takes room most it.value mid new (Ok done)
-    → IsTakenFrom most items key it.link old new × IsWalk items key it.link × (it.link < at)
+    → IsTakenFrom room most items key it.link old new × IsWalk items key it.link × (it.link < at)
 from_more room most heads items key at it old mid new done right walk from some there takes =
     let own = walk_own items key at it walk some there in
     let wider : Seen items key at (λ n its. Has (from.taken ++ it.value ∷ []) its.value) =
@@ -98,9 +98,9 @@ from_more room most heads items key at it old mid new done right walk from some 
     each reach (inr (inr no_more)) own = absurd no_more
 
 -- all are taken
-pub taken_all : (most : ℕ) (items : List (Item Reach)) (key : ℕ) (old new : List (Item Reach)) → IsTakenFrom most items key 0 old new
-    → IsTakenList most items key old new
-taken_all most items key old new from = record {
+pub taken_all : (room most : ℕ) (items : List (Item Reach)) (key : ℕ) (old new : List (Item Reach)) → IsTakenFrom room most items key 0 old new
+    → IsTakenList room most items key old new
+taken_all room most items key old new from = record {
   taken = from.taken;
   taking = from.taking;
   each = from.each;

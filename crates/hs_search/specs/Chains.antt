@@ -56,9 +56,8 @@ pub record IsFound (graph : FlowGraph) (most : ℕ) (pairs : List Pair) : Type 0
   pub lengths : (p : Pair) → Has pairs p → IsLength graph most p.length p.node
 
 pub record IsTooMany (graph : FlowGraph) (room : ℕ) : Type 0 where
-  -- more of them
   pub nodes : List Node
-  pub more : length nodes ≡ suc room
+  pub more : room < length nodes
   pub once : IsOnce nodes
   pub reached : (x : Node) → Has nodes x → IsReached graph x
 

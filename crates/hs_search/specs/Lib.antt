@@ -2,7 +2,9 @@ pub mod Bringing
 pub mod Calling
 pub mod Chains
 pub mod Graphs
+pub mod Layout
 pub mod Levels
 pub mod Listing
 pub mod Rounds
+pub mod Searching
 pub mod Storing

@@ -59,31 +59,32 @@ abbrev pub AllListedBelow : ℕ → List (Item Reach) → Type 0
 AllListedBelow count items = (n : ℕ) (it : Item Reach) → slice_get items n ≡ Some it → it.value.at < count
 
 -- one row more
-pub record IsAdded (most : ℕ) (reach : Reach) (old new : List (Item Reach)) : Type 0 where
+pub record IsAdded (room most : ℕ) (reach : Reach) (old new : List (Item Reach)) : Type 0 where
   pub outside : ¬ (HasRow old reach)
   pub it : Item Reach
   pub key : it.key ≡ reach.at
   pub value : it.value ≡ capped most reach
   pub more : new ≡ old ++ it ∷ []
+  pub fits : length old < room
 
 abbrev pub Takes : ℕ → ℕ → Reach → List (Item Reach) → List (Item Reach) → Result (Unit {0}) SearchEnd → Type 0
-Takes room most reach old new (Ok _) = ((new ≡ old) × HasRow old reach) ⊎ IsAdded most reach old new
+Takes room most reach old new (Ok _) = ((new ≡ old) × HasRow old reach) ⊎ IsAdded room most reach old new
 Takes room most reach old new (Err Limit) = (¬ (HasRow old reach)) × (room ≤ length old)
 Takes room most reach old new (Err NoMemory) = Unit {0}
 
 -- these offers were taken, one after the other
-pub data Taking (most : ℕ) : List Reach → List (Item Reach) → List (Item Reach) → Type 0 where
-  none_taken : (items : List (Item Reach)) → Taking most [] items items
-  one_known : (offers : List Reach) (reach : Reach) (old new : List (Item Reach)) → Taking most offers old new → HasRow new reach
-      → Taking most (offers ++ reach ∷ []) old new
-  one_added : (offers : List Reach) (reach : Reach) (old mid new : List (Item Reach)) → Taking most offers old mid → IsAdded most reach mid new
-      → Taking most (offers ++ reach ∷ []) old new
+pub data Taking (room most : ℕ) : List Reach → List (Item Reach) → List (Item Reach) → Type 0 where
+  none_taken : (items : List (Item Reach)) → Taking room most [] items items
+  one_known : (offers : List Reach) (reach : Reach) (old new : List (Item Reach)) → Taking room most offers old new → HasRow new reach
+      → Taking room most (offers ++ reach ∷ []) old new
+  one_added : (offers : List Reach) (reach : Reach) (old mid new : List (Item Reach)) → Taking room most offers old mid → IsAdded room most reach mid new
+      → Taking room most (offers ++ reach ∷ []) old new
 
 -- there was no room for one of them
 pub record IsFull (room most : ℕ) (Offers : Reach → Type 0) (old : List (Item Reach)) : Type 0 where
   pub taken : List Reach
   pub mid : List (Item Reach)
-  pub taking : Taking most taken old mid
+  pub taking : Taking room most taken old mid
   pub each : (reach : Reach) → Has taken reach → Offers reach
   pub one : Reach
   pub offered : Offers one
@@ -92,7 +93,7 @@ pub record IsFull (room most : ℕ) (Offers : Reach → Type 0) (old : List (Ite
 
 -- of offers in a list
 abbrev pub TakesEach : ℕ → ℕ → List Reach → List (Item Reach) → List (Item Reach) → Result (Unit {0}) SearchEnd → Type 0
-TakesEach room most offers old new (Ok _) = Taking most offers old new
+TakesEach room most offers old new (Ok _) = Taking room most offers old new
 TakesEach room most offers old new (Err Limit) = IsFull room most (Has offers) old
 TakesEach room most offers old new (Err NoMemory) = Unit {0}
 
@@ -105,13 +106,13 @@ pub record IsListed (items : List (Item Reach)) (key : ℕ) (reach : Reach) : Ty
   pub value : it.value ≡ reach
 
 -- all offers that are listed by the key, in some order
-pub record IsTakenList (most : ℕ) (items : List (Item Reach)) (key : ℕ) (old new : List (Item Reach)) : Type 0 where
+pub record IsTakenList (room most : ℕ) (items : List (Item Reach)) (key : ℕ) (old new : List (Item Reach)) : Type 0 where
   pub taken : List Reach
-  pub taking : Taking most taken old new
+  pub taking : Taking room most taken old new
   pub each : (reach : Reach) → Has taken reach → IsListed items key reach
   pub all : (reach : Reach) → IsListed items key reach → Has taken reach
 
 abbrev pub TakesListed : ℕ → ℕ → List (Item Reach) → ℕ → List (Item Reach) → List (Item Reach) → Result (Unit {0}) SearchEnd → Type 0
-TakesListed room most items key old new (Ok _) = IsTakenList most items key old new
+TakesListed room most items key old new (Ok _) = IsTakenList room most items key old new
 TakesListed room most items key old new (Err Limit) = IsFull room most (IsListed items key) old
 TakesListed room most items key old new (Err NoMemory) = Unit {0}

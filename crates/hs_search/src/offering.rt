@@ -1,8 +1,12 @@
 //! What a row brings: its steps, the call that it enters, and the returns of calls. `specs/Bringing.antt` says what is offered.
 
-ghost use Rattle.std.specs.Prelude.{◌≡◌, ◌<◌, ◌≤◌, ◌++◌, ◌^◌, length, map, option_map, OnOk};
+ghost use Rattle.std.specs.Prelude.{◌≡◌, ◌<◌, ◌≤◌, ◌++◌, ◌^◌, [], length, map, option_map, slice_get, Some, OnOk};
 ghost use Rattle.hs_search.specs.Bringing.{AreFit, AreRows, CallOffered, EndOffered, Gathers, IsFit, MakesCaller, MakesEnd, book_of, listed, step_back, step_on};
+ghost use Rattle.hs_search.specs.Layout.{IsExpanded, IsLaidOut};
+ghost use Rattle.hs_search.specs.Searching.{HasExpanded};
 ghost use Rattle.hs_search.specs.Storing.{node_of};
+ghost use Rattle.hs_search.specs.declared.lists.Item.{Item};
+ghost use Rattle.hs_search.specs.declared.reach.Reach.{Reach};
 
 use crate::calls::Calls;
 use crate::graph::{Graph, Node};
@@ -174,4 +178,51 @@ fn offer_end<G: Graph>(
     }
     calls.ends.push(from.call, number as u32)?;
     offer_callers(graph, rows, calls, node, from, jumps)
+}
+
+/// Offers all that a row brings, and lists the row as a caller or an end.
+pub(crate) fn expand<G: Graph>(
+    graph: &G,
+    rows: &Lists<Reach>,
+    number: usize,
+    calls: &mut Calls,
+    nodes: &mut Vec<Node>,
+    near: &mut Vec<Reach>,
+    jumps: &mut Vec<Reach>,
+) -> Result<(), NoMemory>
+    requires number { number < length rows.now.items.items }
+    requires operations { length calls.old.entries.heads.items ≡ (G.flow graph.now).count }
+    requires laid_out { IsLaidOut (G.flow graph.now) rows.now.items.items (book_of calls.old) number }
+    ensures expanded { OnOk result ((it : Item Reach) → slice_get rows.now.items.items number ≡ Some it → IsExpanded (G.flow graph.now) rows.now.items.items number it (book_of calls.old) (book_of calls.new) near.old.items near.new.items jumps.old.items jumps.new.items) }
+    ensures operations { length calls.new.entries.heads.items ≡ length calls.old.entries.heads.items }
+{
+    let from = rows.item(number).value;
+    let node = calls.node(from);
+    offer_steps(graph, node, from, nodes, near)?;
+    offer_call(graph, rows, number, node, from, calls, near, jumps)?;
+    offer_end(graph, rows, number, node, from, calls, jumps)
+}
+
+/// Expands the rows from a number on. Nothing is offered yet.
+pub(crate) fn expand_from<G: Graph>(
+    graph: &G,
+    rows: &Lists<Reach>,
+    first: usize,
+    calls: &mut Calls,
+    nodes: &mut Vec<Node>,
+    near: &mut Vec<Reach>,
+    jumps: &mut Vec<Reach>,
+) -> Result<(), NoMemory>
+    requires first { first ≤ length rows.now.items.items }
+    requires operations { length calls.old.entries.heads.items ≡ (G.flow graph.now).count }
+    requires laid_out { IsLaidOut (G.flow graph.now) rows.now.items.items (book_of calls.old) first }
+    requires near { near.old.items ≡ [] }
+    requires jumps { jumps.old.items ≡ [] }
+    ensures expanded { OnOk result (HasExpanded (G.flow graph.now) rows.now.items.items first (length rows.now.items.items) (book_of calls.old) (book_of calls.new) near.new.items jumps.new.items) }
+    ensures operations { length calls.new.entries.heads.items ≡ length calls.old.entries.heads.items }
+{
+    for number in first..rows.len() {
+        expand(graph, rows, number, calls, nodes, near, jumps)?;
+    }
+    Ok(())
 }

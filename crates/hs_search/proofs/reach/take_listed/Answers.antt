@@ -8,7 +8,7 @@ pub offers-init : goal.offers-init
 offers-init c =
     let all = walk_first c.args.offers.now.items.items c.args.key c.last-number.result (λ n it. Has [] it.value) c.last-number.ensures in
     record {
-      taken = taken_first c.args.most c.args.offers.now.items.items c.args.key c.last-number.result c.args.rows.now.items.items all.1;
+      taken = taken_first c.args.room c.args.most c.args.offers.now.items.items c.args.key c.last-number.result c.args.rows.now.items.items all.1;
       walk = all.0;
       wide = refl;
     }

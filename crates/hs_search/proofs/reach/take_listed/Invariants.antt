@@ -8,7 +8,7 @@ use Rattle.hs_search.proofs.reach.take_listed.Given as goal
 -- those of the key from here on are taken
 abbrev pub invariant-offers : goal.invariant-offers
 invariant-offers l = record {
-  taken : IsTakenFrom l.most l.offers.items.items l.key l.number l.fn.rows.items.items l.rows.items.items;
+  taken : IsTakenFrom l.room l.most l.offers.items.items l.key l.number l.fn.rows.items.items l.rows.items.items;
   walk : IsWalk l.offers.items.items l.key l.number;
   wide : length l.rows.heads.items ≡ length l.fn.rows.heads.items;
 }

@@ -1,0 +1,84 @@
+-- The state of the search between its rounds (own).
+--     Stored entries offers o     some stored offer has the row
+--     HasExpanded                 the rows from a place on have brought what they bring
+--     IsWaiting far next s        the offer waits for that round or a later one
+--     IsBetween                   before a round
+--     IsPast                      past the most
+use Rattle.std.specs.Prelude.{◌≡◌, ◌<◌, ◌≤◌, ◌⊎◌, ℕ, suc, nat_lt, Bool, true, false, List, [], ◌++◌, map, length, slice_get, Some, Result, Ok, Err}
+use Rattle.hs_search.specs.Bringing.{Book}
+use Rattle.hs_search.specs.Chains.{IsOnce, IsTooMany}
+use Rattle.hs_search.specs.Graphs.{FlowGraph, Has}
+use Rattle.hs_search.specs.Layout.{Grows, IsLaidOut, IsPlaced}
+use Rattle.hs_search.specs.Rounds.{Row, AllBrought, Built, Closed, IsClosing, IsReady, Known}
+use Rattle.hs_search.specs.Storing.{IsFull, IsListed, Taking, row_of, rows_of}
+use Rattle.hs_search.specs.declared.graph.Node.{Node}
+use Rattle.hs_search.specs.declared.lists.Item.{Item}
+use Rattle.hs_search.specs.declared.reach.Reach.{Reach}
+use Rattle.hs_search.specs.declared.reach.SearchEnd.{SearchEnd}
+use Rattle.hs_search.specs.declared.reach.SearchEnd.TheVariants.{Limit, NoMemory}
+
+abbrev pub Stored : List (Item ℕ) → (Reach → Type 0) → Row → Type 0
+Stored entries Offers o = (s : Reach) × Offers s × (row_of entries s ≡ o)
+
+pub record HasExpanded (graph : FlowGraph) (rows : List (Item Reach)) (first count : ℕ) (old new : Book) (near jumps : List Reach) : Type 0 where
+  pub laid_out : IsLaidOut graph rows new count
+  pub grows : Grows old.entries new.entries
+  pub placed : (s : Reach) → Has (near ++ jumps) s → IsPlaced graph new.entries s
+  pub all : AllBrought graph (rows_of new.entries rows) first count (Stored new.entries (Has (near ++ jumps)))
+  pub long : (s : Reach) → Has near s → (n : ℕ) × (it : Item Reach) × (first ≤ n) × (slice_get rows n ≡ Some it) × (s.length ≡ suc it.value.length)
+
+-- ---- offers that are taken
+
+pub record IsTakenAll (room most : ℕ) (Offers : Reach → Type 0) (old new : List (Item Reach)) : Type 0 where
+  pub taken : List Reach
+  pub taking : Taking room most taken old new
+  pub each : (s : Reach) → Has taken s → Offers s
+  pub all : (s : Reach) → Offers s → Has taken s
+
+abbrev pub TakesAll : ℕ → ℕ → (Reach → Type 0) → List (Item Reach) → List (Item Reach) → Result (Unit {0}) SearchEnd → Type 0
+TakesAll room most Offers old new (Ok _) = IsTakenAll room most Offers old new
+TakesAll room most Offers old new (Err Limit) = IsFull room most Offers old
+TakesAll room most Offers old new (Err NoMemory) = Unit {0}
+
+-- those that wait: of the last round, or by their length
+abbrev pub Waits : List Reach → List (Item Reach) → ℕ → Reach → Type 0
+Waits near far key s = Has near s ⊎ IsListed far key s
+
+-- ---- before a round
+
+-- by which length an offer waits
+abbrev pub key_if : Bool → ℕ → ℕ → ℕ
+key_if true most length = suc most
+key_if false most length = length
+
+abbrev pub key_of : ℕ → ℕ → ℕ
+key_of most length = key_if (nat_lt most length) most length
+
+pub record IsWaiting (far : List (Item Reach)) (next : ℕ) (s : Reach) : Type 0 where
+  pub n : ℕ
+  pub it : Item Reach
+  pub there : slice_get far n ≡ Some it
+  pub later : next ≤ it.key
+  pub value : it.value ≡ s
+
+pub record IsFar (graph : FlowGraph) (most latest : ℕ) (entries : List (Item ℕ)) (it : Item Reach) : Type 0 where
+  pub placed : IsPlaced graph entries it.value
+  pub key : it.key ≡ key_of most it.value.length
+  pub latest : it.key ≤ latest
+
+abbrev pub AreFar : FlowGraph → ℕ → ℕ → List (Item ℕ) → List (Item Reach) → Type 0
+AreFar graph most latest entries far = (n : ℕ) (it : Item Reach) → slice_get far n ≡ Some it → IsFar graph most latest entries it
+
+-- the nodes of rows
+abbrev pub nodes_in : List Row → List Node
+nodes_in rows = map (λ r. r.node) rows
+
+pub record IsBetween (graph : FlowGraph) (room most next latest : ℕ) (rows : List (Item Reach)) (book : Book) (near : List Reach) (far : List (Item Reach))
+    : Type 0 where
+  pub laid_out : IsLaidOut graph rows book (length rows)
+  pub near_placed : (s : Reach) → Has near s → IsPlaced graph book.entries s
+  pub near_long : (s : Reach) → Has near s → s.length ≡ next
+  pub far : AreFar graph most latest book.entries far
+  pub ready : IsReady graph next (rows_of book.entries rows) (Stored book.entries (λ s. Has near s ⊎ IsWaiting far next s))
+  pub once : IsOnce (nodes_in (rows_of book.entries rows))
+  pub fits : length rows ≤ room
