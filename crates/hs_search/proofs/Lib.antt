@@ -8,5 +8,8 @@ mod Gathering
 mod Listing
 mod Membership
 mod Nodes
+mod Passing
+mod PuttingOff
 mod Rounding
 mod Storing
+mod Taking

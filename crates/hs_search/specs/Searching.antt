@@ -61,13 +61,24 @@ pub record IsWaiting (far : List (Item Reach)) (next : ℕ) (s : Reach) : Type 0
   pub later : next ≤ it.key
   pub value : it.value ≡ s
 
-pub record IsFar (graph : FlowGraph) (most latest : ℕ) (entries : List (Item ℕ)) (it : Item Reach) : Type 0 where
+pub record IsFarItem (graph : FlowGraph) (most latest : ℕ) (entries : List (Item ℕ)) (it : Item Reach) : Type 0 where
   pub placed : IsPlaced graph entries it.value
   pub key : it.key ≡ key_of most it.value.length
-  pub latest : it.key ≤ latest
+  pub below : it.key ≤ latest
 
 abbrev pub AreFar : FlowGraph → ℕ → ℕ → List (Item ℕ) → List (Item Reach) → Type 0
-AreFar graph most latest entries far = (n : ℕ) (it : Item Reach) → slice_get far n ≡ Some it → IsFar graph most latest entries it
+AreFar graph most latest entries far = (n : ℕ) (it : Item Reach) → slice_get far n ≡ Some it → IsFarItem graph most latest entries it
+
+-- jumps were listed by their lengths
+pub record IsPutOff (most : ℕ) (jumps : List Reach) (old new : List (Item Reach)) : Type 0 where
+  pub kept : (n : ℕ) (it : Item Reach) → slice_get old n ≡ Some it → slice_get new n ≡ Some it
+  pub each : (n : ℕ) (it : Item Reach) → slice_get new n ≡ Some it
+      → (slice_get old n ≡ Some it) ⊎ (Has jumps it.value × (it.key ≡ key_of most it.value.length))
+  pub all : (s : Reach) → Has jumps s → (n : ℕ) × (it : Item Reach) × (slice_get new n ≡ Some it) × (it.value ≡ s) × (it.key ≡ key_of most s.length)
+
+-- no key of theirs is past that one
+abbrev pub AreBelow : ℕ → List (Item Reach) → Type 0
+AreBelow latest far = (n : ℕ) (it : Item Reach) → slice_get far n ≡ Some it → it.key ≤ latest
 
 -- the nodes of rows
 abbrev pub nodes_in : List Row → List Node
@@ -78,7 +89,32 @@ pub record IsBetween (graph : FlowGraph) (room most next latest : ℕ) (rows : L
   pub laid_out : IsLaidOut graph rows book (length rows)
   pub near_placed : (s : Reach) → Has near s → IsPlaced graph book.entries s
   pub near_long : (s : Reach) → Has near s → s.length ≡ next
-  pub far : AreFar graph most latest book.entries far
+  pub far_right : AreFar graph most latest book.entries far
+  pub short : (r : Row) → Has (rows_of book.entries rows) r → r.length < next
   pub ready : IsReady graph next (rows_of book.entries rows) (Stored book.entries (λ s. Has near s ⊎ IsWaiting far next s))
   pub once : IsOnce (nodes_in (rows_of book.entries rows))
   pub fits : length rows ≤ room
+
+-- ---- past the most
+
+pub record IsPast (graph : FlowGraph) (room most : ℕ) (base : List Row) (rows : List (Item Reach)) (book : Book) (Offers : Reach → Type 0) : Type 0 where
+  -- the rows with lengths
+  pub built : Built graph base
+  pub closed : Closed graph most base
+  pub short : (r : Row) → Has base r → r.length ≤ most
+  -- and those behind them
+  pub past : List Row
+  pub split : rows_of book.entries rows ≡ base ++ past
+  pub long : (r : Row) → Has past r → (r.length ≡ suc most) × (r.level ≡ suc most) × ¬ (Known base r.node)
+  pub laid_out : IsLaidOut graph rows book (length rows)
+  pub placed : (s : Reach) → Offers s → IsPlaced graph book.entries s
+  pub later : (s : Reach) → Offers s → most < s.length
+  pub closing : IsClosing graph (length rows) (rows_of book.entries rows) (Stored book.entries Offers)
+  pub once : IsOnce (nodes_in (rows_of book.entries rows))
+  pub fits : length rows ≤ room
+
+-- what a step of the search comes to
+abbrev pub Goes : FlowGraph → ℕ → Type 0 → Result (Unit {0}) SearchEnd → Type 0
+Goes graph room Done (Ok _) = Done
+Goes graph room Done (Err Limit) = IsTooMany graph room
+Goes graph room Done (Err NoMemory) = Unit {0}

@@ -7,6 +7,7 @@ mod graph;
 mod lists;
 mod offering;
 mod reach;
+mod searching;
 
 pub use found::Pair;
 pub use graph::{Graph, Node};
