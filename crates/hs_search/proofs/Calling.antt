@@ -1,8 +1,8 @@
 -- Calls get numbers, and what was said of the others stays.
-use Rattle.std.proofs.Common.{◌≡◌, ◌<◌, ◌≤◌, ℕ, suc, List, [], ◌∷◌, ◌++◌, inl, inr, ◌⊎◌, refl, ap, sym, ◌∙◌, Option, Some, None, subst, arith, length, slice_get, append-nil}
-use Rattle.hs_search.proofs.Listing.{some_is, get_within, get_there, get_left, get_end, get_either}
+use Rattle.std.proofs.Common.{◌≡◌, ◌<◌, ◌≤◌, ℕ, List, [], ◌∷◌, ◌++◌, inl, inr, ◌⊎◌, refl, ap, sym, ◌∙◌, Option, Some, None, subst, arith, length, slice_get, append-nil}
+use Rattle.hs_search.proofs.Listing.{get_within, get_there, get_left, get_end, get_either}
 use Rattle.hs_search.proofs.Nodes.{node_is}
-use Rattle.hs_search.specs.Calling.{HasCall, IsCall, IsNumbered}
+use Rattle.hs_search.specs.Calling.{IsNumbered}
 use Rattle.hs_search.specs.Graphs.{FlowGraph, IsFramed}
 use Rattle.hs_search.specs.Layout.{Grows, IsCalls, IsPlaced}
 use Rattle.hs_search.specs.Storing.{call_at, call_in, node_of}

@@ -1,9 +1,9 @@
 -- Past the most: what is left of the search is a plain closure.
-use Rattle.std.proofs.Common.{◌≡◌, ◌<◌, ◌≤◌, ◌+◌, ℕ, zero, suc, List, [], ◌∷◌, ◌++◌, inl, inr, ◌⊎◌, refl, ap, sym, ◌∙◌, Some, subst, arith, take, length, slice_get}
+use Rattle.std.proofs.Common.{◌≡◌, ◌≤◌, ◌+◌, ℕ, suc, List, ◌++◌, inl, inr, ◌⊎◌, refl, ap, sym, ◌∙◌, Some, subst, arith, length}
 use Rattle.hs_search.proofs.Chaining.{tabulated_from_chain, chain_from_tabulated, level_entry, depth_entry}
-use Rattle.hs_search.proofs.Exactness.{all_right, IsRight}
-use Rattle.hs_search.proofs.Membership.{Has-left, Has-right, Has-either, Has-last}
-use Rattle.hs_search.proofs.Rounding.{take_all, take_Has, get_Has, take_front_of, Known-more, Candidate-more, AllBrought-complete}
+use Rattle.hs_search.proofs.Exactness.{all_right}
+use Rattle.hs_search.proofs.Membership.{Has-either}
+use Rattle.hs_search.proofs.Rounding.{take_all, get_Has, take_front_of, Known-more, AllBrought-complete}
 use Rattle.hs_search.specs.Chains.{IsReached}
 use Rattle.hs_search.specs.Graphs.{FlowGraph, Has, IsFramed}
 use Rattle.hs_search.specs.Levels.{Level, here, on, call, Depth, main, entered}

@@ -1,5 +1,5 @@
 -- Rows that are built by taking the shortest candidates have the lengths of shortest chains (after Dijkstra and Knuth).
-use Rattle.std.proofs.Common.{◌≡◌, ◌<◌, ◌≤◌, ℕ, suc, ◌+◌, List, [], ◌∷◌, ◌++◌, inl, inr, ◌⊎◌, refl, ap, sym, ◌∙◌, Some, subst, arith}
+use Rattle.std.proofs.Common.{◌≡◌, ◌<◌, ◌≤◌, ℕ, suc, ◌+◌, List, [], ◌∷◌, inl, inr, ◌⊎◌, refl, ap, sym, ◌∙◌, Some, subst, arith}
 use Rattle.hs_search.proofs.Chaining.{tabulated_from_chain, chain_from_tabulated, level_entry, depth_entry}
 use Rattle.hs_search.proofs.Membership.{Has-either}
 use Rattle.hs_search.proofs.Nodes.{node_or}

@@ -1,10 +1,10 @@
 -- A row is expanded: what it brings is offered, and it is listed as a caller or an end.
-use Rattle.std.proofs.Common.{◌≡◌, ◌<◌, ◌≤◌, ℕ, zero, suc, Bool, true, false, List, [], ◌∷◌, ◌++◌, inl, inr, ◌⊎◌, refl, ap, sym, ◌∙◌, Option, Some, None, subst, arith, length, slice_get, take, map, append_assoc, append-nil, Result, Ok, Err, OnOk}
+use Rattle.std.proofs.Common.{◌≡◌, ◌<◌, ℕ, zero, suc, Bool, true, false, List, [], ◌∷◌, ◌++◌, inl, inr, ◌⊎◌, refl, ap, sym, ◌∙◌, Option, Some, None, subst, arith, length, slice_get, take, map, append_assoc, append-nil, Result, Ok, Err, OnOk}
 use Rattle.std.proofs.lemmas.Bool.{cases_order}
 use Rattle.hs_search.proofs.Calling.{call_kept, node_kept, grows_none, grows_long, placed_kept, node_made, placed_made, numbered_right, IsNumberedRight}
 use Rattle.hs_search.proofs.Listing.{some_is, get_within, get_left, get_end, get_either}
 use Rattle.hs_search.proofs.Membership.{Has-left, Has-right, Has-either, Has-map, map-Has}
-use Rattle.hs_search.specs.Bringing.{AreFit, AreRows, Book, CallOffered, EndOffered, Gathers, IsEnding, IsEntering, MakesCaller, MakesEnd, item_of, step_back, step_in, step_on}
+use Rattle.hs_search.specs.Bringing.{AreFit, AreRows, Book, CallOffered, EndOffered, IsEntering, item_of, step_back, step_in, step_on}
 use Rattle.hs_search.specs.Graphs.{FlowGraph, Has, IsFramed}
 use Rattle.hs_search.specs.Layout.{Grows, IsCaller, IsCalls, IsEnd, IsExpanded, IsItem, IsLaidOut, IsPlaced}
 use Rattle.hs_search.specs.Rounds.{Row, BroughtBy, by_step, by_call, as_caller, as_end, entered_by, returned, stepped}
@@ -171,8 +171,11 @@ one_entered graph framed rows number it old mid near near' jumps jumps' there la
   placed = λ s has. placed s has;
   long = λ s has. long s has;
   from = λ s has. from s has;
-  by_call = λ b' enter'. (step_in it.value entering.call b, inl refl,
-      made_call.1 ∙ ap (entered_by (row_of mid.entries it.value)) (some_is (sym enters_now ∙ enter')));
+  by_call = λ b' enter'. (
+    step_in it.value entering.call b,
+    inl refl,
+    made_call.1 ∙ ap (entered_by (row_of mid.entries it.value)) (some_is (sym enters_now ∙ enter')),
+  );
   as_caller = λ k e y below at enter' leave. as_caller_of k e y below at enter' leave;
 }
   where
@@ -610,9 +613,13 @@ expanded graph framed rows number it node old mid new near near_on near' jumps j
             let has = after.callers k c (graph.entry (node_of mid.entries it.value)) below at enter in
             let key_is : has.it.key ≡ it.value.call =
             after.calls.once has.it.key it.value.call has.key.0 placed_now.known (has.key.1 ∙ placed_now.entry) in
-            ending.returns.all has.n has.it (step_back c.value it.value y) has.there key_is
-            (c, y, subst (λ j. slice_get rows j ≡ Some c) (sym has.value) at,
-            ap (graph.leaves (node_of mid.entries c.value)) (sym node_now) ∙ leave, refl)
+            ending.returns.all has.n has.it (step_back c.value it.value y) has.there key_is (
+              c,
+              y,
+              subst (λ j. slice_get rows j ≡ Some c) (sym has.value) at,
+              ap (graph.leaves (node_of mid.entries c.value)) (sym node_now) ∙ leave,
+              refl,
+            )
 
 -- ---- what is asked of the calls
 

@@ -1,5 +1,5 @@
 -- Rows are expanded, one after the other.
-use Rattle.std.proofs.Common.{◌≡◌, ◌<◌, ◌≤◌, ℕ, suc, List, [], ◌∷◌, ◌++◌, inl, inr, ◌⊎◌, refl, ap, sym, ◌∙◌, Some, subst, arith, length, slice_get, take, map, append_assoc, zero}
+use Rattle.std.proofs.Common.{◌≡◌, ◌<◌, ◌≤◌, ℕ, suc, List, [], ◌∷◌, ◌++◌, inl, inr, ◌⊎◌, refl, ap, sym, ◌∙◌, Some, subst, length, slice_get, take, append_assoc, zero}
 use Rattle.hs_search.proofs.Listing.{some_is}
 use Rattle.hs_search.proofs.Calling.{grows_none, node_kept, placed_kept}
 use Rattle.hs_search.proofs.Membership.{Has-left, Has-right, Has-either}
@@ -9,12 +9,12 @@ use Rattle.hs_search.specs.Graphs.{FlowGraph, Has}
 use Rattle.hs_search.specs.Layout.{Grows, IsExpanded, IsLaidOut, IsPlaced}
 use Rattle.hs_search.specs.Rounds.{Row, AllBrought, BroughtBy}
 use Rattle.hs_search.specs.Searching.{HasExpanded, Stored}
-use Rattle.hs_search.specs.Storing.{node_of, row_of, rows_of}
+use Rattle.hs_search.specs.Storing.{row_of, rows_of}
 use Rattle.hs_search.specs.declared.graph.Node.{Node}
 use Rattle.hs_search.specs.declared.lists.Item.{Item}
 use Rattle.hs_search.specs.declared.reach.Reach.{Reach}
 
-abbrev row_with : Node → ℕ → ℕ → Row
+abbrev pub row_with : Node → ℕ → ℕ → Row
 row_with node length level = record { node = node; length = length; level = level }
 
 -- rows stay, when calls are added

@@ -1,3 +1,4 @@
+mod Beginning
 mod Calling
 mod Chaining
 mod Closing
@@ -9,6 +10,7 @@ mod Listing
 mod Membership
 mod Nodes
 mod Passing
+mod Past
 mod PuttingOff
 mod Rounding
 mod Storing

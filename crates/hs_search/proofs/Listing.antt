@@ -1,5 +1,5 @@
 -- The index with one item more, and a walk over the items of a key.
-use Rattle.std.proofs.Common.{◌≡◌, ◌<◌, ◌≤◌, ◌-◌, ℕ, zero, suc, ◌+◌, ◌==◌, List, [], ◌∷◌, ◌++◌, length, take, slice_index_or, slice_get, Some, slice_set, inl, inr, ◌⊎◌, refl, ap, sym, ◌∙◌, subst, arith, Bool, true, false, if◌then◌else◌}
+use Rattle.std.proofs.Common.{◌≡◌, ◌<◌, ◌≤◌, ◌-◌, ℕ, zero, suc, ◌==◌, List, [], ◌∷◌, ◌++◌, length, take, slice_index_or, slice_get, Some, slice_set, inl, inr, ◌⊎◌, refl, ap, sym, ◌∙◌, subst, arith, Bool, true, false, if◌then◌else◌}
 use Rattle.std.proofs.lemmas.Bool.Decides.{nat_tests}
 use Rattle.std.proofs.lemmas.Bool.{cases_order}
 use Rattle.hs_search.specs.Listing.{IsIndex, IsWalk, Seen, last_in, or_first}

@@ -1,5 +1,5 @@
 -- What is in a list.
-use Rattle.std.proofs.Common.{◌≡◌, List, [], ◌∷◌, ◌++◌, inl, inr, ◌⊎◌, refl, ap, sym, ◌∙◌, map, ℕ, zero, suc, ◌+◌, ◌<◌, length, arith}
+use Rattle.std.proofs.Common.{◌≡◌, List, [], ◌∷◌, ◌++◌, inl, inr, ◌⊎◌, refl, ap, map, ℕ, zero, suc, ◌<◌, length, arith}
 use Rattle.std.specs.List.{slice_index_or}
 use Rattle.hs_search.specs.Graphs.{Has}
 

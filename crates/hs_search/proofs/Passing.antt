@@ -1,21 +1,20 @@
 -- A round of the search, and a pass past the most.
-use Rattle.std.proofs.Common.{◌≡◌, ◌<◌, ◌≤◌, ℕ, suc, List, [], ◌∷◌, ◌++◌, inl, inr, ◌⊎◌, refl, ap, sym, ◌∙◌, Some, subst, arith, length, slice_get, map, append-nil, take, true}
+use Rattle.std.proofs.Common.{◌≡◌, ◌<◌, ◌≤◌, ℕ, suc, List, [], ◌∷◌, ◌++◌, inl, inr, ◌⊎◌, refl, ap, sym, ◌∙◌, Some, subst, arith, length, slice_get, map, true}
 use Rattle.std.proofs.lemmas.Bool.{cases_order}
 use Rattle.hs_search.proofs.Calling.{placed_kept}
-use Rattle.hs_search.proofs.Closing.{built_within, candidate_within, closing_brought, closing_first, closing_taken}
+use Rattle.hs_search.proofs.Closing.{built_within, candidate_within}
 use Rattle.hs_search.proofs.Expansions.{row_kept, rows_at, rows_kept}
 use Rattle.hs_search.proofs.Membership.{Has-left, Has-right, Has-either}
 use Rattle.hs_search.proofs.PuttingOff.{key_or}
-use Rattle.hs_search.proofs.Rounding.{behind, get_Has, ready_closed, ready_next, ready_same}
-use Rattle.hs_search.proofs.Taking.{IsGrown, capped_node, grown, past_or, rows_more, too_many}
+use Rattle.hs_search.proofs.Rounding.{behind, ready_next, ready_same}
+use Rattle.hs_search.proofs.Taking.{IsGrown, grown, past_or, rows_more, too_many}
 use Rattle.hs_search.specs.Bringing.{Book}
 use Rattle.hs_search.specs.Chains.{IsOnce, IsTooMany}
 use Rattle.hs_search.specs.Graphs.{FlowGraph, Has, IsFramed}
-use Rattle.hs_search.specs.Layout.{Grows, IsLaidOut, IsPlaced}
-use Rattle.hs_search.specs.Rounds.{Row, AllBrought, BroughtBy, by_step, by_call, as_caller, as_end, Built, Closed, IsClosing, IsReady, IsTaken, IsWithin, Known}
-use Rattle.hs_search.specs.Searching.{AreBelow, AreFar, HasExpanded, IsBetween, IsFarItem, IsPast, IsPutOff, IsTakenAll, IsWaiting, Stored, Waits, key_of, nodes_in}
-use Rattle.hs_search.specs.Storing.{IsFull, IsListed, capped, capped_if, node_of, row_of, rows_of}
-use Rattle.hs_search.specs.declared.graph.Node.{Node}
+use Rattle.hs_search.specs.Layout.{IsPlaced}
+use Rattle.hs_search.specs.Rounds.{Row, AllBrought, IsReady, IsTaken, IsWithin, Known}
+use Rattle.hs_search.specs.Searching.{AreBelow, HasExpanded, IsBetween, IsFarItem, IsPutOff, IsTakenAll, IsWaiting, Stored, Waits, key_of, nodes_in}
+use Rattle.hs_search.specs.Storing.{IsFull, capped, capped_if, node_of, row_of, rows_of}
 use Rattle.hs_search.specs.declared.lists.Item.{Item}
 use Rattle.hs_search.specs.declared.reach.Reach.{Reach}
 
@@ -31,7 +30,6 @@ rows_long entries rows = map_long (λ (it : Item Reach). row_of entries it.value
 module _ (graph : FlowGraph) (framed : IsFramed graph) (room most next latest latest' : ℕ) (old mid : List (Item Reach)) (book book' : Book)
     (near near' jumps : List Reach) (far far' : List (Item Reach)) (short : most ≤ 1000000) (in_most : next ≤ most)
     (between : IsBetween graph room most next latest old book near far) (taken : IsTakenAll room most (Waits near far next) old mid) where
-
   -- the offers before the round, and those that are left of them
   abbrev Offers : Row → Type 0
   Offers = Stored book.entries (λ s. Has near s ⊎ IsWaiting far next s)
@@ -116,13 +114,17 @@ module _ (graph : FlowGraph) (framed : IsFramed graph) (room most next latest la
 
   is_taken : IsTaken next (rows_of book.entries old) Offers (rows_of book.entries grows_to.layer) Left
   is_taken = record {
-    from = λ o its. (its.0, inr (record {
-      n = its.1.n;
-      it = its.1.it;
-      there = its.1.there;
-      later = (let later = its.1.later in omega arith);
-      value = its.1.value;
-    }), its.2);
+    from = λ o its. (
+      its.0,
+      inr (record {
+        n = its.1.n;
+        it = its.1.it;
+        there = its.1.there;
+        later = (let later = its.1.later in omega arith);
+        value = its.1.value;
+      }),
+      its.2,
+    );
     kept = kept_offer;
     each = layer_of;
     later = λ o its. subst (λ (r : Row). next < r.length) its.2 (left_long its.0 its.1);

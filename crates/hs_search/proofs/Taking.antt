@@ -1,18 +1,17 @@
 -- Offers that are taken: the rows grow, and each offer's node is known.
 use Rattle.std.proofs.Common.{◌≡◌, ◌<◌, ◌≤◌, ℕ, zero, suc, Bool, true, false, nat_lt, List, [], ◌∷◌, ◌++◌, inl, inr, ◌⊎◌, refl, ap, sym, ◌∙◌, Some, subst, arith, length, slice_get, map, append_assoc, append-nil, Ok, Err, Result}
 use Rattle.std.proofs.lemmas.Bool.Decides.{nat_tests}
-use Rattle.hs_search.proofs.Calling.{placed_kept}
 use Rattle.hs_search.proofs.Closing.{reached_within}
-use Rattle.hs_search.proofs.Listing.{some_is, get_within, get_left, get_either}
+use Rattle.hs_search.proofs.Listing.{some_is, get_left, get_either}
 use Rattle.hs_search.proofs.Membership.{Has-left, Has-right, Has-either, Has-last, Has-map, map-Has}
 use Rattle.hs_search.proofs.Nodes.{node_is}
 use Rattle.hs_search.specs.Bringing.{Book}
 use Rattle.hs_search.specs.Chains.{IsOnce, IsTooMany}
 use Rattle.hs_search.specs.Graphs.{FlowGraph, Has}
-use Rattle.hs_search.specs.Layout.{IsCalls, IsCaller, IsEnd, IsLaidOut, IsPlaced}
+use Rattle.hs_search.specs.Layout.{IsLaidOut, IsPlaced}
 use Rattle.hs_search.specs.Rounds.{Row, Known, IsWithin}
-use Rattle.hs_search.specs.Searching.{IsTakenAll, Stored, TakesAll, Waits, nodes_in}
-use Rattle.hs_search.specs.Storing.{HasRow, IsAdded, IsFull, IsListed, IsRowOf, TakesEach, TakesListed, Taking, none_taken, one_known, one_added, call_at, capped, capped_if, node_of, row_of, rows_of}
+use Rattle.hs_search.specs.Searching.{IsTakenAll, TakesAll, Waits, nodes_in}
+use Rattle.hs_search.specs.Storing.{HasRow, IsAdded, IsFull, IsListed, TakesEach, TakesListed, Taking, none_taken, one_known, one_added, call_at, capped, capped_if, node_of, row_of, rows_of}
 use Rattle.hs_search.specs.declared.graph.Node.{Node}
 use Rattle.hs_search.specs.declared.lists.Item.{Item}
 use Rattle.hs_search.specs.declared.reach.Reach.{Reach}
@@ -240,8 +239,12 @@ grown_added graph room most book count taken s old mid new short below placed gr
       ap (row_of book.entries) (sym added.value) ∙ is,
       λ known_one.
           let its : Known (rows_of book.entries old) (node_of book.entries added.it.value) = subst (λ (x : Row). Known (rows_of book.entries old) x.node) (sym is) known_one in
-          outside (its.0, subst (λ rs. Has rs its.0) (sym (ap (rows_of book.entries) grown.more ∙ rows_more book.entries old grown.layer))
-          (Has-left (rows_of book.entries old) (rows_of book.entries grown.layer) its.0 its.1), its.2),
+          outside (
+            its.0,
+            subst (λ rs. Has rs its.0) (sym (ap (rows_of book.entries) grown.more ∙ rows_more book.entries old grown.layer))
+                (Has-left (rows_of book.entries old) (rows_of book.entries grown.layer) its.0 its.1),
+            its.2,
+          ),
     )
     each r (inr (inr no_more)) = absurd no_more
 

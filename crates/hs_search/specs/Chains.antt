@@ -8,7 +8,7 @@
 --     IsFound graph most pairs  what the search finds
 --     IsTooMany graph room      chains reach more nodes than there is room for
 --     pairs_at at pairs         the pairs of an operation, in their order
-use Rattle.std.specs.Prelude.{◌≡◌, ◌≤◌, ◌<◌, ◌⊎◌, ℕ, suc, ◌==◌, Bool, List, [], ◌∷◌, Some, map, length, filter}
+use Rattle.std.specs.Prelude.{◌≡◌, ◌≤◌, ◌<◌, ◌⊎◌, ℕ, suc, ◌==◌, List, [], ◌∷◌, Some, map, length, filter}
 use Rattle.hs_search.specs.Graphs.{FlowGraph, Has}
 use Rattle.hs_search.specs.declared.found.Pair.{Pair}
 use Rattle.hs_search.specs.declared.graph.Node.{Node}

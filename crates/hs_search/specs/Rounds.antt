@@ -5,7 +5,7 @@
 --     IsNext graph rows row     a candidate of a node without a row, and no such candidate is shorter
 --     Built graph rows          rows that are made round by round
 --     Closed graph most rows    what is left is longer
-use Rattle.std.specs.Prelude.{◌≡◌, ◌<◌, ◌≤◌, ◌⊎◌, ℕ, suc, ◌+◌, List, [], ◌∷◌, ◌++◌, Some, take, slice_get}
+use Rattle.std.specs.Prelude.{◌≡◌, ◌<◌, ◌≤◌, ◌⊎◌, ℕ, suc, ◌+◌, List, [], ◌++◌, Some, take, slice_get}
 use Rattle.hs_search.specs.Graphs.{FlowGraph, Has}
 use Rattle.hs_search.specs.Levels.{Level, Depth}
 use Rattle.hs_search.specs.declared.graph.Node.{Node}

@@ -4,7 +4,7 @@
 --     IsWaiting far next s        the offer waits for that round or a later one
 --     IsBetween                   before a round
 --     IsPast                      past the most
-use Rattle.std.specs.Prelude.{◌≡◌, ◌<◌, ◌≤◌, ◌⊎◌, ℕ, suc, nat_lt, Bool, true, false, List, [], ◌++◌, map, length, slice_get, Some, Result, Ok, Err}
+use Rattle.std.specs.Prelude.{◌≡◌, ◌<◌, ◌≤◌, ◌⊎◌, ℕ, suc, nat_lt, Bool, true, false, List, ◌++◌, map, length, slice_get, Some, Result, Ok, Err}
 use Rattle.hs_search.specs.Bringing.{Book}
 use Rattle.hs_search.specs.Chains.{IsOnce, IsTooMany}
 use Rattle.hs_search.specs.Graphs.{FlowGraph, Has}
@@ -113,8 +113,12 @@ pub record IsPast (graph : FlowGraph) (room most : ℕ) (base : List Row) (rows 
   pub once : IsOnce (nodes_in (rows_of book.entries rows))
   pub fits : length rows ≤ room
 
+-- what an end of the search says
+abbrev pub Stops : FlowGraph → ℕ → SearchEnd → Type 0
+Stops graph room Limit = IsTooMany graph room
+Stops graph room NoMemory = Unit {0}
+
 -- what a step of the search comes to
 abbrev pub Goes : FlowGraph → ℕ → Type 0 → Result (Unit {0}) SearchEnd → Type 0
 Goes graph room Done (Ok _) = Done
-Goes graph room Done (Err Limit) = IsTooMany graph room
-Goes graph room Done (Err NoMemory) = Unit {0}
+Goes graph room Done (Err end) = Stops graph room end

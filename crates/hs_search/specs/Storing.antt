@@ -5,7 +5,7 @@
 --     IsRowOf items reach n     the stored row of that number has the node
 --     Takes                     what becomes of one offer, and of several
 use Rattle.std.specs.Prelude.{◌≡◌, ◌<◌, ◌≤◌, ◌⊎◌, ℕ, suc, nat_lt, Bool, true, false, List, [], ◌∷◌, ◌++◌, map, length, slice_get, Option, Some, None, Result, Ok, Err}
-use Rattle.hs_search.specs.Graphs.{FlowGraph, Has}
+use Rattle.hs_search.specs.Graphs.{Has}
 use Rattle.hs_search.specs.Rounds.{Row}
 use Rattle.hs_search.specs.declared.graph.Node.{Node}
 use Rattle.hs_search.specs.declared.lists.Item.{Item}
@@ -57,6 +57,10 @@ AllBelow count offers = (reach : Reach) → Has offers reach → reach.at < coun
 
 abbrev pub AllListedBelow : ℕ → List (Item Reach) → Type 0
 AllListedBelow count items = (n : ℕ) (it : Item Reach) → slice_get items n ≡ Some it → it.value.at < count
+
+-- the calls of rows have numbers
+abbrev pub AllKnown : ℕ → List (Item Reach) → Type 0
+AllKnown calls rows = (n : ℕ) (it : Item Reach) → slice_get rows n ≡ Some it → it.value.call < calls
 
 -- one row more
 pub record IsAdded (room most : ℕ) (reach : Reach) (old new : List (Item Reach)) : Type 0 where

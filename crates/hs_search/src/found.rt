@@ -1,6 +1,11 @@
-//! What a search finds.
+//! What a search finds, as it is stored.
+
+ghost use Rattle.std.specs.Prelude.{length};
+ghost use Rattle.hs_search.specs.Storing.{AllKnown};
 
 use crate::graph::Node;
+use crate::lists::Lists;
+use crate::reach::Reach;
 
 /// A node that chains reach, and the length of a shortest one.
 #[derive(Clone, Copy)]
@@ -9,4 +14,15 @@ pub struct Pair {
     pub node: Node,
     /// The entries of a shortest chain to it, or one more than the most that were asked for.
     pub length: u32,
+}
+
+/// What was found.
+#[derive(Drop)]
+pub struct Found {
+    /// The nodes, listed by operation.
+    pub(crate) rows: Lists<Reach>,
+    /// The fact with which each call was entered.
+    pub(crate) entries: Lists<u64>,
+    /// Each row's call has a number.
+    pub(crate) ghost known: { AllKnown (length entries.items.items) rows.items.items },
 }

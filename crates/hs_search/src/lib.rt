@@ -2,6 +2,7 @@
 #![tactic(auto)]
 
 mod calls;
+mod finding;
 mod found;
 mod graph;
 mod lists;
@@ -9,6 +10,7 @@ mod offering;
 mod reach;
 mod searching;
 
-pub use found::Pair;
+pub use finding::search;
+pub use found::{Found, Pair};
 pub use graph::{Graph, Node};
 pub use reach::SearchEnd;

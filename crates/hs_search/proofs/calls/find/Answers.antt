@@ -1,4 +1,4 @@
-use Rattle.std.proofs.Common.{rules, ◌-◌, ◌<◌, ◌≡◌, slice_get, Some}
+use Rattle.std.proofs.Common.{rules, ◌<◌, ◌≡◌}
 use Rattle.hs_search.proofs.Listing.{walk_first, walk_back}
 use Rattle.hs_search.proofs.calls.find.Goals as goal
 

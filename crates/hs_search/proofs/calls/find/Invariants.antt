@@ -1,4 +1,4 @@
-use Rattle.std.proofs.Common.{◌≡◌, ℕ}
+use Rattle.std.proofs.Common.{◌≡◌}
 use Rattle.hs_search.specs.Listing.{IsWalk, Seen}
 use Rattle.hs_search.proofs.calls.find.Given as goal
 

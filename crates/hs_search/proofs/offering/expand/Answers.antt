@@ -1,8 +1,8 @@
-use Rattle.std.proofs.Common.{rules, arith, ◌≡◌, ◌<◌, length, sym, ◌∙◌, subst, ap, slice_get, Some, refl}
+use Rattle.std.proofs.Common.{◌≡◌, sym, ◌∙◌, subst, refl}
 use Rattle.hs_search.proofs.Calling.{placed_kept}
-use Rattle.hs_search.proofs.Expanding.{AfterCall, OnOk-then, after_fit, after_rows, call_offered, ends_rows, expanded, fit_of}
+use Rattle.hs_search.proofs.Expanding.{OnOk-then, after_fit, after_rows, call_offered, ends_rows, expanded, fit_of}
 use Rattle.hs_search.proofs.Listing.{some_is}
-use Rattle.hs_search.specs.Bringing.{CallOffered, EndOffered, book_of}
+use Rattle.hs_search.specs.Bringing.{book_of}
 use Rattle.hs_search.specs.Layout.{IsExpanded}
 use Rattle.hs_search.specs.declared.lists.Item.{Item}
 use Rattle.hs_search.specs.declared.reach.Reach.{Reach}

@@ -1,4 +1,4 @@
-use Rattle.std.proofs.Common.{rules, arith, ◌≡◌, ◌<◌, ◌≤◌, length, refl, ◌∙◌, add-one, suc, subst, sym}
+use Rattle.std.proofs.Common.{rules, arith, ◌≡◌, ◌<◌, ◌≤◌, length, refl, ◌∙◌, add-one, suc, subst}
 use Rattle.hs_search.proofs.Expansions.{expanded_none, expanded_next}
 use Rattle.hs_search.proofs.Listing.{get_there}
 use Rattle.hs_search.specs.Bringing.{book_of}

@@ -1,4 +1,4 @@
-use Rattle.std.proofs.Common.{rules, ◌-◌, ◌<◌, [], refl}
+use Rattle.std.proofs.Common.{rules, ◌<◌, []}
 use Rattle.hs_search.proofs.Gathering.{gathers_first, gathers_caller, gathers_all}
 use Rattle.hs_search.proofs.Listing.{walk_first}
 use Rattle.hs_search.specs.Bringing.{MakesCaller}

@@ -1,4 +1,3 @@
-use Rattle.std.proofs.Common.{◌≡◌, ℕ}
 use Rattle.hs_search.specs.Listing.{IsWalk, Seen}
 use Rattle.hs_search.proofs.Storing.{IsOther}
 use Rattle.hs_search.proofs.reach.find.Given as goal

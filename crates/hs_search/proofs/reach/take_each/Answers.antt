@@ -1,7 +1,7 @@
-use Rattle.std.proofs.Common.{rules, ◌≡◌, ◌<◌, length, refl, take, ◌∙◌, subst, slice_index_or, Err}
+use Rattle.std.proofs.Common.{rules, ◌≡◌, ◌<◌, length, refl, take, ◌∙◌, Err}
 use Rattle.hs_search.proofs.Membership.{Has-index}
 use Rattle.hs_search.proofs.Storing.{each_full, take_Has, taking_next}
-use Rattle.hs_search.specs.Storing.{Taking, none_taken}
+use Rattle.hs_search.specs.Storing.{none_taken}
 use Rattle.hs_search.proofs.reach.take_each.Goals as goal
 
 pub loop-offer-init : goal.loop-offer-init

@@ -1,6 +1,6 @@
-use Rattle.std.proofs.Common.{rules, ◌≡◌, ◌<◌, ◌-◌, length, refl, ◌∙◌, Err, [], Some, slice_get}
+use Rattle.std.proofs.Common.{rules, ◌≡◌, ◌<◌, ◌-◌, refl, ◌∙◌, Err, []}
 use Rattle.hs_search.proofs.Listing.{walk_first, walk_own}
-use Rattle.hs_search.proofs.Storing.{taken_first, listed_full, listed_at, from_more, taken_all}
+use Rattle.hs_search.proofs.Storing.{taken_first, listed_full, listed_at, from_more}
 use Rattle.hs_search.specs.Graphs.{Has}
 use Rattle.hs_search.proofs.reach.take_listed.Goals as goal
 

@@ -1,7 +1,5 @@
-use Rattle.std.proofs.Common.{◌≡◌, length, List}
-use Rattle.hs_search.specs.Graphs.{Has}
-use Rattle.hs_search.specs.Listing.{IsWalk, Seen}
-use Rattle.hs_search.specs.Storing.{IsListed, Taking}
+use Rattle.std.proofs.Common.{◌≡◌, length}
+use Rattle.hs_search.specs.Listing.{IsWalk}
 use Rattle.hs_search.proofs.Storing.{IsTakenFrom}
 use Rattle.hs_search.proofs.reach.take_listed.Given as goal
 

@@ -1,6 +1,5 @@
-use Rattle.std.proofs.Common.{rules, arith, ◌≡◌, ◌<◌, length, refl, ◌∙◌, sym}
+use Rattle.std.proofs.Common.{rules, ◌<◌, length, refl, ◌∙◌}
 use Rattle.hs_search.proofs.PuttingOff.{below_more, put_next, put_none}
-use Rattle.hs_search.specs.Bringing.{item_of}
 use Rattle.hs_search.proofs.searching.put_off.Goals as goal
 
 pub loop-jump-init : goal.loop-jump-init

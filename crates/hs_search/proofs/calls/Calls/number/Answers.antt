@@ -1,4 +1,4 @@
-use Rattle.std.proofs.Common.{arith, ◌≤◌, ◌≡◌, length, suc}
+use Rattle.std.proofs.Common.{arith}
 use Rattle.hs_search.proofs.calls.Calls.number.Goals as goal
 
 pub invariant_of-self : goal.invariant_of-self

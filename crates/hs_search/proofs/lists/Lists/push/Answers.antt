@@ -1,4 +1,4 @@
-use Rattle.std.proofs.Common.{rules, ◌≡◌, ◌<◌, ◌^◌, ◌++◌, ◌∷◌, [], length, suc, ap, slice_set, arith}
+use Rattle.std.proofs.Common.{rules, ◌≡◌, length, suc, ap, slice_set}
 use Rattle.hs_search.proofs.Listing.{IsIndex-push}
 use Rattle.hs_search.proofs.lists.Lists.push.Goals as goal
 

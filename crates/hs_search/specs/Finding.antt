@@ -1,0 +1,18 @@
+-- What is found, as it is stored (own).
+--     pair_of, pairs_of         the pair of a stored row, and all of them
+use Rattle.std.specs.Prelude.{ℕ, List, map}
+use Rattle.hs_search.specs.Storing.{node_of}
+use Rattle.hs_search.specs.declared.found.Found.{Found}
+use Rattle.hs_search.specs.declared.found.Pair.{Pair}
+use Rattle.hs_search.specs.declared.lists.Item.{Item}
+use Rattle.hs_search.specs.declared.reach.Reach.{Reach}
+
+abbrev pub pair_of : List (Item ℕ) → Item Reach → Pair
+pair_of entries it = record { node = node_of entries it.value; length = it.value.length }
+
+abbrev pub pairs_in : List (Item ℕ) → List (Item Reach) → List Pair
+pairs_in entries rows = map (pair_of entries) rows
+
+-- all pairs, in the order in which they were found
+abbrev pub pairs_of : Found → List Pair
+pairs_of found = pairs_in found.entries.items.items found.rows.items.items
