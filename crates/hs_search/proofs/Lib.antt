@@ -13,5 +13,6 @@ mod Passing
 mod Past
 mod PuttingOff
 mod Rounding
+mod Parts
 mod Storing
 mod Taking

@@ -1,6 +1,7 @@
 -- What is found, as it is stored (own).
 --     pair_of, pairs_of         the pair of a stored row, and all of them
-use Rattle.std.specs.Prelude.{ℕ, List, map}
+--     operations_of             how many operations there are
+use Rattle.std.specs.Prelude.{ℕ, List, length, map}
 use Rattle.hs_search.specs.Storing.{node_of}
 use Rattle.hs_search.specs.declared.found.Found.{Found}
 use Rattle.hs_search.specs.declared.found.Pair.{Pair}
@@ -12,6 +13,10 @@ pair_of entries it = record { node = node_of entries it.value; length = it.value
 
 abbrev pub pairs_in : List (Item ℕ) → List (Item Reach) → List Pair
 pairs_in entries rows = map (pair_of entries) rows
+
+-- how many operations there are
+abbrev pub operations_of : Found → ℕ
+operations_of found = length found.rows.heads.items
 
 -- all pairs, in the order in which they were found
 abbrev pub pairs_of : Found → List Pair

@@ -8,5 +8,6 @@ pub mod Levels
 pub mod Listing
 pub mod Rounds
 pub mod Searching
+pub mod Sorting
 pub mod States
 pub mod Storing

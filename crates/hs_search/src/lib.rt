@@ -9,6 +9,7 @@ mod lists;
 mod offering;
 mod reach;
 mod searching;
+mod sorting;
 
 pub use finding::search;
 pub use found::{Found, Pair};
