@@ -13,6 +13,7 @@ mod Passing
 mod Past
 mod PuttingOff
 mod Rounding
+mod Rows
 mod Parts
 mod Storing
 mod Taking
