@@ -55,7 +55,8 @@ begun graph framed room most call latest entries none is_none numbered = record 
     no_calls = record { own = λ n within. absurd (omega arith); once = λ n m within others same. absurd (omega arith) }
 
     right : IsNumberedRight graph graph.start call [] entries
-    right = numbered_right graph framed graph.start call [] entries framed.at_start no_calls (subst (λ es. IsNumbered graph.start call es entries) is_none numbered)
+    right = numbered_right graph framed graph.start call [] entries framed.at_start no_calls (subst
+        (λ es. IsNumbered graph.start call es entries) is_none numbered)
 
     begins : graph.entry graph.start ≡ call_at entries call
     begins = framed.at_start ∙ sym right.begins
@@ -80,7 +81,8 @@ begun graph framed room most call latest entries none is_none numbered = record 
     back o s (inr waiting) row = absurd (let there = waiting.there in cc)
 
 -- as the code has it
-pub begun_as : (graph : FlowGraph) → IsFramed graph → (room most call latest : ℕ) (start : Node) (rows far : List (Item Reach)) (near old : List Reach) (book : Book)
+pub begun_as : (graph : FlowGraph) → IsFramed graph
+    → (room most call latest : ℕ) (start : Node) (rows far : List (Item Reach)) (near old : List Reach) (book : Book)
     (none : List (Item ℕ)) → start ≡ graph.start → rows ≡ [] → far ≡ [] → book.callers ≡ [] → book.ends ≡ [] → none ≡ [] → old ≡ []
     → near ≡ old ++ (record { fact = start.fact; at = start.at; call = call; length = 1; level = 0 }) ∷ [] → IsNumbered start call none book.entries
     → IsBetween graph room most 1 latest rows book near far
@@ -103,7 +105,8 @@ begun_as graph framed room most call latest start rows far near old book none st
 
 -- ---- offers that are taken
 
-pub far_below : (graph : FlowGraph) (room most next latest : ℕ) (rows : List (Item Reach)) (book : Book) (near : List Reach) (far : List (Item Reach)) (width : ℕ)
+pub far_below : (graph : FlowGraph) (room most next latest : ℕ) (rows : List (Item Reach)) (book : Book) (near : List Reach) (far : List (Item Reach))
+    (width : ℕ)
     → width ≡ graph.count → IsBetween graph room most next latest rows book near far → AllListedBelow width far
 far_below graph room most next latest rows book near far width is between n it there =
     subst (λ w. it.value.at < w) (sym is) (between.far_right n it there).placed.within
@@ -119,7 +122,8 @@ laid_taken graph room most Offers old mid book short laid placed taken =
     longer layer [] = omega arith
     longer layer (x ∷ xs) = let rest = longer layer xs in omega arith
 
-pub waits_placed : (graph : FlowGraph) (room most next latest : ℕ) (rows : List (Item Reach)) (book : Book) (near : List Reach) (far : List (Item Reach)) (key : ℕ)
+pub waits_placed : (graph : FlowGraph) (room most next latest : ℕ) (rows : List (Item Reach)) (book : Book) (near : List Reach) (far : List (Item Reach))
+    (key : ℕ)
     → IsBetween graph room most next latest rows book near far → (s : Reach) → Waits near far key s → IsPlaced graph book.entries s
 waits_placed graph room most next latest rows book near far key between s (inl has) = between.near_placed s has
 waits_placed graph room most next latest rows book near far key between s (inr listed) =

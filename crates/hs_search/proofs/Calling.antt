@@ -86,7 +86,8 @@ numbered_right graph framed b n old new own calls (inl same) =
       begins = begins;
     })
 numbered_right graph framed b n old new own calls (inr added) =
-    subst (λ es. IsNumberedRight graph b n old es) (sym added.more) (subst (λ k. IsNumberedRight graph b k old (old ++ added.it ∷ [])) (sym added.last) (record {
+    subst (λ es. IsNumberedRight graph b n old es) (sym added.more) (subst (λ k. IsNumberedRight graph b k old (old ++ added.it ∷ [])) (sym added.last)
+    (record {
       grows = grown;
       calls = record {
         own = λ k within. owns k within (get_there (old ++ added.it ∷ []) k within);

@@ -170,7 +170,8 @@ owned graph framed rows right _ (leaves c e y at_call at_end enter leave) =
       its.d,
       subst (Depth graph its.d) (sym own) its.depth,
       subst (λ it. Level graph it (suc (suc (c.level + e.level))) y) (sym own)
-          (call (graph.entry c.node) c.node (graph.entry e.node) e.node y c.level e.level (suc (suc (c.level + e.level))) its.level enter last.level leave refl),
+          (call (graph.entry c.node) c.node (graph.entry e.node) e.node y c.level e.level (suc (suc
+          (c.level + e.level))) its.level enter last.level leave refl),
       (let sum = its.sum in omega arith),
     )
 

@@ -60,7 +60,8 @@ expanded_next graph rows first count it old mid new near near' jumps jumps' orde
   grows = grows_then old.entries mid.entries new.entries before.grows step.grows;
   placed = λ s has. placed s (parts s has);
   all = AllBrought-next graph (rows_of new.entries rows) first count (row_of new.entries it.value) (Stored new.entries (Has (near ++ jumps)))
-      (Stored new.entries (Has (near' ++ jumps'))) order (subst (λ rs. AllBrought graph rs first count (Stored new.entries (Has (near ++ jumps)))) (sym same_rows)
+      (Stored new.entries (Has (near' ++ jumps'))) order (subst (λ rs. AllBrought graph rs first count (Stored new.entries (Has (near ++ jumps))))
+      (sym same_rows)
       (kept_all before.all)) (rows_at new.entries rows count it there) (λ o its. (its.0, wider its.0 its.1, its.2))
       (λ o its. from o its (parts its.0 its.1)) (λ o by. let its = step.brought o by in (its.0, newer its.0 its.1, its.2));
   long = λ s has. long s (Has-either near step.steps s (subst (λ ns. Has ns s) step.near_is has));
@@ -102,7 +103,8 @@ expanded_next graph rows first count it old mid new near near' jumps jumps' orde
     placed s (inl has) = placed_kept graph mid.entries new.entries step.grows s (before.placed s has)
     placed s (inr has) = step.placed s has
 
-    long : (s : Reach) → Has near s ⊎ Has step.steps s → (n : ℕ) × (its : Item Reach) × (first ≤ n) × (slice_get rows n ≡ Some its) × (s.length ≡ suc its.value.length)
+    long : (s : Reach) → Has near s ⊎ Has step.steps s
+        → (n : ℕ) × (its : Item Reach) × (first ≤ n) × (slice_get rows n ≡ Some its) × (s.length ≡ suc its.value.length)
     long s (inl has) = before.long s has
     long s (inr has) = (count, it, order, there, step.long s has)
 

@@ -149,7 +149,8 @@ module _ {T : Type 0} where
   pub none_later : (n : ℕ) (items : List (Item T)) (it : Item T) → slice_get items n ≡ Some it → n < last_in it.key items
   none_later n [] it there = absurd cc
   none_later zero (first ∷ items) it there =
-      subst (λ (i : Item T). 0 < last_in i.key (first ∷ items)) (some_is there) (step (last_in first.key items) (first.key == first.key) (number_itself first.key))
+      subst (λ (i : Item T). 0 < last_in i.key (first ∷ items)) (some_is there) (step (last_in first.key items) (first.key == first.key)
+      (number_itself first.key))
     where
       step : (later : ℕ) (own : Bool) → own ≡ true → 0 < or_first later own
       step zero true is = omega arith
@@ -193,7 +194,8 @@ module _ {T : Type 0} where
       head key below false is =
           set_other heads it.key key (suc (length items)) 0 is ∙ old.head key below ∙ sym (last_push_other key it items is)
 
-      link : (n : ℕ) (its : Item T) → (slice_get items n ≡ Some its) ⊎ ((n ≡ length items) × (it ≡ its)) → its.link ≡ last_in its.key (take n (items ++ it ∷ []))
+      link : (n : ℕ) (its : Item T) → (slice_get items n ≡ Some its) ⊎ ((n ≡ length items) × (it ≡ its))
+          → its.link ≡ last_in its.key (take n (items ++ it ∷ []))
       link n its (inl there) =
           old.link n its there ∙ ap (last_in its.key) (sym (take_left n items (it ∷ []) (let within = get_within items n its there in omega arith)))
       link n its (inr last) =

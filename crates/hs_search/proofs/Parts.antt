@@ -52,7 +52,8 @@ module _ {T : Type 0} where
 
   -- what a walk has left at the last item of the first ones
   newest_take : (key m : ℕ) (items : List (Item T)) → newest key (take m items) ≡ rest key items (last_in key (take m items))
-  newest_take key m items = newest_rest key 0 (take m items) ∙ rest_zero key (take m items) (last_in key (take m items)) ∙ step (last_in key (take m items)) refl
+  newest_take key m items = newest_rest key 0 (take m items) ∙ rest_zero key (take m items) (last_in key (take m items)) ∙ step (last_in key
+      (take m items)) refl
     where
       step : (l : ℕ) → last_in key (take m items) ≡ l → rest key (take m items) l ≡ rest key items l
       step zero is = refl
@@ -99,7 +100,8 @@ at_end (x ∷ xs) y = at_end xs y
 pub parts_none : (rows : List (Item Reach)) (order starts : List ℕ) → AreParts 0 rows order starts
 parts_none rows order starts at below = absurd (omega arith)
 
-pub parts_more : (rows : List (Item Reach)) (count start : ℕ) (order order' starts starts' : List ℕ) → AreParts count rows order starts → length starts ≡ suc count
+pub parts_more : (rows : List (Item Reach)) (count start : ℕ) (order order' starts starts' : List ℕ) → AreParts count rows order starts
+    → length starts ≡ suc count
     → slice_index_or starts count 0 ≡ length order → order' ≡ order ++ newest count rows → start ≡ length order' → starts' ≡ starts ++ start ∷ []
     → AreParts (suc count) rows order' starts' × (length starts' ≡ suc (suc count)) × (slice_index_or starts' (suc count) 0 ≡ length order')
 parts_more rows count start order order' starts starts' parts long next is_order is_start is_starts = (
@@ -109,7 +111,8 @@ parts_more rows count start order order' starts starts' parts long next is_order
 )
   where
     last : slice_index_or starts' (suc count) 0 ≡ length order'
-    last = ap (λ xs. slice_index_or xs (suc count) 0) is_starts ∙ ap (λ n. slice_index_or (starts ++ start ∷ []) n 0) (sym long) ∙ at_end starts start ∙ is_start
+    last = ap (λ xs. slice_index_or xs (suc count) 0) is_starts ∙ ap (λ n. slice_index_or (starts ++ start ∷ []) n 0)
+        (sym long) ∙ at_end starts start ∙ is_start
 
     start_kept : (at : ℕ) → at < suc count → slice_index_or starts' at 0 ≡ slice_index_or starts at 0
     start_kept at below = ap (λ xs. slice_index_or xs at 0) is_starts ∙ before_end starts start at (omega arith)
@@ -157,7 +160,8 @@ module _ (entries : List (Item ℕ)) (at : ℕ) where
   at_step : (from : ℕ) (it : Item Reach) (items : List (Item Reach)) (test : Bool) (ps : List Pair) (k j n : ℕ)
       → k + suc j ≡ length (newest_from at (suc from) items ++ only_if test from)
       → slice_get (newest_from at (suc from) items ++ only_if test from) j ≡ Some n
-      → ((k' : ℕ) → k' + suc j ≡ length (newest_from at (suc from) items) → slice_get (newest_from at (suc from) items) j ≡ Some n → IsAt (suc from) items ps k' n)
+      → ((k' : ℕ) → k' + suc j ≡ length (newest_from at (suc from) items) → slice_get (newest_from at (suc from) items) j ≡ Some n
+      → IsAt (suc from) items ps k' n)
       → IsAt from (it ∷ items) (cond test (pair_of entries it ∷ ps) ps) k n
   at_step from it items false ps k j n place there below =
       let its = below k (place ∙ ap length (append-nil (newest_from at (suc from) items)))
@@ -211,7 +215,8 @@ pub part_pair : (entries : List (Item ℕ)) (rows : List (Item Reach)) (order st
     → k < length (pairs_at at (pairs_in entries rows))
     → (slice_index_or starts (suc at) 0 - 1 - k < length order)
     × (slice_index_or order (slice_index_or starts (suc at) 0 - 1 - k) 0 < length rows)
-    × (slice_get (pairs_at at (pairs_in entries rows)) k ≡ slice_get (pairs_in entries rows) (slice_index_or order (slice_index_or starts (suc at) 0 - 1 - k) 0))
+    × (slice_get (pairs_at at (pairs_in entries rows)) k ≡ slice_get (pairs_in entries rows) (slice_index_or order (slice_index_or starts
+    (suc at) 0 - 1 - k) 0))
 part_pair entries rows order starts at k keyed part below =
     from (length (newest at rows) - 1 - k) (let count = count_right entries at 0 rows keyed in omega arith)
     (let count = count_right entries at 0 rows keyed in let whole = part.0 in omega arith)
@@ -219,7 +224,8 @@ part_pair entries rows order starts at k keyed part below =
     from : (j : ℕ) → k + suc j ≡ length (newest at rows) → slice_index_or starts (suc at) 0 - 1 - k ≡ slice_index_or starts at 0 + j
         → (slice_index_or starts (suc at) 0 - 1 - k < length order)
         × (slice_index_or order (slice_index_or starts (suc at) 0 - 1 - k) 0 < length rows)
-        × (slice_get (pairs_at at (pairs_in entries rows)) k ≡ slice_get (pairs_in entries rows) (slice_index_or order (slice_index_or starts (suc at) 0 - 1 - k) 0))
+        × (slice_get (pairs_at at (pairs_in entries rows)) k ≡ slice_get (pairs_in entries rows) (slice_index_or order (slice_index_or starts
+        (suc at) 0 - 1 - k) 0))
     from j place index =
         let its = get_there (newest at rows) j (omega arith) in
         let in_order = part.1 j its.0 its.1 in

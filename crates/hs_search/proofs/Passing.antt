@@ -7,7 +7,8 @@ use Rattle.hs_search.proofs.Expansions.{row_kept, rows_at, rows_kept}
 use Rattle.hs_search.proofs.Membership.{Has-left, Has-right, Has-either}
 use Rattle.hs_search.proofs.PuttingOff.{key_or}
 use Rattle.hs_search.proofs.Rounding.{behind, ready_next, ready_same}
-use Rattle.hs_search.proofs.Taking.{IsGrown, grown, past_or, rows_more, too_many}
+use Rattle.hs_search.proofs.Adding.{past_or, rows_more}
+use Rattle.hs_search.proofs.Taking.{IsGrown, grown, too_many}
 use Rattle.hs_search.specs.Bringing.{Book}
 use Rattle.hs_search.specs.Chains.{IsOnce, IsTooMany}
 use Rattle.hs_search.specs.Graphs.{FlowGraph, Has, IsFramed}
@@ -137,9 +138,11 @@ module _ (graph : FlowGraph) (framed : IsFramed graph) (room most next latest la
     near_placed = λ s has. expanded.placed s (Has-left near' jumps s has);
     near_long = λ s has. near_long s (expanded.long s has);
     far_right = λ n it there. far_right n it there (put.each n it there);
-    short = λ r has. in_rows r (Has-either (rows_of book.entries old) (rows_of book.entries grows_to.layer) r (subst (λ rs. Has rs r) (rows_same ∙ mid_is) has));
+    short = λ r has. in_rows r (Has-either (rows_of book.entries old) (rows_of book.entries grows_to.layer) r (subst (λ rs. Has rs r)
+        (rows_same ∙ mid_is) has));
     ready = subst (λ rs. IsReady graph (suc next) rs (Stored book'.entries (λ s. Has near' s ⊎ IsWaiting far' (suc next) s))) (sym (rows_same ∙ mid_is))
-        (ready_same graph (suc next) (rows_of book.entries old ++ rows_of book.entries grows_to.layer) (λ o. Left o ⊎ Stored book'.entries (Has (near' ++ jumps)) o)
+        (ready_same graph (suc next) (rows_of book.entries old ++ rows_of book.entries grows_to.layer) (λ o. Left o ⊎ Stored book'.entries (Has
+        (near' ++ jumps)) o)
         (Stored book'.entries (λ s. Has near' s ⊎ IsWaiting far' (suc next) s)) next_ready there back);
     once = subst (λ rs. IsOnce (nodes_in rs)) (sym rows_same) (grows_to.once between.once);
     fits = grows_to.fits between.fits;

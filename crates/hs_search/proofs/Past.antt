@@ -8,7 +8,8 @@ use Rattle.hs_search.proofs.Membership.{Has-left, Has-right, Has-either, map-Has
 use Rattle.hs_search.proofs.Passing.{rows_long}
 use Rattle.hs_search.proofs.PuttingOff.{key_or}
 use Rattle.hs_search.proofs.Rounding.{behind, ready_closed}
-use Rattle.hs_search.proofs.Taking.{IsGrown, capped_node, grown, past_or, rows_more, too_many}
+use Rattle.hs_search.proofs.Adding.{capped_node, past_or, rows_more}
+use Rattle.hs_search.proofs.Taking.{IsGrown, grown, too_many}
 use Rattle.hs_search.specs.Bringing.{Book}
 use Rattle.hs_search.specs.Chains.{IsFound, IsLength, IsOnce, IsReached, IsTooMany, Reaches, nodes_of}
 use Rattle.hs_search.specs.Finding.{pair_of, pairs_in}
@@ -64,7 +65,8 @@ past_first graph framed room most next latest rows book near far between ended =
     key_below n it at = step (between.far_right n it at).key (key_or most it.value.length)
       where
         step : it.key ≡ key_of most it.value.length
-            → ((most < it.value.length) × (key_of most it.value.length ≡ suc most)) ⊎ ((it.value.length ≤ most) × (key_of most it.value.length ≡ it.value.length))
+            → ((most < it.value.length) × (key_of most it.value.length ≡ suc most)) ⊎ ((it.value.length ≤ most)
+            × (key_of most it.value.length ≡ it.value.length))
             → it.key ≤ suc most
         step key (inl past) = let is = past.1 in omega arith
         step key (inr within) = let is = within.1 in let less = within.0 in omega arith
@@ -101,10 +103,12 @@ past_first graph framed room most next latest rows book near far between ended =
 
     long : (s : Reach) → Waits near far (suc most) s → most < s.length
     long s (inl has) = near_far s has ended
-    long s (inr listed) = step (sym ((between.far_right listed.n listed.it listed.there).key ∙ ap (λ (r : Reach). key_of most r.length) listed.value) ∙ listed.own)
+    long s (inr listed) = step (sym ((between.far_right listed.n listed.it listed.there).key ∙ ap (λ
+        (r : Reach). key_of most r.length) listed.value) ∙ listed.own)
         (key_or most s.length)
       where
-        step : key_of most s.length ≡ suc most → ((most < s.length) × (key_of most s.length ≡ suc most)) ⊎ ((s.length ≤ most) × (key_of most s.length ≡ s.length))
+        step : key_of most s.length ≡ suc most → ((most < s.length) × (key_of most s.length ≡ suc most)) ⊎ ((s.length ≤ most)
+            × (key_of most s.length ≡ s.length))
             → most < s.length
         step key (inl past) = past.0
         step key (inr within) = absurd (let is = within.1 in let less = within.0 in omega arith)
@@ -116,7 +120,8 @@ past_first graph framed room most next latest rows book near far between ended =
 -- ---- a pass
 
 -- what such a row brings is longer than the most
-brought_past : (graph : FlowGraph) (rows : List Row) (most : ℕ) (x o : Row) → x.length ≡ suc most → x.level ≡ suc most → BroughtBy graph rows x o → most < o.length
+brought_past : (graph : FlowGraph) (rows : List Row) (most : ℕ) (x o : Row) → x.length ≡ suc most → x.level ≡ suc most → BroughtBy graph rows x o
+    → most < o.length
 brought_past graph rows most x _ long level (by_step y step) = omega arith
 brought_past graph rows most x _ long level (by_call b enter) = omega arith
 brought_past graph rows most x _ long level (as_caller e y has enter leave) = omega arith

@@ -46,7 +46,8 @@ put_next most jumps i d it old mid new within put value key is =
     subst (λ js. IsPutOff most js old new) (sym (take_more jumps i d within))
     (put_more most (take i jumps) (slice_index_or jumps i d) it old mid new put value key is)
 
-pub below_more : (latest later : ℕ) (it : Item Reach) (far new : List (Item Reach)) → AreBelow latest far → latest ≤ later → it.key ≤ later → new ≡ far ++ it ∷ []
+pub below_more : (latest later : ℕ) (it : Item Reach) (far new : List (Item Reach)) → AreBelow latest far → latest ≤ later → it.key ≤ later
+    → new ≡ far ++ it ∷ []
     → AreBelow later new
 below_more latest later it far new below left right is n its there = from (get_either far it n its (subst (λ xs. slice_get xs n ≡ Some its) is there))
   where

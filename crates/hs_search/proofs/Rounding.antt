@@ -13,13 +13,15 @@ pub Known-more : (rows more : List Row) (node : Node) → Known rows node → Kn
 Known-more rows more node known = (known.0, Has-left rows more known.0 known.1, known.2)
 
 -- a candidate stays one
-pub Candidate-more : (graph : FlowGraph) (rows more : List Row) → ((r : Row) → Has rows r → Has more r) → (o : Row) → Candidate graph rows o → Candidate graph more o
+pub Candidate-more : (graph : FlowGraph) (rows more : List Row) → ((r : Row) → Has rows r → Has more r) → (o : Row) → Candidate graph rows o
+    → Candidate graph more o
 Candidate-more graph rows more also _ starts = starts
 Candidate-more graph rows more also _ (goes y to has step) = goes y to (also y has) step
 Candidate-more graph rows more also _ (enters y b has is) = enters y b (also y has) is
 Candidate-more graph rows more also _ (leaves c e y at_call at_end enter leave) = leaves c e y (also c at_call) (also e at_end) enter leave
 
-BroughtBy-more : (graph : FlowGraph) (rows more : List Row) → ((r : Row) → Has rows r → Has more r) → (x o : Row) → BroughtBy graph rows x o → BroughtBy graph more x o
+BroughtBy-more : (graph : FlowGraph) (rows more : List Row) → ((r : Row) → Has rows r → Has more r) → (x o : Row) → BroughtBy graph rows x o
+    → BroughtBy graph more x o
 BroughtBy-more graph rows more also x _ (by_step y step) = by_step y step
 BroughtBy-more graph rows more also x _ (by_call b is) = by_call b is
 BroughtBy-more graph rows more also x _ (as_caller e y has enter leave) = as_caller e y (also e has) enter leave
@@ -33,7 +35,8 @@ BroughtBy-candidate graph rows x has _ (as_caller e y at_end enter leave) = leav
 BroughtBy-candidate graph rows x has _ (as_end c y at_call enter leave) = leaves c x y at_call has enter leave
 
 -- and longer than the row
-pub BroughtBy-longer : (graph : FlowGraph) → IsFramed graph → (rows : List Row) → Built graph rows → (x : Row) → Has rows x → (o : Row) → BroughtBy graph rows x o
+pub BroughtBy-longer : (graph : FlowGraph) → IsFramed graph → (rows : List Row) → Built graph rows → (x : Row) → Has rows x → (o : Row)
+    → BroughtBy graph rows x o
     → x.length < o.length
 BroughtBy-longer graph framed rows built x has _ (by_step y step) = omega arith
 BroughtBy-longer graph framed rows built x has _ (by_call b is) = omega arith
@@ -58,12 +61,14 @@ new_or_old graph rows x _ (goes y to has step) = from (last_or rows x y has)
   where
     from : Has rows y ⊎ (x ≡ y) → Candidate graph rows (stepped y to) ⊎ BroughtBy graph (rows ++ x ∷ []) x (stepped y to)
     from (inl old) = inl (goes y to old step)
-    from (inr is) = inr (subst (λ r. BroughtBy graph (rows ++ x ∷ []) x (stepped r to)) is (by_step to (subst (λ r. Has (graph.steps r.node) to) (sym is) step)))
+    from (inr is) = inr (subst (λ r. BroughtBy graph (rows ++ x ∷ []) x (stepped r to)) is (by_step to (subst (λ r. Has (graph.steps r.node) to)
+        (sym is) step)))
 new_or_old graph rows x _ (enters y b has call) = from (last_or rows x y has)
   where
     from : Has rows y ⊎ (x ≡ y) → Candidate graph rows (entered_by y b) ⊎ BroughtBy graph (rows ++ x ∷ []) x (entered_by y b)
     from (inl old) = inl (enters y b old call)
-    from (inr is) = inr (subst (λ r. BroughtBy graph (rows ++ x ∷ []) x (entered_by r b)) is (by_call b (subst (λ r. graph.enters r.node ≡ Some b) (sym is) call)))
+    from (inr is) = inr (subst (λ r. BroughtBy graph (rows ++ x ∷ []) x (entered_by r b)) is (by_call b (subst (λ r. graph.enters r.node ≡ Some b)
+        (sym is) call)))
 new_or_old graph rows x _ (leaves c e y at_call at_end enter leave) = from (last_or rows x c at_call) (last_or rows x e at_end)
   where
     from : Has rows c ⊎ (x ≡ c) → Has rows e ⊎ (x ≡ e) → Candidate graph rows (returned c e y) ⊎ BroughtBy graph (rows ++ x ∷ []) x (returned c e y)

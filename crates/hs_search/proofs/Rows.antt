@@ -1,5 +1,5 @@
 -- Worked rows: a graph of two functions, chains in it, and the lists of the search.
-use Rattle.std.proofs.Common.{◌≡◌, ℕ, suc, ◌==◌, ◌&&◌, Bool, true, false, if◌then◌else◌, List, [], ◌∷◌, Option, Some, None, refl, inl, inr}
+use Rattle.std.proofs.Common.{◌≡◌, ℕ, suc, ◌==◌, Bool, if◌then◌else◌, List, [], ◌∷◌, Option, Some, None, refl, inl, inr}
 use Rattle.hs_search.specs.Bringing.{step_back, step_in, step_on}
 use Rattle.hs_search.specs.Chains.{Chain, begins, goes_on, goes_in, goes_back, IsOnce, pairs_at}
 use Rattle.hs_search.specs.Graphs.{FlowGraph}

@@ -81,7 +81,8 @@ from_more room most heads items key at it old mid new done right walk from some 
     let own = walk_own items key at it walk some there in
     let wider : Seen items key at (λ n its. Has (from.taken ++ it.value ∷ []) its.value) =
     (λ n its low at_its same. Has-left from.taken (it.value ∷ []) its.value (from.seen n its low at_its same)) in
-    let all = walk_back heads items key at it (λ n its. Has (from.taken ++ it.value ∷ []) its.value) right walk wider some there (Has-last from.taken it.value) in (
+    let all = walk_back heads items key at it (λ n its. Has (from.taken ++ it.value ∷ []) its.value) right walk wider some there
+    (Has-last from.taken it.value) in (
       record {
         taken = from.taken ++ it.value ∷ [];
         taking = taking_more room most from.taken it.value old mid new done from.taking takes;

@@ -8,9 +8,11 @@ use Rattle.hs_search.specs.declared.found.Pair.{Pair}
 use Rattle.hs_search.specs.declared.lists.Item.{Item}
 use Rattle.hs_search.specs.declared.reach.Reach.{Reach}
 
+-- the pair of one stored row
 abbrev pub pair_of : List (Item ℕ) → Item Reach → Pair
 pair_of entries it = record { node = node_of entries it.value; length = it.value.length }
 
+-- those of several
 abbrev pub pairs_in : List (Item ℕ) → List (Item Reach) → List Pair
 pairs_in entries rows = map (pair_of entries) rows
 

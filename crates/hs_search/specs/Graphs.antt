@@ -10,6 +10,7 @@ abbrev pub Has : {A : Type 0} → List A → A → Type 0
 Has [] x = ⊥
 Has (y ∷ ys) x = (y ≡ x) ⊎ Has ys x
 
+-- a graph with calls
 pub record FlowGraph : Type 0 where
   -- how many operations there are
   pub count : ℕ
@@ -26,6 +27,7 @@ pub record FlowGraph : Type 0 where
   -- the node with which the call of a node began
   pub entry : Node → Node
 
+-- what each graph keeps
 pub record IsFramed (graph : FlowGraph) : Type 0 where
   -- which call a node is in
   pub at_start : graph.entry graph.start ≡ graph.start

@@ -1,5 +1,5 @@
 -- How rows, calls, callers and ends lie beside one another while the search goes on (own).
---     Grows old new               calls were added behind
+--     Grows old new               calls were added after
 --     IsPlaced graph entries reach    its call has a number, and is the one that the graph says
 --     IsCalls graph entries       calls begin with their own nodes, and none has two numbers
 --     IsLaidOut graph rows book count   the first so many rows are listed as callers and ends
@@ -13,15 +13,18 @@ use Rattle.hs_search.specs.declared.graph.Node.{Node}
 use Rattle.hs_search.specs.declared.lists.Item.{Item}
 use Rattle.hs_search.specs.declared.reach.Reach.{Reach}
 
+-- the old calls keep their numbers
 abbrev pub Grows : List (Item ℕ) → List (Item ℕ) → Type 0
 Grows old new = (later : List (Item ℕ)) × (new ≡ old ++ later)
 
+-- the call of a stored row
 pub record IsPlaced (graph : FlowGraph) (entries : List (Item ℕ)) (reach : Reach) : Type 0 where
   pub known : reach.call < length entries
   pub entry : graph.entry (node_of entries reach) ≡ call_at entries reach.call
   pub within : reach.at < graph.count
   pub level : reach.level ≤ reach.length
 
+-- the calls that have numbers
 pub record IsCalls (graph : FlowGraph) (entries : List (Item ℕ)) : Type 0 where
   pub own : (n : ℕ) → n < length entries → graph.entry (call_at entries n) ≡ call_at entries n
   pub once : (n m : ℕ) → n < length entries → m < length entries → call_at entries n ≡ call_at entries m → n ≡ m
@@ -49,6 +52,7 @@ pub record IsItem (items : List (Item ℕ)) (row : ℕ) (Key : ℕ → Type 0) :
   pub value : it.value ≡ row
   pub key : Key it.key
 
+-- all that the lists say of the rows
 pub record IsLaidOut (graph : FlowGraph) (rows : List (Item Reach)) (book : Book) (count : ℕ) : Type 0 where
   pub calls : IsCalls graph book.entries
   pub keys : (n : ℕ) (it : Item Reach) → slice_get rows n ≡ Some it → it.key ≡ it.value.at
@@ -61,7 +65,9 @@ pub record IsLaidOut (graph : FlowGraph) (rows : List (Item Reach)) (book : Book
   pub ends : (n : ℕ) (row : Item Reach) → n < count → slice_get rows n ≡ Some row → graph.ends (node_of book.entries row.value) ≡ true
       → IsItem book.ends n (λ key. key ≡ row.value.call)
 
-pub record IsExpanded (graph : FlowGraph) (rows : List (Item Reach)) (number : ℕ) (it : Item Reach) (old new : Book) (near near' jumps jumps' : List Reach) : Type 0 where
+-- the row of the number has brought its offers, and is listed
+pub record IsExpanded (graph : FlowGraph) (rows : List (Item Reach)) (number : ℕ) (it : Item Reach) (old new : Book)
+    (near near' jumps jumps' : List Reach) : Type 0 where
   pub laid_out : IsLaidOut graph rows new (suc number)
   pub grows : Grows old.entries new.entries
   pub steps : List Reach

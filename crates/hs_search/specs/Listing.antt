@@ -13,18 +13,22 @@ or_first zero false = 0
 or_first (suc later) is = suc (suc later)
 
 module _ {T : Type 0} where
+  -- the last item of the key
   abbrev pub last_in : ℕ → List (Item T) → ℕ
   last_in key [] = 0
   last_in key (first ∷ items) = or_first (last_in key items) (first.key == key)
 
+  -- what heads and links say
   pub record IsIndex (heads : List ℕ) (items : List (Item T)) : Type 0 where
     pub head : (key : ℕ) → key < length heads → slice_index_or heads key 0 ≡ last_in key items
     pub link : (n : ℕ) (it : Item T) → slice_get items n ≡ Some it → it.link ≡ last_in it.key (take n items)
     pub below : (n : ℕ) (it : Item T) → slice_get items n ≡ Some it → it.key < length heads
 
+  -- the walk is at an item of the key, or at its end
   pub record IsWalk (items : List (Item T)) (key at : ℕ) : Type 0 where
     pub within : at ≤ length items
     pub own : (n : ℕ) (it : Item T) → at ≡ suc n → slice_get items n ≡ Some it → it.key ≡ key
 
+  -- what holds of the items that the walk has passed
   abbrev pub Seen : List (Item T) → ℕ → ℕ → (ℕ → Item T → Type 0) → Type 0
   Seen items key at P = (n : ℕ) (it : Item T) → at ≤ n → slice_get items n ≡ Some it → it.key ≡ key → P n it

@@ -10,6 +10,7 @@ use Rattle.hs_search.specs.Graphs.{FlowGraph, Has}
 use Rattle.hs_search.specs.Levels.{Level, Depth}
 use Rattle.hs_search.specs.declared.graph.Node.{Node}
 
+-- a row of the search
 pub record Row : Type 0 where
   pub node : Node
   -- the entries of the chain
@@ -29,12 +30,15 @@ entered_by x b = record { node = b; length = suc x.length; level = 0 }
 abbrev pub returned : Row → Row → Node → Row
 returned c e y = record { node = y; length = suc (suc (c.length + e.level)); level = suc (suc (c.level + e.level)) }
 
+-- the row of the start
 abbrev pub first_row : FlowGraph → Row
 first_row graph = record { node = graph.start; length = 1; level = 0 }
 
+-- some row has the node
 abbrev pub Known : List Row → Node → Type 0
 Known rows node = (row : Row) × Has rows row × (row.node ≡ node)
 
+-- one step from the rows
 pub data Candidate (graph : FlowGraph) (rows : List Row) : Row → Type 0 where
   starts : Candidate graph rows (first_row graph)
   goes : (x : Row) (y : Node) → Has rows x → Has (graph.steps x.node) y → Candidate graph rows (stepped x y)
@@ -43,16 +47,19 @@ pub data Candidate (graph : FlowGraph) (rows : List Row) : Row → Type 0 where
   leaves : (c e : Row) (y : Node) → Has rows c → Has rows e → graph.enters c.node ≡ Some (graph.entry e.node) → graph.leaves c.node e.node ≡ Some y
       → Candidate graph rows (returned c e y)
 
+-- a row that a round may make
 pub record IsNext (graph : FlowGraph) (rows : List Row) (row : Row) : Type 0 where
   pub candidate : Candidate graph rows row
   pub outside : ¬ (Known rows row.node)
   pub least : (other : Row) → Candidate graph rows other → Known rows other.node ⊎ (row.length ≤ other.length)
 
+-- the rows of rounds
 pub data Built (graph : FlowGraph) : List Row → Type 0 where
   nothing : Built graph []
   -- rows of one length are made together
   round : (rows layer : List Row) → Built graph rows → ((row : Row) → Has layer row → IsNext graph rows row) → Built graph (rows ++ layer)
 
+-- no candidate that is left has at most so many entries
 abbrev pub Closed : FlowGraph → ℕ → List Row → Type 0
 Closed graph most rows = (other : Row) → Candidate graph rows other → Known rows other.node ⊎ (most < other.length)
 
@@ -92,6 +99,7 @@ pub record AllBrought (graph : FlowGraph) (rows : List Row) (first count : ℕ) 
 abbrev pub IsWithin : FlowGraph → Node → Type 0
 IsWithin graph x = (d : ℕ) × (m : ℕ) × Depth graph d (graph.entry x) × Level graph (graph.entry x) m x
 
+-- the first so many rows have brought their offers
 pub record IsClosing (graph : FlowGraph) (count : ℕ) (rows : List Row) (Offers : Row → Type 0) : Type 0 where
   pub within : (row : Row) → Has rows row → IsWithin graph row.node
   pub sound : (o : Row) → Offers o → IsWithin graph o.node

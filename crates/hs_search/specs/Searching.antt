@@ -17,9 +17,11 @@ use Rattle.hs_search.specs.declared.reach.Reach.{Reach}
 use Rattle.hs_search.specs.declared.reach.SearchEnd.{SearchEnd}
 use Rattle.hs_search.specs.declared.reach.SearchEnd.TheVariants.{Limit, NoMemory}
 
+-- the row of an offer
 abbrev pub Stored : List (Item ℕ) → (Reach → Type 0) → Row → Type 0
 Stored entries Offers o = (s : Reach) × Offers s × (row_of entries s ≡ o)
 
+-- of the rows of these numbers
 pub record HasExpanded (graph : FlowGraph) (rows : List (Item Reach)) (first count : ℕ) (old new : Book) (near jumps : List Reach) : Type 0 where
   pub laid_out : IsLaidOut graph rows new count
   pub grows : Grows old.entries new.entries
@@ -29,12 +31,14 @@ pub record HasExpanded (graph : FlowGraph) (rows : List (Item Reach)) (first cou
 
 -- ---- offers that are taken
 
+-- all offers were taken
 pub record IsTakenAll (room most : ℕ) (Offers : Reach → Type 0) (old new : List (Item Reach)) : Type 0 where
   pub taken : List Reach
   pub taking : Taking room most taken old new
   pub each : (s : Reach) → Has taken s → Offers s
   pub all : (s : Reach) → Offers s → Has taken s
 
+-- the same with the ends that there may be
 abbrev pub TakesAll : ℕ → ℕ → (Reach → Type 0) → List (Item Reach) → List (Item Reach) → Result (Unit {0}) SearchEnd → Type 0
 TakesAll room most Offers old new (Ok _) = IsTakenAll room most Offers old new
 TakesAll room most Offers old new (Err Limit) = IsFull room most Offers old
@@ -51,9 +55,11 @@ abbrev pub key_if : Bool → ℕ → ℕ → ℕ
 key_if true most length = suc most
 key_if false most length = length
 
+-- the number by which an offer of that length is listed
 abbrev pub key_of : ℕ → ℕ → ℕ
 key_of most length = key_if (nat_lt most length) most length
 
+-- an offer that is listed by the number or by a later one
 pub record IsWaiting (far : List (Item Reach)) (next : ℕ) (s : Reach) : Type 0 where
   pub n : ℕ
   pub it : Item Reach
@@ -61,11 +67,13 @@ pub record IsWaiting (far : List (Item Reach)) (next : ℕ) (s : Reach) : Type 0
   pub later : next ≤ it.key
   pub value : it.value ≡ s
 
+-- what holds of a listed offer
 pub record IsFarItem (graph : FlowGraph) (most latest : ℕ) (entries : List (Item ℕ)) (it : Item Reach) : Type 0 where
   pub placed : IsPlaced graph entries it.value
   pub key : it.key ≡ key_of most it.value.length
   pub below : it.key ≤ latest
 
+-- of each listed offer
 abbrev pub AreFar : FlowGraph → ℕ → ℕ → List (Item ℕ) → List (Item Reach) → Type 0
 AreFar graph most latest entries far = (n : ℕ) (it : Item Reach) → slice_get far n ≡ Some it → IsFarItem graph most latest entries it
 
@@ -84,6 +92,7 @@ AreBelow latest far = (n : ℕ) (it : Item Reach) → slice_get far n ≡ Some i
 abbrev pub nodes_in : List Row → List Node
 nodes_in rows = map (λ r. r.node) rows
 
+-- what holds before the round of a length
 pub record IsBetween (graph : FlowGraph) (room most next latest : ℕ) (rows : List (Item Reach)) (book : Book) (near : List Reach) (far : List (Item Reach))
     : Type 0 where
   pub laid_out : IsLaidOut graph rows book (length rows)
@@ -97,12 +106,13 @@ pub record IsBetween (graph : FlowGraph) (room most next latest : ℕ) (rows : L
 
 -- ---- past the most
 
+-- what holds past the most, with the offers that are left
 pub record IsPast (graph : FlowGraph) (room most : ℕ) (base : List Row) (rows : List (Item Reach)) (book : Book) (Offers : Reach → Type 0) : Type 0 where
   -- the rows with lengths
   pub built : Built graph base
   pub closed : Closed graph most base
   pub short : (r : Row) → Has base r → r.length ≤ most
-  -- and those behind them
+  -- and those after them
   pub past : List Row
   pub split : rows_of book.entries rows ≡ base ++ past
   pub long : (r : Row) → Has past r → (r.length ≡ suc most) × (r.level ≡ suc most) × ¬ (Known base r.node)

@@ -16,6 +16,7 @@ module _ {T : Type 0} where
   newest_from key from [] = []
   newest_from key from (it ∷ items) = newest_from key (suc from) items ++ only_if (it.key == key) from
 
+  -- of all items
   abbrev pub newest : ℕ → List (Item T) → List ℕ
   newest key items = newest_from key 0 items
 
@@ -25,6 +26,7 @@ IsPart rows order starts at =
     (slice_index_or starts at 0 + length (newest at rows) ≡ slice_index_or starts (suc at) 0)
     × ((j n : ℕ) → slice_get (newest at rows) j ≡ Some n → slice_get order (slice_index_or starts at 0 + j) ≡ Some n)
 
+-- of each operation below the number
 abbrev pub AreParts : ℕ → List (Item Reach) → List ℕ → List ℕ → Type 0
 AreParts count rows order starts = (at : ℕ) → at < count → IsPart rows order starts at
 

@@ -15,24 +15,30 @@ use Rattle.hs_search.specs.declared.reach.SearchEnd.TheVariants.{Limit, NoMemory
 
 -- ---- nodes
 
+-- the first node of a call, from its item
 abbrev pub call_in : Option (Item ℕ) → Node
 call_in None = record { at = 0; fact = 0; entered = 0 }
 call_in (Some it) = record { at = it.key; fact = it.value; entered = it.value }
 
+-- of the call with that number
 abbrev pub call_at : List (Item ℕ) → ℕ → Node
 call_at calls n = call_in (slice_get calls n)
 
+-- the node of a stored row
 abbrev pub node_of : List (Item ℕ) → Reach → Node
 node_of calls reach = record { at = reach.at; fact = reach.fact; entered = (call_at calls reach.call).entered }
 
+-- its row
 abbrev pub row_of : List (Item ℕ) → Reach → Row
 row_of calls reach = record { node = node_of calls reach; length = reach.length; level = reach.level }
 
+-- all rows
 abbrev pub rows_of : List (Item ℕ) → List (Item Reach) → List Row
 rows_of calls items = map (λ it. row_of calls it.value) items
 
 -- ---- taking offers
 
+-- the row of the number has the node
 pub record IsRowOf (items : List (Item Reach)) (reach : Reach) (n : ℕ) : Type 0 where
   pub it : Item Reach
   pub there : slice_get items n ≡ Some it
@@ -40,6 +46,7 @@ pub record IsRowOf (items : List (Item Reach)) (reach : Reach) (n : ℕ) : Type 
   pub fact : it.value.fact ≡ reach.fact
   pub call : it.value.call ≡ reach.call
 
+-- some row has it
 abbrev pub HasRow : List (Item Reach) → Reach → Type 0
 HasRow items reach = (n : ℕ) × IsRowOf items reach n
 
@@ -48,6 +55,7 @@ abbrev pub capped_if : Bool → ℕ → Reach → Reach
 capped_if true most reach = record { fact = reach.fact; at = reach.at; call = reach.call; length = suc most; level = suc most }
 capped_if false most reach = reach
 
+-- what is stored of an offer
 abbrev pub capped : ℕ → Reach → Reach
 capped most reach = capped_if (nat_lt most reach.length) most reach
 
@@ -55,6 +63,7 @@ capped most reach = capped_if (nat_lt most reach.length) most reach
 abbrev pub AllBelow : ℕ → List Reach → Type 0
 AllBelow count offers = (reach : Reach) → Has offers reach → reach.at < count
 
+-- of listed offers
 abbrev pub AllListedBelow : ℕ → List (Item Reach) → Type 0
 AllListedBelow count items = (n : ℕ) (it : Item Reach) → slice_get items n ≡ Some it → it.value.at < count
 
@@ -71,6 +80,7 @@ pub record IsAdded (room most : ℕ) (reach : Reach) (old new : List (Item Reach
   pub more : new ≡ old ++ it ∷ []
   pub fits : length old < room
 
+-- one offer: its node has a row, or gets one, or there is no room
 abbrev pub Takes : ℕ → ℕ → Reach → List (Item Reach) → List (Item Reach) → Result (Unit {0}) SearchEnd → Type 0
 Takes room most reach old new (Ok _) = ((new ≡ old) × HasRow old reach) ⊎ IsAdded room most reach old new
 Takes room most reach old new (Err Limit) = (¬ (HasRow old reach)) × (room ≤ length old)
@@ -116,6 +126,7 @@ pub record IsTakenList (room most : ℕ) (items : List (Item Reach)) (key : ℕ)
   pub each : (reach : Reach) → Has taken reach → IsListed items key reach
   pub all : (reach : Reach) → IsListed items key reach → Has taken reach
 
+-- of offers that are listed by the key
 abbrev pub TakesListed : ℕ → ℕ → List (Item Reach) → ℕ → List (Item Reach) → List (Item Reach) → Result (Unit {0}) SearchEnd → Type 0
 TakesListed room most items key old new (Ok _) = IsTakenList room most items key old new
 TakesListed room most items key old new (Err Limit) = IsFull room most (IsListed items key) old

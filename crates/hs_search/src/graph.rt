@@ -33,7 +33,7 @@ pub trait Graph {
     fn start(&self) -> Node
         ensures { result ≡ (flow self.now).start };
 
-    /// Puts the nodes that are one step on in the same call behind those that are in the list.
+    /// Puts the nodes that are one step on in the same call after those that are in the list.
     fn steps(&self, from: Node, into: &mut Vec<Node>) -> Result<(), NoMemory>
         requires within { from.at < (flow self.now).count }
         ensures { OnOk result (into.new.items ≡ into.old.items ++ (flow self.now).steps from) };

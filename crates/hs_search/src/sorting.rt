@@ -17,7 +17,7 @@ pub(crate) struct Sorted {
     pub starts: Vec<usize>,
 }
 
-/// Puts the numbers of an operation's rows behind those that are in the list, the newest first.
+/// Puts the numbers of an operation's rows after those that are in the list, the newest first.
 fn gather(rows: &Lists<Reach>, at: u32, order: &mut Vec<u32>) -> Result<(), NoMemory>
     requires known { at < length rows.now.heads.items }
     ensures { OnOk result (order.new.items ≡ order.old.items ++ newest at rows.now.items.items) }

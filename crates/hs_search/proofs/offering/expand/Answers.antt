@@ -1,6 +1,7 @@
 use Rattle.std.proofs.Common.{◌≡◌, sym, ◌∙◌, subst, refl}
 use Rattle.hs_search.proofs.Calling.{placed_kept}
-use Rattle.hs_search.proofs.Expanding.{OnOk-then, after_fit, after_rows, call_offered, ends_rows, expanded, fit_of}
+use Rattle.hs_search.proofs.Entering.{call_offered}
+use Rattle.hs_search.proofs.Expanding.{OnOk-then, after_fit, after_rows, ends_rows, expanded, fit_of}
 use Rattle.hs_search.proofs.Listing.{some_is}
 use Rattle.hs_search.specs.Bringing.{book_of}
 use Rattle.hs_search.specs.Layout.{IsExpanded}

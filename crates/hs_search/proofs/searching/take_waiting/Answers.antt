@@ -6,7 +6,8 @@ use Rattle.hs_search.proofs.searching.take_waiting.Goals as goal
 pub returns-in_err-take_each-clause-taken : goal.returns-in_err-take_each-clause-taken
 returns-in_err-take_each-clause-taken c =
     let is : c.from_residual.result ≡ Err c.in_err-take_each.field-0.0 = search rules in
-    rw is (takes_left c.args.room c.args.most c.args.near.now.items c.as_slice.result.now (IsListed c.args.far.now.items.items c.args.key) c.args.rows.now.items.items
+    rw is (takes_left c.args.room c.args.most c.args.near.now.items c.as_slice.result.now
+    (IsListed c.args.far.now.items.items c.args.key) c.args.rows.now.items.items
     c.take_each.new.rows.items.items c.take_each.new.rows.items.items c.in_err-take_each.field-0.0
     c.as_slice.ensures.value c.in_err-take_each.ensures.taken)
 
