@@ -163,7 +163,7 @@ module _ {T : Type 0} where
       step (suc later) own h = omega arith
 
   -- a key that no item has
-  none_in : (key : ℕ) (items : List (Item T)) → ((n : ℕ) (it : Item T) → slice_get items n ≡ Some it → it.key < key) → last_in key items ≡ 0
+  pub none_in : (key : ℕ) (items : List (Item T)) → ((n : ℕ) (it : Item T) → slice_get items n ≡ Some it → it.key < key) → last_in key items ≡ 0
   none_in key [] below = refl
   none_in key (first ∷ items) below =
       ap (λ later. or_first later (first.key == key)) (none_in key items (λ n it there. below (suc n) it there))

@@ -16,7 +16,6 @@ use Rattle.hs_search.specs.declared.searching.Search.{Search}
 pub record IsWide (graph : FlowGraph) (most : ℕ) (search : Search) : Type 0 where
   pub rows : length search.rows.heads.items ≡ graph.count
   pub calls : length search.calls.entries.heads.items ≡ graph.count
-  pub far : length search.far.heads.items ≡ suc (suc most)
 
 -- what holds before the round of a length
 pub record IsRound (graph : FlowGraph) (room most next : ℕ) (search : Search) : Type 0 where

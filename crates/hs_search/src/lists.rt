@@ -58,6 +58,17 @@ impl<T: Copy> Lists<T> {
         self.heads[key as usize]
     }
 
+    /// The same for any key. One that there is not has no items.
+    pub(crate) fn newest(&self, key: u32) -> u32
+        ensures { result ≡ last_in key self.now.items.items }
+    {
+        if (key as usize) < self.heads.len() {
+            self.heads[key as usize]
+        } else {
+            0
+        }
+    }
+
     /// The item of that number.
     pub(crate) fn item(&self, number: usize) -> &Item<T>
         requires known { number < length self.now.items.items }
@@ -79,6 +90,17 @@ impl<T: Copy> Lists<T> {
         let link = self.last(key);
         self.items.push(Item { key, link, value })?;
         self.heads[key as usize] = self.items.len() as u32;
+        Ok(())
+    }
+
+    /// Adds keys, up to that one.
+    pub(crate) fn widen_to(&mut self, key: u32) -> Result<(), NoMemory>
+        ensures items { self.new.items.items ≡ self.old.items.items }
+        ensures wide { OnOk result (key < length self.new.heads.items) }
+    {
+        'keys: while self.heads.len() <= key as usize {
+            self.widen()?;
+        }
         Ok(())
     }
 

@@ -125,13 +125,12 @@ pub(crate) fn take_listed(
     room: usize,
     most: u32,
 ) -> Result<(), SearchEnd>
-    requires listed { key < length offers.now.heads.items }
     requires known { AllListedBelow (length rows.old.heads.items) offers.now.items.items }
     requires short { most ≤ 1000000 }
     ensures taken { TakesListed room most offers.now.items.items key rows.old.items.items rows.new.items.items result }
     ensures wide { length rows.new.heads.items ≡ length rows.old.heads.items }
 {
-    let mut number = offers.last(key);
+    let mut number = offers.newest(key);
     'offers: while number > 0 {
         let offer = offers.item((number - 1) as usize);
         take(rows, offer.value, room, most)?;

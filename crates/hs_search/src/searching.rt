@@ -51,16 +51,15 @@ fn put_off(
     most: u32,
 ) -> Result<u32, NoMemory>
     requires short { most ≤ 1000000 }
-    requires wide { length far.old.heads.items ≡ suc (suc most) }
     requires below { AreBelow latest far.old.items.items }
     ensures put { OnOk result (IsPutOff most jumps.old.items far.old.items.items far.new.items.items) }
     ensures below { IfOk result (λ now. AreBelow now far.new.items.items) }
     ensures empty { OnOk result (jumps.new.items ≡ []) }
-    ensures wide { length far.new.heads.items ≡ length far.old.heads.items }
 {
     let mut last = latest;
     for jump in jumps.as_slice() {
         let key = key(jump.length, most);
+        far.widen_to(key)?;
         far.push(key, *jump)?;
         last = later(last, key);
     }
@@ -87,7 +86,6 @@ fn take_waiting(
 ) -> Result<(), SearchEnd>
     requires near { AllBelow (length rows.old.heads.items) near.old.items }
     requires far { AllListedBelow (length rows.old.heads.items) far.now.items.items }
-    requires key { key < length far.now.heads.items }
     requires short { most ≤ 1000000 }
     ensures taken { TakesAll room most (Waits near.old.items far.now.items.items key) rows.old.items.items rows.new.items.items result }
     ensures empty { OnOk result (near.new.items ≡ []) }
@@ -144,7 +142,7 @@ fn begin<G: Graph>(alloc: Global, graph: &G, most: u32) -> Result<Search, NoMemo
         nodes: Vec::new(alloc),
         near,
         jumps: Vec::new(alloc),
-        far: Lists::new(alloc, most as usize + 2)?,
+        far: Lists::new(alloc, 0)?,
         latest: 0,
     })
 }

@@ -6,9 +6,9 @@ use Rattle.hs_search.proofs.reach.take_listed.Goals as goal
 
 pub offers-init : goal.offers-init
 offers-init c =
-    let all = walk_first c.args.offers.now.items.items c.args.key c.last-number.result (λ n it. Has [] it.value) c.last-number.ensures in
+    let all = walk_first c.args.offers.now.items.items c.args.key c.newest-number.result (λ n it. Has [] it.value) c.newest-number.ensures in
     record {
-      taken = taken_first c.args.room c.args.most c.args.offers.now.items.items c.args.key c.last-number.result c.args.rows.now.items.items all.1;
+      taken = taken_first c.args.room c.args.most c.args.offers.now.items.items c.args.key c.newest-number.result c.args.rows.now.items.items all.1;
       walk = all.0;
       wide = refl;
     }

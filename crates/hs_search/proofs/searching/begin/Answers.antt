@@ -1,4 +1,4 @@
-use Rattle.std.proofs.Common.{rules, ◌∙◌}
+use Rattle.std.proofs.Common.{◌∙◌}
 use Rattle.hs_search.proofs.Beginning.{begun_as}
 use Rattle.hs_search.specs.Bringing.{book_of}
 use Rattle.hs_search.proofs.searching.begin.Goals as goal
@@ -15,7 +15,6 @@ returns g c = record {
     wide = record {
       rows = c.in_ok-new.ensures.wide ∙ c.count-count.ensures;
       calls = c.number.ensures.wide ∙ c.in_ok-calls.ensures.wide ∙ c.count-count.ensures;
-      far = search rules;
     };
   };
 }

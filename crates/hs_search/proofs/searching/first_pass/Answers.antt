@@ -62,6 +62,5 @@ returns g c =
       wide = record {
         rows = c.take_waiting.ensures.wide ∙ c.requires.ended.round.wide.rows;
         calls = c.expand_from.ensures.operations ∙ c.requires.ended.round.wide.calls;
-        far = c.requires.ended.round.wide.far;
       };
     }

@@ -36,6 +36,5 @@ returns g c = record {
   wide = record {
     rows = c.take_offers.ensures.wide ∙ c.requires.passing.wide.rows;
     calls = c.expand_from.ensures.operations ∙ c.requires.passing.wide.calls;
-    far = c.requires.passing.wide.far;
   };
 }

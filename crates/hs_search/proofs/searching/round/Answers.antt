@@ -57,6 +57,5 @@ returns g c =
       wide = record {
         rows = c.take_waiting.ensures.wide ∙ c.requires.round.wide.rows;
         calls = c.expand_from.ensures.operations ∙ c.requires.round.wide.calls;
-        far = c.put_off.ensures.wide ∙ c.requires.round.wide.far;
       };
     }
