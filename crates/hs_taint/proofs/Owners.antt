@@ -1,9 +1,8 @@
 -- Lists of starts and of owners, while they are made.
 --     owner_put                     one operation is done
---     starts_put, owners_put        one function is done
 --     located                       the function of a number, and the number of its first operation
 use Rattle.std.proofs.Common.{◌≡◌, ◌<◌, ◌∙◌, ℕ, zero, suc, ◌+◌, ◌++◌, List, [], ◌∷◌, length, map, ap, sym, refl, arith, drop}
-use Rattle.std.proofs.lemmas.List.{append_assoc, length-append, length-map}
+use Rattle.std.proofs.lemmas.List.{append_assoc}
 use Rattle.hs_code.specs.declared.function_code.FunctionCode.{FunctionCode}
 use Rattle.hs_code.specs.declared.function_code.Placed.{Placed}
 use Rattle.std.proofs.Common.{◌-◌, ◌≤◌, Some, get_or, slice_get, subst}
@@ -11,33 +10,19 @@ use Rattle.std.proofs.lemmas.Option.{get_or_from_slice_get, slice_get_within}
 use Rattle.hs_taint.specs.Laws.Points.{IsPoint, number_point, owner_at, owners_length, point_below, start_at, starts_length}
 use Rattle.hs_taint.specs.Points.{Point, count_of, owned_by, owners_from, point_of, start_of, starts_from}
 
+-- the next owner
 owner_next : (f : ℕ) (ops : List Placed) (i : ℕ) → i < length ops → map (owned_by f) (drop i ops) ≡ f ∷ map (owned_by f) (drop (suc i) ops)
 owner_next f [] i is = absurd (omega (arith))
 owner_next f (its ∷ rest) zero is = refl
 owner_next f (its ∷ rest) (suc i) is = owner_next f rest i (omega (arith))
 
+-- one operation is done
 pub owner_put : (owners : List ℕ) (f : ℕ) (ops : List Placed) (i : ℕ) → i < length ops
     → (owners ++ f ∷ []) ++ map (owned_by f) (drop (i + 1) ops) ≡ owners ++ map (owned_by f) (drop i ops)
 owner_put owners f ops i is =
     let number : i + 1 ≡ suc i = omega (arith) in
     append_assoc owners (f ∷ []) (map (owned_by f) (drop (i + 1) ops))
     ∙ (ap (λ n. owners ++ (f ∷ map (owned_by f) (drop n ops))) number ∙ ap (λ rest. owners ++ rest) (sym (owner_next f ops i is)))
-
-module _ (starts owners more : List ℕ) (code : FunctionCode) (rest : List FunctionCode) (f : ℕ) (same : more ≡ owners ++ map (owned_by f) code.ops) where
-  pub starts_put : (starts ++ length owners ∷ []) ++ starts_from (length more) rest ≡ starts ++ starts_from (length owners) (code ∷ rest)
-  starts_put =
-      let long : length more ≡ length owners + length code.ops =
-          ap length same
-          ∙ (length-append owners (map (owned_by f) code.ops) ∙ ap (λ n. length owners + n) (length-map code.ops (owned_by f))) in
-      append_assoc starts (length owners ∷ []) (starts_from (length more) rest)
-      ∙ ap (λ n. starts ++ (length owners ∷ starts_from n rest)) long
-
-  pub owners_put : more ++ owners_from (f + 1) rest ≡ owners ++ owners_from f (code ∷ rest)
-  owners_put =
-      let number : f + 1 ≡ suc f = omega (arith) in
-      ap (λ more. more ++ owners_from (f + 1) rest) same
-      ∙ (append_assoc owners (map (owned_by f) code.ops) (owners_from (f + 1) rest)
-      ∙ ap (λ n. owners ++ (map (owned_by f) code.ops ++ owners_from n rest)) number)
 
 -- where the operation of a number is
 pub record IsLocated (functions : List FunctionCode) (n : ℕ) : Type 0 where
@@ -48,6 +33,7 @@ pub record IsLocated (functions : List FunctionCode) (n : ℕ) : Type 0 where
   pub start : slice_get (starts_from 0 functions) p.function ≡ Some (start_of functions p.function)
   pub below : p.function < length (starts_from 0 functions)
 
+-- each number below the count has one
 pub located : (functions : List FunctionCode) (n : ℕ) → n < count_of functions → IsLocated functions n
 located functions n is =
     let it = point_below functions n is in
@@ -74,7 +60,8 @@ module _ (functions : List FunctionCode) (starts owners : List ℕ) (n : ℕ)
 
     pub owner_is : (d : ℕ) → get_or owners n d ≡ (located functions n within).p.function
     owner_is d =
-        get_or_from_slice_get owners n (located functions n within).p.function d (ap (λ list. slice_get list n) owners_are ∙ (located functions n within).owner)
+        get_or_from_slice_get owners n (located functions n within).p.function d
+        (ap (λ list. slice_get list n) owners_are ∙ (located functions n within).owner)
 
     pub start_below : (located functions n within).p.function < length starts
     start_below = let long = ap length starts_are in let below = (located functions n within).below in omega (arith, long)
@@ -87,7 +74,7 @@ module _ (functions : List FunctionCode) (starts owners : List ℕ) (n : ℕ)
     pub start_at_most : (owner start : ℕ) (d e : ℕ) → owner ≡ get_or owners n d → start ≡ get_or starts owner e → start ≤ n
     start_at_most owner start d e owner_at start_at =
         let same : start ≡ start_of functions (located functions n within).p.function =
-            start_at ∙ (ap (λ f. get_or starts f e) (owner_at ∙ owner_is d) ∙ start_is e) in
+        start_at ∙ (ap (λ f. get_or starts f e) (owner_at ∙ owner_is d) ∙ start_is e) in
         let number = (located functions n within).there.number in
         omega (arith, same, number)
 
@@ -96,7 +83,7 @@ module _ (functions : List FunctionCode) (starts owners : List ℕ) (n : ℕ)
     found_point owner start d e owner_at start_at =
         let function : (located functions n within).p.function ≡ owner = sym (owner_at ∙ owner_is d) in
         let same : start ≡ start_of functions (located functions n within).p.function =
-            start_at ∙ (ap (λ f. get_or starts f e) (owner_at ∙ owner_is d) ∙ start_is e) in
+        start_at ∙ (ap (λ f. get_or starts f e) (owner_at ∙ owner_is d) ∙ start_is e) in
         let number = (located functions n within).there.number in
         let place : (located functions n within).p.at ≡ n - start = omega (arith, same, number) in
         λ i. record { function = function i; at = place i }

@@ -5,7 +5,7 @@
 --     IsSmall fact                  the numbers in the fact fit, so that it has a number of its own
 -- Facts are ordered as their numbers are: by the slot (nothing, the result, variables of the program, variables of the function, places, classes, each
 -- by number), and then by the status, the nearest to a hazard first.
-use Rattle.std.specs.Prelude.{◌<◌, ℕ, ◌+◌, ◌-◌, ◌*◌, ◌/◌, ◌%◌, ◌==◌, nat_lt, Bool, true, false, if◌then◌else◌}
+use Rattle.std.specs.Prelude.{◌<◌, ℕ, ◌+◌, ◌-◌, ◌*◌, ◌/◌, ◌%◌, ◌==◌, nat_lt, if◌then◌else◌}
 use Rattle.hs_flow.specs.declared.fact.Fact.{Fact}
 use Rattle.hs_flow.specs.declared.fact.FactStatus.{FactStatus}
 use Rattle.hs_flow.specs.declared.fact.FactStatus.TheVariants as status
@@ -88,9 +88,11 @@ status_of number =
 
 -- ---- facts
 
+-- its number: first the kind of its slot, then the number of the slot, then the status
 abbrev pub code_of : Fact → ℕ
 code_of fact = (rank_of fact.slot * numbers + number_of fact.slot) * statuses + number_of_status fact.status
 
+-- the fact of a number
 abbrev pub fact_of : ℕ → Fact
 fact_of code =
     record {

@@ -6,3 +6,4 @@ pub mod Nodes
 pub mod Points
 pub mod Routes
 pub mod Stepping
+pub mod Using

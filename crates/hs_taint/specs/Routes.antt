@@ -5,7 +5,7 @@
 --     Site, site_of whole n                  the operation of a number, with its function
 --     flow_of whole known                    the graph
 -- A step to an operation that is not there leads to no node. So an operation that falls off the end of its function is the last one of its chains.
-use Rattle.std.specs.Prelude.{ℕ, zero, suc, ◌+◌, ◌-◌, ◌==◌, nat_lt, Bool, true, false, ◌&&◌, List, [], ◌∷◌, ◌++◌, length, map, take, drop, slice_get, Option, Some, None, option_map, if◌then◌else◌}
+use Rattle.std.specs.Prelude.{ℕ, suc, ◌-◌, ◌==◌, nat_lt, Bool, true, false, ◌&&◌, List, [], ◌∷◌, ◌++◌, length, map, take, drop, slice_get, Option, Some, None, option_map, if◌then◌else◌}
 use Rattle.hs_chains.specs.Chains.{first_fact}
 use Rattle.hs_chains.specs.Knowledge.{Knowledge}
 use Rattle.hs_code.specs.Following.{successors_of}
@@ -143,7 +143,7 @@ module _ (whole : WholeCode) (known : Knowledge) where
   leaves_by c s caller last =
       if is_callee (callee_of c.its.op) s.function && (is_return s.its.op && is_there whole.functions c.function (suc c.at))
       then option_map (node_at whole c.function (suc c.at) caller.entered)
-          (left_by s.function c.function c.at (fact_of caller.fact) (next_in whole s.function (known.at s.function s.at) op.Return (fact_of last.fact)))
+      (left_by s.function c.function c.at (fact_of caller.fact) (next_in whole s.function (known.at s.function s.at) op.Return (fact_of last.fact)))
       else None
 
   -- of operations that are there
@@ -159,6 +159,7 @@ module _ (whole : WholeCode) (known : Knowledge) where
 
   -- ---- the graph
 
+  -- by the number of an operation, and of facts
   abbrev pub flow_of : FlowGraph
   flow_of =
       record {

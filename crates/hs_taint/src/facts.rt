@@ -73,7 +73,7 @@ pub(crate) fn following(op: Op, at: u32) -> Successors
     }
 }
 
-/// Puts the facts at the next operation of the same call, those that go over a call too, behind those of the buffer.
+/// Puts the facts at the next operation of the same call, those that go over a call too, after those of the buffer.
 pub(crate) fn put_facts(known: &Known, op: Op, fact: Fact, into: &mut Facts)
     requires numbered { (f : ℕ) → IsNumbered (whole_of known.now.code.now) f }
     requires table { (f : ℕ) → f < length known.now.code.now.functions.items

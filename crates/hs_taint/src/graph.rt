@@ -178,7 +178,14 @@ impl<'a> ProgramGraph<'a> {
             (next_in (whole_in self.now) s.entry.known.function ((known_in self.now).at s.entry.known.function s.entry.known.at) op.Return last) }
     {
         match exit_of(s.known.places, last) {
-            Some(exit) => leave(self.code, s.known.function, self.effects, caller, exit, &c.known),
+            Some(exit) => leave(
+                self.code,
+                s.known.function,
+                self.effects,
+                caller,
+                exit,
+                &c.known,
+            ),
             None => None,
         }
     }

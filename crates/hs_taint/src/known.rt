@@ -103,8 +103,7 @@ impl<'a> Around for Known<'a> {
     fn distinct(&self, a: u32, b: u32) -> bool
         ensures { result ≡ (given_at self.now).distinct a b }
     {
-        self.is_number(a)
-            && (self.is_number(b) && self.must.distinct(self.function, self.at, a, b))
+        self.is_number(a) && (self.is_number(b) && self.must.distinct(self.function, self.at, a, b))
     }
 
     fn locked(&self, h: u32) -> bool

@@ -4,6 +4,10 @@
 mod coding;
 mod facts;
 mod graph;
+mod hazard;
 mod known;
 mod nodes;
 mod operations;
+mod uses;
+
+pub use hazard::{Hazard, HazardKind};

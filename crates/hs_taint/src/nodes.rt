@@ -40,7 +40,7 @@ impl<'a> Call<'a> {
         }
     }
 
-    /// Puts the nodes of the facts at an operation, if it is there, behind those of the list.
+    /// Puts the nodes of the facts at an operation, if it is there, after those of the list.
     fn put_at(&self, facts: &[Fact], at: u32, into: &mut Vec<Node>) -> Result<(), NoMemory>
         ensures { OnOk result (into.new.items ≡ into.old.items
             ++ nodes_in self.now.operations.now.functions.now self.now.function self.now.entered facts.now at) }
@@ -75,7 +75,12 @@ impl<'a> Call<'a> {
     }
 
     /// Puts the nodes at the targets of the cases.
-    fn put_cases(&self, facts: &[Fact], cases: &[Case], into: &mut Vec<Node>) -> Result<(), NoMemory>
+    fn put_cases(
+        &self,
+        facts: &[Fact],
+        cases: &[Case],
+        into: &mut Vec<Node>,
+    ) -> Result<(), NoMemory>
         ensures { OnOk result (into.new.items ≡ into.old.items
             ++ each_in self.now.operations.now.functions.now self.now.function self.now.entered facts.now (map target_of cases.now)) }
     {
@@ -108,9 +113,5 @@ fn part(cases: &[Case], first: usize, end: usize) -> &[Case]
     ensures { result.now ≡ cases_in cases.now first end }
 {
     let end = end.min(cases.len());
-    if first < end {
-        &cases[first..end]
-    } else {
-        &[]
-    }
+    if first < end { &cases[first..end] } else { &[] }
 }

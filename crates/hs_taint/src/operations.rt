@@ -52,11 +52,7 @@ pub(crate) fn number_operations(
 }
 
 /// The same list with the function of each of these operations at its end.
-fn with_owners(
-    mut owners: Vec<u32>,
-    function: u32,
-    ops: &[Placed],
-) -> Result<Vec<u32>, NoMemory>
+fn with_owners(mut owners: Vec<u32>, function: u32, ops: &[Placed]) -> Result<Vec<u32>, NoMemory>
     ensures { IfOk result (λ its. its.items ≡ owners.items ++ map (owned_by function) ops.now) }
 {
     'ops: for _its in ops {

@@ -9,7 +9,7 @@ use Rattle.hs_code.specs.declared.op.Op.TheVariants as op
 use Rattle.hs_effects.specs.Calling.{callee_of}
 use Rattle.hs_facts.specs.Effects.{WholeCode, placed_in}
 use Rattle.hs_flow.specs.Among.{Among}
-use Rattle.hs_flow.specs.Calls.{enter_of, entered, leave_of, over_of}
+use Rattle.hs_flow.specs.Calls.{enter_of, leave_of, over_of}
 use Rattle.hs_flow.specs.Programs.{next_in, parameters_of}
 use Rattle.hs_flow.specs.Slots.{below}
 use Rattle.hs_flow.specs.declared.fact.Fact.{Fact}
@@ -29,7 +29,7 @@ use Rattle.hs_taint.specs.Laws.SmallCalls.{IsSmallProgram, enter_small, leave_sm
 use Rattle.hs_taint.specs.Laws.Ways.{AreCallers, IsChain, entry_is_node, first_small, node_of, start_is, targets_back, way_of}
 use Rattle.hs_taint.specs.Points.{Point, is_there, start_of}
 use Rattle.hs_taint.specs.Routes.{Site, cases_of, facts_after, facts_by, flow_of, is_return, node_at, site_of, targets_of}
-use Rattle.std.proofs.Common.{◌≡◌, ◌<◌, ◌∙◌, ℕ, suc, ◌+◌, ◌-◌, nat_lt, Bool, true, false, if◌then◌else◌, List, [], ◌∷◌, length, slice_get, Option, Some, None, ap, sym, subst, refl, arith}
+use Rattle.std.proofs.Common.{◌≡◌, ◌<◌, ◌∙◌, ℕ, suc, ◌+◌, nat_lt, Bool, true, false, if◌then◌else◌, List, [], ◌∷◌, length, slice_get, Option, Some, None, ap, sym, subst, refl, arith}
 use Rattle.std.proofs.lemmas.Bool.Decides.{nat_tests}
 use Rattle.std.proofs.lemmas.Option.{slice_get_within}
 
@@ -49,7 +49,8 @@ module _ (whole : WholeCode) (known : Knowledge) (fits : IsSmallProgram whole kn
       (enter_small (parameters_of whole f) (known.at c.function c.at) (parameters_small whole known fits f) c.fact callers.2) callers.4
 
   -- and it is the entry of the stack
-  entry_of_callers : (stack : List Spot) (f : ℕ) (entry : Fact) (nodes : List Node) → AreCallers whole known stack f entry nodes → IsEntry whole known stack f entry
+  entry_of_callers : (stack : List Spot) (f : ℕ) (entry : Fact) (nodes : List Node) → AreCallers whole known stack f entry nodes
+      → IsEntry whole known stack f entry
   entry_of_callers [] f entry [] callers = callers
   entry_of_callers [] f entry (node ∷ nodes) callers = absurd callers
   entry_of_callers (c ∷ stack) f entry [] callers = absurd callers
@@ -70,9 +71,11 @@ module _ (whole : WholeCode) (known : Knowledge) (fits : IsSmallProgram whole kn
   some_point : {a b : Point} → Some a ≡ Some b → a ≡ b
   some_point same = cc
 
+  -- its function
   abbrev function_of : Point → ℕ
   function_of p = p.function
 
+  -- its number in the function
   abbrev at_of : Point → ℕ
   at_of p = p.at
 
@@ -96,11 +99,11 @@ module _ (whole : WholeCode) (known : Knowledge) (fits : IsSmallProgram whole kn
       let step = step_of whole known (node_of whole x entry) y has in
       let site = site_is x.function x.at step.s there step.site in
       let node : IsNodeOf whole x.function (code_of entry) (facts_after whole known x.function x.at site.its.op (fact_of (code_of x.fact)))
-          (targets_of (successors_of site.its.op x.at) (cases_of (slice_get whole.functions x.function))) y =
-          subst (λ s. IsNodeOf whole s.function (code_of entry) (facts_after whole known s.function s.at s.its.op (fact_of (code_of x.fact)))
-              (targets_of (successors_of s.its.op s.at) (cases_of (slice_get whole.functions s.function))) y) site.same step.node in
+      (targets_of (successors_of site.its.op x.at) (cases_of (slice_get whole.functions x.function))) y =
+      subst (λ s. IsNodeOf whole s.function (code_of entry) (facts_after whole known s.function s.at s.its.op (fact_of (code_of x.fact)))
+      (targets_of (successors_of s.its.op s.at) (cases_of (slice_get whole.functions s.function))) y) site.same step.node in
       let among : Among (facts_after whole known x.function x.at site.its.op x.fact) node.fact =
-          subst (λ fact. Among (facts_after whole known x.function x.at site.its.op fact) node.fact) (fact_of_code x.fact small) node.has in
+      subst (λ fact. Among (facts_after whole known x.function x.at site.its.op fact) node.fact) (fact_of_code x.fact small) node.has in
       by site.its site.placed node.at node.among node.there node.fact node.is (callee_of site.its.op) refl among
     where
       next : ℕ → Fact → Spot
@@ -119,7 +122,8 @@ module _ (whole : WholeCode) (known : Knowledge) (fits : IsSmallProgram whole kn
       over its g at fact false placed calls after below among = absurd among
 
       by : (its : Placed) → placed_in whole x.function x.at ≡ Some its → (at : ℕ)
-          → Among (targets_of (successors_of its.op x.at) (cases_of (slice_get whole.functions x.function))) at → is_there whole.functions x.function at ≡ true
+          → Among (targets_of (successors_of its.op x.at) (cases_of (slice_get whole.functions x.function))) at
+          → is_there whole.functions x.function at ≡ true
           → (fact : Fact) → y ≡ node_at whole x.function at (code_of entry) fact → (o : Option ℕ) → callee_of its.op ≡ o
           → Among (facts_by whole known o x.function x.at its.op x.fact) fact → IsChain whole known (suc n) y nodes
       by its placed at target at_there fact is None calls among = record {
@@ -166,8 +170,8 @@ module _ (whole : WholeCode) (known : Knowledge) (fits : IsSmallProgram whole kn
       let calls : site.its.op ≡ op.Call step.g = subst (λ s. s.its.op ≡ op.Call step.g) site.same step.calls in
       let parameters : List (Option Slot) = parameters_of whole step.g in
       let gets : enter_of parameters (known.at x.function x.at) x.fact ≡ Some step.fact =
-          subst (λ fact. enter_of parameters (known.at x.function x.at) fact ≡ Some step.fact) (fact_of_code x.fact small)
-          (subst (λ s. enter_of parameters (known.at s.function s.at) (fact_of (code_of x.fact)) ≡ Some step.fact) site.same step.gets) in
+      subst (λ fact. enter_of parameters (known.at x.function x.at) fact ≡ Some step.fact) (fact_of_code x.fact small)
+      (subst (λ s. enter_of parameters (known.at s.function s.at) (fact_of (code_of x.fact)) ≡ Some step.fact) site.same step.gets) in
       let code = code_there whole.functions step.g 0 step.there in
       let below : step.g < length whole.functions = slice_get_within whole.functions step.g code.0 code.1 in
       let first : Spot = record { function = step.g; at = 0; fact = step.fact } in
@@ -197,18 +201,18 @@ module _ (whole : WholeCode) (known : Knowledge) (fits : IsSmallProgram whole kn
       let c_function : step.c.function ≡ c.function = ap (λ s. s.function) caller.same in
       let c_at : step.c.at ≡ c.at = ap (λ s. s.at) caller.same in
       let calls : caller.its.op ≡ op.Call x.function =
-          subst (λ f. caller.its.op ≡ op.Call f) s_function (subst (λ c. c.its.op ≡ op.Call step.s.function) caller.same step.calls) in
+      subst (λ f. caller.its.op ≡ op.Call f) s_function (subst (λ c. c.its.op ≡ op.Call step.s.function) caller.same step.calls) in
       let returns : site.its.op ≡ op.Return = return_is site.its.op (subst (λ s. is_return s.its.op ≡ true) site.same step.returns) in
       let exits : Among (next_in whole x.function (known.at x.function x.at) op.Return x.fact) step.exit =
-          subst (λ fact. Among (next_in whole x.function (known.at x.function x.at) op.Return fact) step.exit) (fact_of_code x.fact small)
-          (subst (λ s. Among (next_in whole s.function (known.at s.function s.at) op.Return (fact_of (code_of x.fact))) step.exit) site.same step.exits) in
+      subst (λ fact. Among (next_in whole x.function (known.at x.function x.at) op.Return fact) step.exit) (fact_of_code x.fact small)
+      (subst (λ s. Among (next_in whole s.function (known.at s.function s.at) op.Return (fact_of (code_of x.fact))) step.exit) site.same step.exits) in
       let gets : leave_of (known.of x.function) (known.at c.function c.at) c.fact step.exit ≡ Some step.fact =
-          subst (λ fact. leave_of (known.of x.function) (known.at c.function c.at) fact step.exit ≡ Some step.fact) (fact_of_code c.fact small_c)
-          (subst (λ f. leave_of (known.of f) (known.at c.function c.at) (fact_of (code_of c.fact)) step.exit ≡ Some step.fact) s_function
-          (subst (λ s. leave_of (known.of step.s.function) (known.at s.function s.at) (fact_of (code_of c.fact)) step.exit ≡ Some step.fact) caller.same
-          step.gets)) in
+      subst (λ fact. leave_of (known.of x.function) (known.at c.function c.at) fact step.exit ≡ Some step.fact) (fact_of_code c.fact small_c)
+      (subst (λ f. leave_of (known.of f) (known.at c.function c.at) (fact_of (code_of c.fact)) step.exit ≡ Some step.fact) s_function
+      (subst (λ s. leave_of (known.of step.s.function) (known.at s.function s.at) (fact_of (code_of c.fact)) step.exit ≡ Some step.fact) caller.same
+      step.gets)) in
       let after_there : is_there whole.functions c.function (suc c.at) ≡ true =
-          subst (λ s. is_there whole.functions s.function (suc s.at) ≡ true) caller.same step.there in
+      subst (λ s. is_there whole.functions s.function (suc s.at) ≡ true) caller.same step.there in
       let code = code_there whole.functions x.function x.at there in
       let below : x.function < length whole.functions = slice_get_within whole.functions x.function code.0 code.1 in
       let after : Spot = record { function = c.function; at = suc c.at; fact = step.fact } in

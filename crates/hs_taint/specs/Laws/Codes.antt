@@ -11,7 +11,6 @@ use Rattle.hs_code.specs.declared.op.Op.{Op}
 use Rattle.hs_facts.specs.Effects.{WholeCode, placed_in}
 use Rattle.hs_facts.specs.Effects.{ops_in}
 use Rattle.hs_flow.specs.Programs.{variables_in}
-use Rattle.hs_flow.specs.Slots.{below}
 use Rattle.hs_flow.specs.declared.fact.Slot.TheVariants as slot
 use Rattle.hs_taint.specs.Coding.{number_of, numbers}
 use Rattle.hs_taint.specs.Laws.Nodes.{there_placed}
@@ -26,7 +25,7 @@ use Rattle.hs_tree.specs.declared.head.Variable.TheVariants as name
 use Rattle.hs_tree.specs.declared.head.Variable.{Variable}
 use Rattle.hs_tree.specs.declared.head.VariableDecl.{VariableDecl}
 use Rattle.hs_types.specs.TypeTables.{TypeTable}
-use Rattle.std.proofs.Common.{◌≡◌, ◌<◌, ◌≤◌, ◌∙◌, ℕ, zero, suc, ◌-◌, true, List, [], ◌∷◌, length, slice_get, Option, Some, None, ap, subst, refl, arith}
+use Rattle.std.proofs.Common.{◌≡◌, ◌<◌, ◌≤◌, ◌∙◌, ℕ, zero, suc, true, List, [], ◌∷◌, length, slice_get, Option, Some, None, ap, subst, refl, arith}
 use Rattle.std.proofs.lemmas.Option.{slice_get_within}
 use Rattle.std.specs.Coded.{le_prop}
 use mathlib.Core.Bool.{Bool-set}

@@ -1,12 +1,12 @@
 -- A fact that fits is the fact of its number.
-use Rattle.std.proofs.Common.{◌≡◌, ◌<◌, ◌∙◌, ℕ, ◌+◌, ◌-◌, ◌*◌, ◌/◌, ◌%◌, ◌==◌, nat_lt, Bool, true, false, if◌then◌else◌, ap, sym, subst, refl, arith}
+use Rattle.std.proofs.Common.{◌≡◌, ◌<◌, ◌∙◌, ℕ, ◌+◌, ◌-◌, ◌*◌, ◌/◌, ◌%◌, ◌==◌, nat_lt, true, false, ap, sym, refl, arith}
 use Rattle.std.proofs.lemmas.Bool.Decides.{nat_tests}
 use Rattle.hs_flow.specs.declared.fact.Fact.{Fact}
 use Rattle.hs_flow.specs.declared.fact.FactStatus.{FactStatus}
 use Rattle.hs_flow.specs.declared.fact.FactStatus.TheVariants as status
 use Rattle.hs_flow.specs.declared.fact.Slot.{Slot}
 use Rattle.hs_flow.specs.declared.fact.Slot.TheVariants as slot
-use Rattle.hs_taint.specs.Coding.{IsSmall, IsSmallStatus, code_of, fact_of, names, number_of, number_of_status, numbers, rank_of, slot_of, status_of, statuses}
+use Rattle.hs_taint.specs.Coding.{IsSmall, IsSmallStatus, code_of, fact_of, number_of, number_of_status, numbers, rank_of, slot_of, status_of, statuses}
 use Rattle.hs_tree.specs.declared.head.Variable.TheVariants as name
 
 -- the digits of a number

@@ -12,7 +12,7 @@ use Rattle.hs_must.specs.Answers.{FunctionAnswers, HasMany, names_in}
 use Rattle.hs_taint.specs.Coding.{names, numbers}
 use Rattle.hs_taint.specs.Laws.Codes.{ops_small}
 use Rattle.hs_taint.specs.Laws.SmallCalls.{IsSmallProgram}
-use Rattle.std.proofs.Common.{◌≡◌, ◌<◌, ◌≤◌, ℕ, ◌-◌, nat_lt, Bool, true, false, not, if◌then◌else◌, List, [], length, Option, Some, None, refl, arith}
+use Rattle.std.proofs.Common.{◌≡◌, ◌<◌, ◌≤◌, ℕ, nat_lt, Bool, true, false, List, length, Option, Some, None, refl, arith}
 use Rattle.std.proofs.lemmas.Bool.Decides.{nat_tests}
 
 few_names : (n : ℕ) → (64 < n → ⊥) → n ≤ names

@@ -7,7 +7,6 @@ use Rattle.hs_code.specs.declared.op.Op.TheVariants as op
 use Rattle.hs_code.specs.declared.op.Op.{Op}
 use Rattle.hs_effects.specs.Calling.{callee_of}
 use Rattle.hs_flow.specs.Among.{Among}
-use Rattle.hs_flow.specs.Slots.{below}
 use Rattle.hs_taint.specs.Routes.{cases_in, is_return, target_of, targets_of}
 use Rattle.std.proofs.Common.{◌≡◌, ◌<◌, ◌≤◌, inl, inr, ◌∙◌, ℕ, zero, suc, ◌+◌, ◌-◌, true, List, [], ◌∷◌, map, slice_get, take, Some, ap, sym, subst, refl, arith}
 use Rattle.std.specs.Prelude.{drop}

@@ -1,6 +1,6 @@
 -- The graph of a program keeps to its calls.
 --     framed                        if main has an operation
-use Rattle.hs_chains.specs.Chains.{enters, first_fact, goes, leaves}
+use Rattle.hs_chains.specs.Chains.{first_fact}
 use Rattle.hs_chains.specs.Knowledge.{Knowledge}
 use Rattle.hs_code.specs.Following.{successors_of}
 use Rattle.hs_code.specs.declared.function_code.Case.{Case}
@@ -10,7 +10,6 @@ use Rattle.hs_effects.specs.Calling.{callee_of}
 use Rattle.hs_facts.specs.Effects.{WholeCode}
 use Rattle.hs_flow.specs.Among.{Among}
 use Rattle.hs_flow.specs.Calls.{entered}
-use Rattle.hs_flow.specs.Given.{apart}
 use Rattle.hs_flow.specs.declared.fact.Fact.{Fact}
 use Rattle.hs_search.specs.Graphs.{Has, IsFramed}
 use Rattle.hs_search.specs.declared.graph.Node.{Node}
@@ -19,10 +18,11 @@ use Rattle.hs_taint.specs.Laws.Following.{return_is}
 use Rattle.hs_taint.specs.Laws.Nodes.{entered_of, entry_of, left_of, node_below, point_there, site_there, step_of}
 use Rattle.hs_taint.specs.Points.{Point, count_of, is_there, point_of, start_of}
 use Rattle.hs_taint.specs.Routes.{Site, cases_of, ends_at, enters_at, enters_by, entry_at, entry_node, facts_after, flow_of, node_at, nodes_each, site_of, steps_at, targets_of}
-use Rattle.std.proofs.Common.{◌≡◌, ◌<◌, inl, inr, ◌∙◌, ℕ, suc, ◌+◌, ◌-◌, Bool, true, List, [], slice_get, Option, Some, None, ap, sym, subst, refl, arith}
+use Rattle.std.proofs.Common.{◌≡◌, ◌<◌, inl, inr, ◌∙◌, ℕ, suc, ◌+◌, Bool, true, List, [], slice_get, Option, Some, None, ap, sym, subst, refl, arith}
 
 module _ (whole : WholeCode) (known : Knowledge) where
-  entry_at_point : (n : ℕ) (p : Point) → point_of whole.functions n ≡ Some p → entry_at whole known (point_of whole.functions n) ≡ start_of whole.functions p.function
+  entry_at_point : (n : ℕ) (p : Point) → point_of whole.functions n ≡ Some p → entry_at whole known
+      (point_of whole.functions n) ≡ start_of whole.functions p.function
   entry_at_point n p is = ap (entry_at whole known) is
 
   -- the node with which the call of a node began, by its function
@@ -39,7 +39,8 @@ module _ (whole : WholeCode) (known : Knowledge) where
       → (flow_of whole known).entry x ≡ record { at = start_of whole.functions s.function; fact = x.entered; entered = x.entered }
   entry_of_site x s is = entry_is x (record { function = s.function; at = s.at }) (site_there whole x.at s is).point
 
-  entry_of_entry : (f : ℕ) (fact : Fact) → is_there whole.functions f 0 ≡ true → (flow_of whole known).entry (entry_node whole f fact) ≡ entry_node whole f fact
+  entry_of_entry : (f : ℕ) (fact : Fact) → is_there whole.functions f 0 ≡ true → (flow_of whole known).entry
+      (entry_node whole f fact) ≡ entry_node whole f fact
   entry_of_entry f fact there = entry_is (entry_node whole f fact) (record { function = f; at = 0 }) (entry_of whole.functions f there).0
 
   by_step : (x y : Node) → Has ((flow_of whole known).steps x) y → (flow_of whole known).entry y ≡ (flow_of whole known).entry x
@@ -86,10 +87,11 @@ module _ (whole : WholeCode) (known : Knowledge) where
   no_steps : (o : Option Site) (x : Node) → ends_at whole known o ≡ true → (steps_at whole known o x ≡ []) × (enters_at whole known o x ≡ None)
   no_steps None x is = absurd (cc)
   no_steps (Some s) x is =
-      let returns = return_is s.its.op is in
-      (ap (λ its. nodes_each whole s.function x.entered (facts_after whole known s.function s.at its (fact_of x.fact))
-          (targets_of (successors_of its s.at) (cases_of (slice_get whole.functions s.function)))) returns,
-      ap (λ its. enters_by whole known (callee_of its) s.function s.at (fact_of x.fact)) returns)
+      let returns = return_is s.its.op is in (
+        ap (λ its. nodes_each whole s.function x.entered (facts_after whole known s.function s.at its (fact_of x.fact))
+            (targets_of (successors_of its s.at) (cases_of (slice_get whole.functions s.function)))) returns,
+        ap (λ its. enters_by whole known (callee_of its) s.function s.at (fact_of x.fact)) returns,
+      )
 
   some_point : {a b : Point} → Some a ≡ Some b → a ≡ b
   some_point same = cc
@@ -103,6 +105,7 @@ module _ (whole : WholeCode) (known : Knowledge) where
   suc_no_zero : (at : ℕ) → suc at ≡ 0 → ⊥
   suc_no_zero at same = omega (arith)
 
+  -- its number in the function
   abbrev at_of : Point → ℕ
   at_of p = p.at
 
@@ -122,12 +125,12 @@ module _ (whole : WholeCode) (known : Knowledge) where
       let calls : step.s.its.op ≡ op.Call call.g = subst (λ s. s.its.op ≡ op.Call call.g) site call.calls in
       let next = after_call step.s.its.op call.g step.s.at step.node.at (cases_of (slice_get whole.functions step.s.function)) calls step.node.among in
       let number : start_of whole.functions step.s.function + step.node.at ≡ start_of whole.functions call.g =
-          ap (λ y. y.at) (sym step.node.is) ∙ (same ∙ ap (λ b. b.at) call.is) in
+      ap (λ y. y.at) (sym step.node.is) ∙ (same ∙ ap (λ b. b.at) call.is) in
       let before : Point = record { function = step.s.function; at = step.node.at } in
       let first : Point = record { function = call.g; at = 0 } in
       let points : before ≡ first =
-          some_point (sym (point_there whole.functions step.s.function step.node.at step.node.there)
-          ∙ (ap (point_of whole.functions) number ∙ (entry_of whole.functions call.g call.there).0)) in
+      some_point (sym (point_there whole.functions step.s.function step.node.at step.node.there)
+      ∙ (ap (point_of whole.functions) number ∙ (entry_of whole.functions call.g call.there).0)) in
       absurd (suc_no_zero step.s.at (sym next ∙ ap at_of points))
 
   -- if main has an operation

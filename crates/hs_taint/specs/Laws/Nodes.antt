@@ -3,7 +3,6 @@
 --     point_there, node_below, entry_of   operations that are there
 --     site_there, site_of_number          the operation of a number
 --     step_of, entered_of, left_of        what the steps are
-use Rattle.hs_chains.specs.Chains.{enters, leaves}
 use Rattle.hs_chains.specs.Knowledge.{Knowledge}
 use Rattle.hs_code.specs.Following.{successors_of}
 use Rattle.hs_code.specs.declared.function_code.FunctionCode.{FunctionCode}
@@ -13,11 +12,11 @@ use Rattle.hs_effects.specs.Calling.{callee_of}
 use Rattle.hs_facts.specs.Effects.{WholeCode, placed_in}
 use Rattle.hs_facts.specs.Effects.{ops_in}
 use Rattle.hs_flow.specs.Among.{Among}
-use Rattle.hs_flow.specs.Calls.{back, enter_of, entered, leave_of, left}
+use Rattle.hs_flow.specs.Calls.{enter_of, leave_of}
 use Rattle.hs_flow.specs.Given.{Given}
 use Rattle.hs_flow.specs.Next.{at_each}
 use Rattle.hs_flow.specs.Programs.{next_in, parameters_of}
-use Rattle.hs_flow.specs.Slots.{below, returned, slot_if}
+use Rattle.hs_flow.specs.Slots.{returned, slot_if}
 use Rattle.hs_flow.specs.declared.fact.Fact.{Fact}
 use Rattle.hs_flow.specs.declared.fact.FactStatus.{FactStatus}
 use Rattle.hs_flow.specs.declared.fact.Slot.TheVariants as slot
@@ -30,10 +29,7 @@ use Rattle.hs_taint.specs.Laws.Points.{number_below, point_number}
 use Rattle.hs_taint.specs.Nodes.{nodes_in}
 use Rattle.hs_taint.specs.Points.{Point, count_of, is_there, point_of, start_of}
 use Rattle.hs_taint.specs.Routes.{Site, cases_of, enters_at, enters_by, entry_node, facts_after, flow_of, is_callee, is_return, leaves_at, leaves_by, left_by, node_at, nodes_each, site_at, site_by, site_of, steps_at, targets_of}
-use Rattle.hs_tree.specs.declared.class.Class.{Class}
-use Rattle.hs_tree.specs.declared.globals.Global.{Global}
 use Rattle.hs_tree.specs.declared.head.Variable.TheVariants as name
-use Rattle.hs_tree.specs.declared.head.Variable.{Variable}
 use Rattle.std.proofs.Common.{⊎_elim}
 use Rattle.std.proofs.Common.{◌≡◌, ◌<◌, ◌⊎◌, inl, inr, ◌∙◌, ℕ, suc, ◌+◌, ◌-◌, ◌==◌, nat_lt, Bool, true, false, ◌&&◌, if◌then◌else◌, List, [], ◌∷◌, ◌++◌, length, map, slice_get, Option, Some, None, ap, sym, subst, refl, arith}
 use Rattle.std.proofs.lemmas.Bool.Decides.{nat_tests}
@@ -228,7 +224,7 @@ module _ (whole : WholeCode) (known : Knowledge) where
   entered_by x y s None site calls is = absurd (cc)
   entered_by x y s (Some g) site calls is =
       let guard = guard_is (is_there whole.functions g 0)
-          (option_map (entry_node whole g) (enter_of (parameters_of whole g) (known.at s.function s.at) (fact_of x.fact))) y is in
+      (option_map (entry_node whole g) (enter_of (parameters_of whole g) (known.at s.function s.at) (fact_of x.fact))) y is in
       let it = mapped_is (entry_node whole g) (enter_of (parameters_of whole g) (known.at s.function s.at) (fact_of x.fact)) y guard.1 in
       record { s = s; site = site; g = g; calls = is_call s.its.op g calls; there = guard.0; fact = it.0; gets = it.1; is = it.2 }
 
@@ -266,7 +262,7 @@ module _ (whole : WholeCode) (known : Knowledge) where
       let left : Option Fact = left_by whole known s.function c.function c.at (fact_of caller.fact) exits in
       let rest : Bool = is_return s.its.op && is_there whole.functions c.function (suc c.at) in
       let guard =
-          guard_is (is_callee (callee_of c.its.op) s.function && rest) (option_map (node_at whole c.function (suc c.at) caller.entered) left) y is in
+      guard_is (is_callee (callee_of c.its.op) s.function && rest) (option_map (node_at whole c.function (suc c.at) caller.entered) left) y is in
       let it = mapped_is (node_at whole c.function (suc c.at) caller.entered) left y guard.1 in
       let exit = first_exit s.function c.function c.at (fact_of caller.fact) it.0 exits it.1 in
       let callee = and_left (is_callee (callee_of c.its.op) s.function) rest guard.0 in

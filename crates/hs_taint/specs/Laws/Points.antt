@@ -11,13 +11,15 @@ use Rattle.hs_code.specs.declared.function_code.Placed.{Placed}
 use Rattle.hs_taint.specs.Points.{Point, count_of, later, owned_by, owners_from, point_of, start_of, starts_from}
 
 -- in the first function
-point_first : (code : FunctionCode) (rest : List FunctionCode) (n : ℕ) → n < length code.ops → point_of (code ∷ rest) n ≡ Some (record { function = 0; at = n })
+point_first : (code : FunctionCode) (rest : List FunctionCode) (n : ℕ) → n < length code.ops → point_of (code ∷ rest) n ≡ Some
+    (record { function = 0; at = n })
 point_first code rest n is =
     let inside : nat_lt n (length code.ops) ≡ true = grind (arith, nat_tests) in
     ap (λ b. if b then Some (record { function = 0; at = n }) else later (point_of rest (n - length code.ops))) inside
 
 -- in one after it
-point_later : (code : FunctionCode) (rest : List FunctionCode) (n : ℕ) → length code.ops ≤ n → point_of (code ∷ rest) n ≡ later (point_of rest (n - length code.ops))
+point_later : (code : FunctionCode) (rest : List FunctionCode) (n : ℕ) → length code.ops ≤ n → point_of (code ∷ rest) n ≡ later
+    (point_of rest (n - length code.ops))
 point_later code rest n is =
     let outside : nat_lt n (length code.ops) ≡ false = grind (arith, nat_tests) in
     ap (λ b. if b then Some (record { function = 0; at = n }) else later (point_of rest (n - length code.ops))) outside
@@ -87,7 +89,8 @@ number_below (first ∷ rest) (suc f) at code there is =
 
 -- ---- as lists
 
-starts_at : (before : ℕ) (functions : List FunctionCode) (f : ℕ) → f < length functions → slice_get (starts_from before functions) f ≡ Some (before + start_of functions f)
+starts_at : (before : ℕ) (functions : List FunctionCode) (f : ℕ) → f < length functions → slice_get (starts_from before functions) f ≡ Some
+    (before + start_of functions f)
 starts_at before [] f is = absurd (omega (arith))
 starts_at before (code ∷ rest) zero is = ap Some (number before)
   where

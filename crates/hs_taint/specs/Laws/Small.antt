@@ -2,7 +2,7 @@
 --     SmallSlots, SmallFacts         each of them fits
 --     SmallOp                        the numbers in an operation fit
 --     after_small                    and so do those of the slots after it
-use Rattle.std.proofs.Common.{◌<◌, inl, inr, ℕ, ◌+◌, ◌-◌, ◌==◌, nat_lt, Bool, true, false, if◌then◌else◌, List, [], ◌∷◌, ◌++◌, sym, subst, arith}
+use Rattle.std.proofs.Common.{◌<◌, inl, inr, ℕ, ◌-◌, ◌==◌, nat_lt, Bool, true, false, if◌then◌else◌, List, [], ◌∷◌, ◌++◌, sym, subst, arith}
 use Rattle.hs_code.specs.Stacks.{Scope}
 use Rattle.hs_code.specs.declared.op.Access.TheVariants as access
 use Rattle.hs_code.specs.declared.op.Op.{Op}
@@ -16,8 +16,6 @@ use Rattle.hs_flow.specs.declared.fact.FactStatus.{FactStatus}
 use Rattle.hs_flow.specs.declared.fact.Slot.{Slot}
 use Rattle.hs_flow.specs.declared.fact.Slot.TheVariants as slot
 use Rattle.hs_taint.specs.Coding.{IsSmall, IsSmallStatus, number_of, numbers}
-use Rattle.hs_tree.specs.declared.class.Class.{Class}
-use Rattle.hs_tree.specs.declared.globals.Global.{Global}
 use Rattle.hs_tree.specs.declared.head.Variable.{Variable}
 use Rattle.hs_tree.specs.declared.head.Variable.TheVariants as name
 
@@ -112,12 +110,14 @@ module _ (scope : Scope) (depth : ℕ) (of : Slot) (deep : depth < numbers) (sma
   low_small = omega (arith)
 
   get_small : (v : Variable) → SmallSlots (get_slots v depth of)
-  get_small v = slots_append (below depth of) (slot_if (is_variable v of) (slot.Place depth)) (below_small depth of small) (slots_if (is_variable v of) (slot.Place depth) deep)
+  get_small v = slots_append (below depth of) (slot_if (is_variable v of) (slot.Place depth)) (below_small depth of small)
+      (slots_if (is_variable v of) (slot.Place depth) deep)
 
   set_small : (v : Variable) → IsSmallSlot (slot.Variable v) → SmallSlots (set_slots v depth of)
   set_small v is =
       slots_either (is_variable v of) [] (below depth of ++ slot_if (is_place (depth - 1) of) (slot.Variable v)) tt
-      (slots_append (below depth of) (slot_if (is_place (depth - 1) of) (slot.Variable v)) (below_small depth of small) (slots_if (is_place (depth - 1) of) (slot.Variable v) is))
+      (slots_append (below depth of) (slot_if (is_place (depth - 1) of) (slot.Variable v)) (below_small depth of small)
+      (slots_if (is_place (depth - 1) of) (slot.Variable v) is))
 
   load_small : (class : ℕ) → SmallSlots (load_slots class (depth - 1) of)
   load_small class =
@@ -131,11 +131,13 @@ module _ (scope : Scope) (depth : ℕ) (of : Slot) (deep : depth < numbers) (sma
   value_small = placed_small (depth - 1) (slot.Place (depth - 2) ∷ []) (depth - 2) of (low_small, tt) small
 
   dup_small : SmallSlots (dup_slots depth of)
-  dup_small = slots_append (below depth of) (slot_if (is_place (depth - 1) of) (slot.Place depth)) (below_small depth of small) (slots_if (is_place (depth - 1) of) (slot.Place depth) deep)
+  dup_small = slots_append (below depth of) (slot_if (is_place (depth - 1) of) (slot.Place depth)) (below_small depth of small)
+      (slots_if (is_place (depth - 1) of) (slot.Place depth) deep)
 
   tuck_small : SmallSlots (tuck_slots depth of)
   tuck_small =
-      slots_either (is_place (depth - 2) of) (slot.Place (depth - 1) ∷ []) (placed_at (depth - 1) (slot.Place (depth - 2) ∷ slot.Place depth ∷ []) (depth - 2) of) (top_small, tt)
+      slots_either (is_place (depth - 2) of) (slot.Place (depth - 1) ∷ [])
+      (placed_at (depth - 1) (slot.Place (depth - 2) ∷ slot.Place depth ∷ []) (depth - 2) of) (top_small, tt)
       (placed_small (depth - 1) (slot.Place (depth - 2) ∷ slot.Place depth ∷ []) (depth - 2) of (low_small, (deep, tt)) small)
 
   taken_small : (its : Op) → SmallSlots (below (depth - taken scope its) of)

@@ -24,9 +24,7 @@ use Rattle.hs_tree.specs.Representatives.{type_for}
 use Rattle.hs_tree.specs.Trees.{TypedFunction}
 use Rattle.hs_tree.specs.declared.class.Class.TheVariants as class
 use Rattle.hs_tree.specs.declared.class.Class.{Class}
-use Rattle.hs_tree.specs.declared.globals.Global.{Global}
 use Rattle.hs_tree.specs.declared.head.Variable.TheVariants as name
-use Rattle.hs_tree.specs.declared.head.Variable.{Variable}
 use Rattle.hs_tree.specs.declared.head.VariableDecl.{VariableDecl}
 use Rattle.hs_tree.specs.declared.representatives.Representatives.{Representatives}
 use Rattle.hs_types.specs.TypeTables.{TypeTable}
@@ -80,17 +78,19 @@ held_if_small false = tt
 
 module _ (callee : Callee) (given : Given) where
   passed_small : (its : FactStatus) (of : Slot) → IsSmallStatus its → IsSmallSlot of → SmallFacts (passed callee given its of)
-  passed_small status.IsHandle of small number =
-      (record { number = number; status = tt },
-      facts_append (also_if callee.marks status.Purgeable of)
-      (also_if (callee.marks && callee.purges && not (is_slot_kept callee given of)) status.Hollow of)
-      (facts_also callee.marks status.Purgeable of tt number)
-      (facts_also (callee.marks && callee.purges && not (is_slot_kept callee given of)) status.Hollow of tt number))
+  passed_small status.IsHandle of small number = (
+    record { number = number; status = tt },
+    facts_append (also_if callee.marks status.Purgeable of)
+        (also_if (callee.marks && callee.purges && not (is_slot_kept callee given of)) status.Hollow of)
+        (facts_also callee.marks status.Purgeable of tt number)
+        (facts_also (callee.marks && callee.purges && not (is_slot_kept callee given of)) status.Hollow of tt number),
+  )
   passed_small status.Purgeable of small number =
       (record { number = number; status = tt }, facts_also (callee.purges && not (is_slot_kept callee given of)) status.Hollow of tt number)
-  passed_small (status.Fresh h) of small number =
-      (record { number = number; status = fresh_small (assigns_name callee given h) h small },
-      facts_also (callee.moves && not (is_kept callee given h)) status.Stale of tt number)
+  passed_small (status.Fresh h) of small number = (
+    record { number = number; status = fresh_small (assigns_name callee given h) h small },
+    facts_also (callee.moves && not (is_kept callee given h)) status.Stale of tt number,
+  )
   passed_small status.Held of small number =
       (record { number = number; status = held_if_small (not callee.unlocks) }, facts_also (callee.moves && callee.unlocks) status.Stale of tt number)
   passed_small status.Outer of small number = (record { number = number; status = tt }, facts_also callee.moves status.Stale of tt number)
@@ -211,9 +211,11 @@ module _ (types : TypeTable) (same : Representatives) (classes : List Class) (fe
 
   slots_small : (place : ℕ) (its : List VariableDecl) → place + length its ≤ numbers → SmallParameters (parameter_slots types same classes place its)
   slots_small place [] fit = tt
-  slots_small place (it ∷ rest) fit =
-      (if_either (is_slot types it) (Some (slot.Variable (name.Local place))) (object_slot types same classes it.type_id) (omega (arith)) (object_small it.type_id),
-      slots_small (suc place) rest (omega (arith)))
+  slots_small place (it ∷ rest) fit = (
+    if_either (is_slot types it) (Some (slot.Variable (name.Local place))) (object_slot types same classes it.type_id) (omega (arith))
+        (object_small it.type_id),
+    slots_small (suc place) rest (omega (arith)),
+  )
 
 parameters_below : (o : Option TypedFunction) → length (variables_in o) ≤ numbers → length (parameters_in o) ≤ numbers
 parameters_below None few = omega (arith)
@@ -242,4 +244,5 @@ module _ (whole : WholeCode) (known : Knowledge) (fits : IsSmallProgram whole kn
   pub step_small : (f at : ℕ) (its : Placed) (fact : Fact) → placed_in whole f at ≡ Some its → IsSmall fact
       → SmallFacts (next_in whole f (known.at f at) its.op fact)
   step_small f at its fact there small =
-      next_small (scope_at whole f) (length whole.classes) (known.at f at) (scope_small f) (fits.places f at) (fits.named f at) fact small its.op (fits.ops f at its there)
+      next_small (scope_at whole f) (length whole.classes) (known.at f at) (scope_small f) (fits.places f at) (fits.named f at) fact small its.op
+      (fits.ops f at its there)

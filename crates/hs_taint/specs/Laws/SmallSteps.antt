@@ -18,7 +18,6 @@ use Rattle.hs_flow.specs.declared.fact.Slot.{Slot}
 use Rattle.hs_flow.specs.declared.fact.Slot.TheVariants as slot
 use Rattle.hs_table.specs.declared.role.Role.{Role}
 use Rattle.hs_taint.specs.Coding.{IsSmall, IsSmallStatus, names, numbers}
-use Rattle.hs_tree.specs.declared.class.Class.{Class}
 use Rattle.hs_tree.specs.declared.globals.Global.{Global}
 use Rattle.hs_tree.specs.declared.head.Variable.{Variable}
 use Rattle.hs_tree.specs.declared.head.Variable.TheVariants as name
@@ -106,9 +105,10 @@ module _ (given : Given) (its : FactStatus) (of : Slot) (named : length given.na
     where
       by : (its : FactStatus) → IsSmallStatus its → SmallFacts (kept given role argument its of)
       by status.Held is = (record { number = number; status = held_small (unlocks_by given.restores role) }, tt)
-      by status.IsHandle is =
-          (record { number = number; status = tt },
-          facts_also (marks_by given.restores role && not (apart given of argument)) status.Purgeable of tt number)
+      by status.IsHandle is = (
+        record { number = number; status = tt },
+        facts_also (marks_by given.restores role && not (apart given of argument)) status.Purgeable of tt number,
+      )
       by status.Purgeable is = facts_also (not (unmarks_by role && share_name given of argument)) status.Purgeable of tt number
       by (status.Fresh h) is = (record { number = number; status = is }, tt)
       by status.Stale is = (record { number = number; status = tt }, tt)
@@ -155,7 +155,8 @@ pub record IsSmallScope (scope : Scope) (classes : ℕ) : Type 0 where
   pub locals : length scope.variables ≤ numbers
   pub classes_fit : classes ≤ numbers
 
-module _ (scope : Scope) (classes : ℕ) (given : Given) (fits : IsSmallScope scope classes) (deep : given.places < numbers) (named : length given.names ≤ names) where
+module _ (scope : Scope) (classes : ℕ) (given : Given) (fits : IsSmallScope scope classes) (deep : given.places < numbers)
+    (named : length given.names ≤ names) where
   restorable_small : (base : ℕ) → base ≤ numbers → SmallSlots (restorable scope classes base)
   restorable_small base few =
       slots_append (pointer_globals scope.types 0 scope.globals)
@@ -184,10 +185,12 @@ module _ (scope : Scope) (classes : ℕ) (given : Given) (fits : IsSmallScope sc
   -- the facts after an operation
   module _ (fact : Fact) (small : IsSmall fact) where
     carried_small : (its : Op) → SmallOp its → SmallFacts (carried scope its given.places fact)
-    carried_small its is = facts_each fact.status (slots_after scope its given.places fact.slot) small.status (after_small scope given.places fact.slot deep small.number its is)
+    carried_small its is = facts_each fact.status (slots_after scope its given.places fact.slot) small.status
+        (after_small scope given.places fact.slot deep small.number its is)
 
     moved_small : (first : Bool) → SmallFacts (stepped (pointer_place first given.places) (given.places - 2) fact.status fact.slot)
-    moved_small first = stepped_small given fact.status fact.slot named small.status small.number (pointer_place first given.places) (given.places - 2) (omega (arith))
+    moved_small first = stepped_small given fact.status fact.slot named small.status small.number (pointer_place first given.places)
+        (given.places - 2) (omega (arith))
 
     routine_small : (number : ℕ) → SmallFacts (routine_next scope classes given number (given.places - taken scope (op.Routine number)) fact.status fact.slot)
     routine_small number =
@@ -211,7 +214,8 @@ module _ (scope : Scope) (classes : ℕ) (given : Given) (fits : IsSmallScope sc
         (carried_small (op.Offset bytes) is)
         (stepped_small given fact.status fact.slot named small.status small.number (given.places - 1) (given.places - 1) (omega (arith)))
     next_small (op.Step stride first) is =
-        facts_append (carried scope (op.Step stride first) given.places fact) (stepped (pointer_place first given.places) (given.places - 2) fact.status fact.slot)
+        facts_append (carried scope (op.Step stride first) given.places fact)
+        (stepped (pointer_place first given.places) (given.places - 2) fact.status fact.slot)
         (carried_small (op.Step stride first) is) (moved_small first)
     next_small (op.Shift number) is =
         facts_append (carried scope (op.Shift number) given.places fact) (shifted (purges_in (slice_get scope.routines number)) given fact.status fact.slot)

@@ -13,9 +13,8 @@ use Rattle.hs_effects.specs.Calling.{callee_of}
 use Rattle.hs_facts.specs.Effects.{WholeCode}
 use Rattle.hs_facts.specs.Effects.{ops_in}
 use Rattle.hs_flow.specs.Among.{Among}
-use Rattle.hs_flow.specs.Calls.{back, enter_of, entered, leave_of, left, over_of}
+use Rattle.hs_flow.specs.Calls.{enter_of, leave_of, over_of}
 use Rattle.hs_flow.specs.Programs.{next_in, parameters_of}
-use Rattle.hs_flow.specs.Slots.{below}
 use Rattle.hs_flow.specs.declared.fact.Fact.{Fact}
 use Rattle.hs_flow.specs.declared.fact.Slot.{Slot}
 use Rattle.hs_search.specs.Chains.{Chain as Way, begins as starts, goes_on, goes_in, goes_back}
@@ -31,7 +30,7 @@ use Rattle.hs_taint.specs.Laws.Small.{SmallFacts}
 use Rattle.hs_taint.specs.Laws.SmallCalls.{IsSmallProgram, enter_small, leave_small, over_small, parameters_small, small_some, step_small}
 use Rattle.hs_taint.specs.Points.{is_there, start_of}
 use Rattle.hs_taint.specs.Routes.{cases_of, enters_at, enters_by, entry_node, facts_after, facts_by, flow_of, is_callee, is_return, leaves_at, leaves_by, left_by, node_at, site_of, steps_at, targets_of}
-use Rattle.std.proofs.Common.{◌≡◌, inl, ◌∙◌, ℕ, suc, ◌+◌, ◌-◌, ◌==◌, nat_lt, true, ◌&&◌, if◌then◌else◌, List, [], ◌∷◌, length, slice_get, Option, Some, None, ap, sym, subst, refl, arith}
+use Rattle.std.proofs.Common.{◌≡◌, inl, ◌∙◌, ℕ, suc, ◌+◌, ◌==◌, nat_lt, true, ◌&&◌, if◌then◌else◌, List, [], ◌∷◌, length, slice_get, Option, Some, None, ap, sym, subst, refl, arith}
 use Rattle.std.proofs.lemmas.Bool.Decides.{nat_tests}
 use Rattle.std.specs.Prelude.{option_map}
 
@@ -119,18 +118,19 @@ module _ (whole : WholeCode) (known : Knowledge) where
         let fact : fact_of (code_of x.fact) ≡ x.fact = fact_of_code x.fact before.small in
         let site = site_of_number whole x.function x.at step.its step.there in
         let among : Among (facts_after whole known x.function x.at step.its.op (fact_of (code_of x.fact))) y.fact =
-            subst (λ fact. Among (facts_after whole known x.function x.at step.its.op fact) y.fact) (sym fact)
-            (no_call x.function x.at step.its.op x.fact y.fact step.has) in
+        subst (λ fact. Among (facts_after whole known x.function x.at step.its.op fact) y.fact) (sym fact)
+        (no_call x.function x.at step.its.op x.fact y.fact step.has) in
         let target = targets_there (slice_get whole.functions x.function) x.at y.at step.its step.there step.follows in
         let y_there : is_there whole.functions x.function y.at ≡ true = subst (λ f. is_there whole.functions f y.at ≡ true) step.same there in
         let node : Has (steps_at whole known (Some (record { function = x.function; at = x.at; its = step.its })) (node_of whole x before.entry))
-            (node_at whole x.function y.at (code_of before.entry) y.fact) =
-            nodes_of_each whole x.function (code_of before.entry)
-            (facts_after whole known x.function x.at step.its.op (fact_of (code_of x.fact)))
-            (targets_of (successors_of step.its.op x.at) (cases_of (slice_get whole.functions x.function))) y.at y.fact target y_there among in
+        (node_at whole x.function y.at (code_of before.entry) y.fact) =
+        nodes_of_each whole x.function (code_of before.entry)
+        (facts_after whole known x.function x.at step.its.op (fact_of (code_of x.fact)))
+        (targets_of (successors_of step.its.op x.at) (cases_of (slice_get whole.functions x.function))) y.at y.fact target y_there among in
         let has : Has ((flow_of whole known).steps (node_of whole x before.entry)) (node_of whole y before.entry) =
-            subst (λ f. Has ((flow_of whole known).steps (node_of whole x before.entry)) (node_at whole f y.at (code_of before.entry) y.fact)) (sym step.same)
-            (subst (λ o. Has (steps_at whole known o (node_of whole x before.entry)) (node_at whole x.function y.at (code_of before.entry) y.fact)) (sym site) node) in
+        subst (λ f. Has ((flow_of whole known).steps (node_of whole x before.entry)) (node_at whole f y.at (code_of before.entry) y.fact)) (sym step.same)
+        (subst (λ o. Has (steps_at whole known o (node_of whole x before.entry)) (node_at whole x.function y.at (code_of before.entry) y.fact))
+        (sym site) node) in
         record {
           entry = before.entry;
           nodes = before.nodes;
@@ -150,21 +150,22 @@ module _ (whole : WholeCode) (known : Knowledge) where
         let callee : callee_of its.op ≡ Some step.callee = ap callee_of step.call.calls in
         let inside : nat_lt step.callee (length whole.functions) ≡ true = let below = step.call.of_function in grind (arith, nat_tests) in
         let over : Among (facts_by whole known (Some step.callee) x.function x.at its.op x.fact) y.fact =
-            subst (λ b. Among (if b then over_of (known.of step.callee) (known.at x.function x.at) x.fact else []) y.fact) (sym inside) step.has in
+        subst (λ b. Among (if b then over_of (known.of step.callee) (known.at x.function x.at) x.fact else []) y.fact) (sym inside) step.has in
         let among : Among (facts_after whole known x.function x.at its.op (fact_of (code_of x.fact))) y.fact =
-            subst (λ fact. Among (facts_after whole known x.function x.at its.op fact) y.fact) (sym fact)
-            (subst (λ o. Among (facts_by whole known o x.function x.at its.op x.fact) y.fact) (sym callee) over) in
+        subst (λ fact. Among (facts_after whole known x.function x.at its.op fact) y.fact) (sym fact)
+        (subst (λ o. Among (facts_by whole known o x.function x.at its.op x.fact) y.fact) (sym callee) over) in
         let target : Among (targets_of (successors_of its.op x.at) (cases_of (slice_get whole.functions x.function))) y.at =
-            subst (λ o. Among (targets_of (successors_of o x.at) (cases_of (slice_get whole.functions x.function))) y.at) (sym step.call.calls) (inl step.next) in
+        subst (λ o. Among (targets_of (successors_of o x.at) (cases_of (slice_get whole.functions x.function))) y.at) (sym step.call.calls) (inl step.next) in
         let y_there : is_there whole.functions x.function y.at ≡ true = subst (λ f. is_there whole.functions f y.at ≡ true) step.same there in
         let node : Has (steps_at whole known (Some (record { function = x.function; at = x.at; its = its })) (node_of whole x before.entry))
-            (node_at whole x.function y.at (code_of before.entry) y.fact) =
-            nodes_of_each whole x.function (code_of before.entry)
-            (facts_after whole known x.function x.at its.op (fact_of (code_of x.fact)))
-            (targets_of (successors_of its.op x.at) (cases_of (slice_get whole.functions x.function))) y.at y.fact target y_there among in
+        (node_at whole x.function y.at (code_of before.entry) y.fact) =
+        nodes_of_each whole x.function (code_of before.entry)
+        (facts_after whole known x.function x.at its.op (fact_of (code_of x.fact)))
+        (targets_of (successors_of its.op x.at) (cases_of (slice_get whole.functions x.function))) y.at y.fact target y_there among in
         let has : Has ((flow_of whole known).steps (node_of whole x before.entry)) (node_of whole y before.entry) =
-            subst (λ f. Has ((flow_of whole known).steps (node_of whole x before.entry)) (node_at whole f y.at (code_of before.entry) y.fact)) (sym step.same)
-            (subst (λ o. Has (steps_at whole known o (node_of whole x before.entry)) (node_at whole x.function y.at (code_of before.entry) y.fact)) (sym site) node) in
+        subst (λ f. Has ((flow_of whole known).steps (node_of whole x before.entry)) (node_at whole f y.at (code_of before.entry) y.fact)) (sym step.same)
+        (subst (λ o. Has (steps_at whole known o (node_of whole x before.entry)) (node_at whole x.function y.at (code_of before.entry) y.fact))
+        (sym site) node) in
         record {
           entry = before.entry;
           nodes = before.nodes;
@@ -185,15 +186,16 @@ module _ (whole : WholeCode) (known : Knowledge) where
         let first : is_there whole.functions y.function 0 ≡ true = subst (λ at. is_there whole.functions y.function at ≡ true) step.first there in
         let parameters : List (Option Slot) = parameters_of whole y.function in
         let gets : enter_of parameters (known.at x.function x.at) (fact_of (code_of x.fact)) ≡ Some y.fact =
-            subst (λ fact. enter_of parameters (known.at x.function x.at) fact ≡ Some y.fact) (sym fact) step.has in
+        subst (λ fact. enter_of parameters (known.at x.function x.at) fact ≡ Some y.fact) (sym fact) step.has in
         let enters : enters_by whole known (Some y.function) x.function x.at (fact_of (code_of x.fact)) ≡ Some (entry_node whole y.function y.fact) =
-            ap (λ b. if b then option_map (entry_node whole y.function) (enter_of parameters (known.at x.function x.at) (fact_of (code_of x.fact))) else None) first
-            ∙ ap (option_map (entry_node whole y.function)) gets in
+        ap (λ b. if b then option_map (entry_node whole y.function)
+        (enter_of parameters (known.at x.function x.at) (fact_of (code_of x.fact))) else None) first
+        ∙ ap (option_map (entry_node whole y.function)) gets in
         let entered : (flow_of whole known).enters (node_of whole x before.entry) ≡ Some (entry_node whole y.function y.fact) =
-            ap (λ o. enters_at whole known o (node_of whole x before.entry)) site
-            ∙ (ap (λ o. enters_by whole known o x.function x.at (fact_of (code_of x.fact))) callee ∙ enters) in
+        ap (λ o. enters_at whole known o (node_of whole x before.entry)) site
+        ∙ (ap (λ o. enters_by whole known o x.function x.at (fact_of (code_of x.fact))) callee ∙ enters) in
         let same : entry_node whole y.function y.fact ≡ node_of whole y y.fact =
-            entry_is_node y.function y.fact ∙ ap (λ at. node_at whole y.function at (code_of y.fact) y.fact) (sym step.first) in
+        entry_is_node y.function y.fact ∙ ap (λ at. node_at whole y.function at (code_of y.fact) y.fact) (sym step.first) in
         let x_there = there_placed whole x.function x.at its step.call.there in
         record {
           entry = y.fact;
@@ -207,7 +209,8 @@ module _ (whole : WholeCode) (known : Knowledge) where
               (enter_small parameters (known.at x.function x.at) (parameters_small whole known fits y.function) x.fact before.small) step.has;
         }
 
-    by_leaves : (n : ℕ) (c x y : Spot) (stack : List Spot) → IsWay n x (c ∷ stack) → Leaves whole known c x y → is_there whole.functions y.function y.at ≡ true
+    by_leaves : (n : ℕ) (c x y : Spot) (stack : List Spot) → IsWay n x (c ∷ stack) → Leaves whole known c x y
+        → is_there whole.functions y.function y.at ≡ true
         → IsWay (suc n) y stack
     by_leaves n c x y stack before step there = by before.nodes before.callers before.way
       where
@@ -221,34 +224,37 @@ module _ (whole : WholeCode) (known : Knowledge) where
             let caller_site = site_of_number whole c.function c.at step.call.its step.call.there in
             let site = site_of_number whole x.function x.at step.its step.there in
             let next_there : is_there whole.functions c.function (suc c.at) ≡ true =
-                subst (λ at. is_there whole.functions c.function at ≡ true) step.next (subst (λ f. is_there whole.functions f y.at ≡ true) step.same there) in
+            subst (λ at. is_there whole.functions c.function at ≡ true) step.next (subst (λ f. is_there whole.functions f y.at ≡ true) step.same there) in
             let exits : next_in whole x.function (known.at x.function x.at) op.Return (fact_of (code_of x.fact)) ≡ step.exit ∷ [] =
-                subst (λ fact. next_in whole x.function (known.at x.function x.at) op.Return fact ≡ step.exit ∷ []) (sym fact)
-                (exit_one whole x.function (known.at x.function x.at) x.fact step.exit step.exits) in
+            subst (λ fact. next_in whole x.function (known.at x.function x.at) op.Return fact ≡ step.exit ∷ []) (sym fact)
+            (exit_one whole x.function (known.at x.function x.at) x.fact step.exit step.exits) in
             let left : left_by whole known x.function c.function c.at (fact_of (code_of c.fact))
-                (next_in whole x.function (known.at x.function x.at) op.Return (fact_of (code_of x.fact))) ≡ Some y.fact =
-                ap (left_by whole known x.function c.function c.at (fact_of (code_of c.fact))) exits
-                ∙ (ap (λ fact. leave_of (known.of x.function) (known.at c.function c.at) fact step.exit) caller_fact ∙ step.has) in
+            (next_in whole x.function (known.at x.function x.at) op.Return (fact_of (code_of x.fact))) ≡ Some y.fact =
+            ap (left_by whole known x.function c.function c.at (fact_of (code_of c.fact))) exits
+            ∙ (ap (λ fact. leave_of (known.of x.function) (known.at c.function c.at) fact step.exit) caller_fact ∙ step.has) in
             let callee : is_callee (callee_of step.call.its.op) x.function ≡ true =
-                ap (λ its. is_callee (callee_of its) x.function) step.call.calls ∙ same_number x.function in
+            ap (λ its. is_callee (callee_of its) x.function) step.call.calls ∙ same_number x.function in
             let returns : is_return step.its.op ≡ true = ap is_return step.returns in
-            let test : (is_callee (callee_of step.call.its.op) x.function && (is_return step.its.op && is_there whole.functions c.function (suc c.at))) ≡ true =
-                ap (λ b. b && (is_return step.its.op && is_there whole.functions c.function (suc c.at))) callee
-                ∙ (ap (λ b. b && is_there whole.functions c.function (suc c.at)) returns ∙ next_there) in
-            let back : leaves_by whole known (record { function = c.function; at = c.at; its = step.call.its }) (record { function = x.function; at = x.at; its = step.its })
-                (node_of whole c outer) (node_of whole x before.entry) ≡ Some (node_at whole c.function (suc c.at) (code_of outer) y.fact) =
-                ap (λ b. if b then option_map (node_at whole c.function (suc c.at) (code_of outer))
-                    (left_by whole known x.function c.function c.at (fact_of (code_of c.fact))
-                    (next_in whole x.function (known.at x.function x.at) op.Return (fact_of (code_of x.fact)))) else None) test
-                ∙ ap (option_map (node_at whole c.function (suc c.at) (code_of outer))) left in
+            let test : (is_callee (callee_of step.call.its.op) x.function &&
+            (is_return step.its.op && is_there whole.functions c.function (suc c.at))) ≡ true =
+            ap (λ b. b && (is_return step.its.op && is_there whole.functions c.function (suc c.at))) callee
+            ∙ (ap (λ b. b && is_there whole.functions c.function (suc c.at)) returns ∙ next_there) in
+            let back : leaves_by whole known (record { function = c.function; at = c.at; its = step.call.its })
+            (record { function = x.function; at = x.at; its = step.its })
+            (node_of whole c outer) (node_of whole x before.entry) ≡ Some (node_at whole c.function (suc c.at) (code_of outer) y.fact) =
+            ap (λ b. if b then option_map (node_at whole c.function (suc c.at) (code_of outer))
+            (left_by whole known x.function c.function c.at (fact_of (code_of c.fact))
+            (next_in whole x.function (known.at x.function x.at) op.Return (fact_of (code_of x.fact)))) else None) test
+            ∙ ap (option_map (node_at whole c.function (suc c.at) (code_of outer))) left in
             let leaves : (flow_of whole known).leaves (node_of whole c outer) (node_of whole x before.entry)
-                ≡ Some (node_at whole c.function (suc c.at) (code_of outer) y.fact) =
-                ap (λ o. leaves_at whole known o (site_of whole (node_of whole x before.entry).at) (node_of whole c outer) (node_of whole x before.entry)) caller_site
-                ∙ (ap (λ o. leaves_at whole known (Some (record { function = c.function; at = c.at; its = step.call.its })) o (node_of whole c outer)
-                (node_of whole x before.entry)) site ∙ back) in
+            ≡ Some (node_at whole c.function (suc c.at) (code_of outer) y.fact) =
+            ap (λ o. leaves_at whole known o (site_of whole (node_of whole x before.entry).at) (node_of whole c outer)
+            (node_of whole x before.entry)) caller_site
+            ∙ (ap (λ o. leaves_at whole known (Some (record { function = c.function; at = c.at; its = step.call.its })) o (node_of whole c outer)
+            (node_of whole x before.entry)) site ∙ back) in
             let same : node_at whole c.function (suc c.at) (code_of outer) y.fact ≡ node_of whole y outer =
-                ap (λ f. node_at whole f (suc c.at) (code_of outer) y.fact) (sym step.same)
-                ∙ ap (λ at. node_at whole y.function at (code_of outer) y.fact) (sym step.next) in
+            ap (λ f. node_at whole f (suc c.at) (code_of outer) y.fact) (sym step.same)
+            ∙ ap (λ at. node_at whole y.function at (code_of outer) y.fact) (sym step.next) in
             record {
               entry = outer;
               nodes = nodes;

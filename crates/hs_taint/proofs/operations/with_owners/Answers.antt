@@ -1,4 +1,4 @@
-use Rattle.std.proofs.Common.{◌≡◌, ◌+◌, ◌++◌, ◌∙◌, ap, drop, map, rules}
+use Rattle.std.proofs.Common.{◌+◌, ◌++◌, ◌∙◌, ap, drop, map}
 use Rattle.hs_taint.specs.Points.{owned_by}
 use Rattle.hs_taint.proofs.Owners.{owner_put}
 use Rattle.hs_taint.proofs.operations.with_owners.Goals as goal

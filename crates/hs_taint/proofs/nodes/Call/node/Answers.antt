@@ -1,4 +1,4 @@
-use Rattle.std.proofs.Common.{◌≡◌, ◌∙◌, ap, arith, length}
+use Rattle.std.proofs.Common.{◌∙◌, ap, arith, length}
 use Rattle.hs_taint.specs.Laws.Nodes.{node_below}
 use Rattle.hs_taint.specs.Laws.Points.{owners_length}
 use Rattle.hs_taint.proofs.nodes.Call.node.Goals as goal

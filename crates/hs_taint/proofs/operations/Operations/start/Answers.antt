@@ -1,4 +1,4 @@
-use Rattle.std.proofs.Common.{◌≡◌, ◌∙◌, arith}
+use Rattle.std.proofs.Common.{◌∙◌, arith}
 use Rattle.hs_taint.proofs.Owners.{start_found}
 use Rattle.hs_taint.proofs.operations.Operations.start.Goals as goal
 
