@@ -1,0 +1,13 @@
+pub mod Bringing
+pub mod Calling
+pub mod Chains
+pub mod Finding
+pub mod Graphs
+pub mod Layout
+pub mod Levels
+pub mod Listing
+pub mod Rounds
+pub mod Searching
+pub mod Sorting
+pub mod States
+pub mod Storing
