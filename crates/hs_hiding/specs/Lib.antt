@@ -1,0 +1,12 @@
+pub mod Blocks
+pub mod Calls
+pub mod Disposing
+pub mod Holding
+pub mod Joining
+pub mod Lists
+pub mod Loading
+pub mod Operations
+pub mod PlainRoutines
+pub mod Roles
+pub mod Starting
+pub mod Storing

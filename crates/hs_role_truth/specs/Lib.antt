@@ -1,0 +1,11 @@
+pub mod Arguments
+pub mod HandleRoles
+pub mod Handled
+pub mod Handles
+pub mod PlainMade
+pub mod QuietRoles
+pub mod Restores
+pub mod RoleArguments
+pub mod RoleFacts
+pub mod Roles
+pub mod Touching

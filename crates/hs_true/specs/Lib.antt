@@ -1,0 +1,15 @@
+pub mod BareSteps
+pub mod BringStep
+pub mod CopySteps
+pub mod Exact
+pub mod Facts
+pub mod LoadStep
+pub mod Picking
+pub mod RoutineStep
+pub mod Runs
+pub mod SetStep
+pub mod Setting
+pub mod ShiftStep
+pub mod Tables
+pub mod TuckStep
+pub mod Within

@@ -1,0 +1,14 @@
+pub mod Bare
+pub mod Calling
+pub mod Entering
+pub mod Frames
+pub mod Going
+pub mod Good
+pub mod Linked
+pub mod Owing
+pub mod Places
+pub mod Quiet
+pub mod Returning
+pub mod Starting
+pub mod Truth
+pub mod Values
