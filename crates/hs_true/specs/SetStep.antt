@@ -87,7 +87,7 @@ module _ (program : CodeProgram) (may : ℕ → May) (sets : ℕ → ℕ → Boo
               (moved (record here { stack = v ∷ rest }) (suc here.at) (u ∷ rest) (λ k. here.lasting k && steady_in s.machine m k)) m) same.1 (
                 other_globals x v s.machine told,
                 subst (λ w. SoundAt (scope_of program here.function) here.function.code impact (since_of may sets here.fn ws) its
-                (record here { stack = v ∷ rest }) s.machine
+                    (record here { stack = v ∷ rest }) s.machine
                     (moved (record here { stack = v ∷ rest }) (suc here.at) (w ∷ rest)
                     (λ k. here.lasting k && steady_in s.machine (with_value x v s.machine) k))
                     (with_value x v s.machine)) same.0

@@ -127,7 +127,7 @@ module _ (program : CodeProgram) (may : ℕ → May) (sets : ℕ → ℕ → Boo
           follows = subst (λ o. IsNext o here.function.code.cases here.at (suc here.at)) (sym is) refl;
           heap = λ w vs first link. since_trans (may here.fn) w.machine.blocks s.machine.blocks (after_shift powers).blocks link.heap all_since;
           steady = λ w vs first link none n lasting. steady_since (shifting powers.purges) s.machine (after_shift powers) n moved_since refl
-          (good.lasts n lasting);
+              (good.lasts n lasting);
           globals = λ g none. refl;
           without = λ n made it. record { places = it.places; nowhere = shift_lacking n powers it.nowhere };
           alive = λ n it a. alive_since (shifting powers.purges) s.machine (after_shift powers) n moved_since refl a;

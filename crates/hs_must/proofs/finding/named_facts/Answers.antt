@@ -85,7 +85,7 @@ invariant_of-result c =
 -- each row of locks has room
 pub clear_own-requires : goal.clear_own-requires
 clear_own-requires c =
-    record { room = λ row low. let lends = ap length c.items-ops.ensures.lends in c.in_ok-locks.ensures.fit row (omega (arith, lends, low)); }
+    record { room = λ row low. let lends = ap length c.items-ops.ensures.lends in c.in_ok-locks.ensures.fit row (omega (arith, lends, low)) }
 
 -- the rows are solved, and only bits that say nothing are taken out
 pub returns-clause-facts : goal.returns-clause-facts

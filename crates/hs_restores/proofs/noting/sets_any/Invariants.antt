@@ -4,4 +4,4 @@ use Rattle.hs_restores.proofs.noting.sets_any.Given as goal
 
 -- none so far
 abbrev pub invariant-ops : goal.invariant-ops
-invariant-ops l = record { left : sets_any l.routines l.ops ≡ sets_any l.routines (drop l.its-index l.ops); }
+invariant-ops l = record { left : sets_any l.routines l.ops ≡ sets_any l.routines (drop l.its-index l.ops) }
