@@ -2,9 +2,7 @@
 --     one_taken, two_taken      where the arguments are
 --     handle_alive              the block of a handle that a role takes is not disposed of
 use Rattle.std.proofs.Common.{◌≡◌, ◌-◌, ℕ, zero, suc, Bool, true, false, List, [], ◌∷◌, length, Option, Some, None, refl, sym, ap, ◌∙◌, subst, arith, ◌+◌, true≢false, ◌==◌, Result, Ok, Err, if◌then◌else◌, take, replicate, ◌++◌}
-use Rattle.hs_code.specs.declared.op.Op.TheVariants as op
 use Rattle.hs_code_run.specs.Steps.{taken, below, holds, onto, taken_onto}
-use Rattle.hs_facts.specs.Changes as changes
 use Rattle.hs_heap.specs.Blocks.{Block, standing, by_standing, changed, emptied, without_cells, reallocated, renewed, size_of, state_of, bit, is_disposed, last_life, resized}
 use Rattle.hs_heap.specs.Memory.{block_at}
 use Rattle.hs_heap.specs.declared.cell.Cell.TheVariants.{Undefined}
@@ -13,7 +11,6 @@ use Rattle.hs_heap.specs.declared.presence.Presence.{Presence}
 use Rattle.hs_heap.specs.declared.presence.Presence.TheVariants as presence
 use Rattle.hs_heap.specs.declared.stop.HeapStop.{HeapStop}
 use Rattle.hs_hiding.specs.Holding.{IsAlive}
-use Rattle.hs_lowering.specs.Laws.Variables as variables
 use Rattle.hs_meaning.specs.Handles.{handle_stop, handle_stop_in}
 use Rattle.hs_meaning.specs.Machine.{Machine}
 use Rattle.hs_meaning.specs.Roles.{handle_stops}

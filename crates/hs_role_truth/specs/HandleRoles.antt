@@ -10,7 +10,6 @@ use Rattle.hs_code.specs.declared.function_code.Placed.{Placed}
 use Rattle.hs_code.specs.declared.op.Op.TheVariants as op
 use Rattle.hs_code_run.specs.Codes.{CodeProgram, scope_of, Point}
 use Rattle.hs_code_run.specs.Steps.{taken, below, holds}
-use Rattle.hs_facts.specs.Changes as changes
 use Rattle.hs_facts.specs.Changes.{Impact, UsedIf, BroughtByRole}
 use Rattle.hs_facts.specs.MustFacts.{Keeper, MustFact, With, Saved, Kept, Locked, Live, Distinct, New, on_stack, in_slot}
 use Rattle.hs_facts.specs.Names.{makes_by, gives_handle}
@@ -22,7 +21,6 @@ use Rattle.hs_heap.specs.declared.presence.Presence.TheVariants as presence
 use Rattle.hs_heap.specs.declared.stop.HeapStop.{HeapStop}
 use Rattle.hs_hiding.specs.Holding.{Lacking, HoldsHandle, value_of, Cells, IsAlive}
 use Rattle.hs_hiding.specs.Roles.{asked_lacks, LeavesCells, reallocated_leaves, changed_leaves, standing_leaves}
-use Rattle.hs_lowering.specs.Laws.Variables as variables
 use Rattle.hs_meaning.specs.Handles.{size_for, asked, changed_by, changed_in, with_result, if_granted, is_granted, reshaped_by, reshaped_in, has_room_after, answer_by, answer_of_block, answer_in}
 use Rattle.hs_meaning.specs.Machine.{Machine, value_of_slot}
 use Rattle.hs_meaning.specs.Operations as operation
@@ -33,7 +31,6 @@ use Rattle.hs_meaning.specs.Stops.{Stops, first_stop}
 use Rattle.hs_meaning.specs.Values.{Value, number, pointer, state, structure, pointer_in}
 use Rattle.hs_meaning.specs.declared.outcome.Outcome.{Outcome}
 use Rattle.hs_meaning.specs.declared.outcome.Stop.{Stop}
-use Rattle.hs_meaning.specs.declared.outcome.Stop.TheVariants as stop
 use Rattle.hs_role_truth.specs.Arguments.{two_taken, realloc_alive, state_alive, one_taken}
 use Rattle.hs_role_truth.specs.Handled.{OneBlock}
 use Rattle.hs_role_truth.specs.Handles.{unlock_true, put_true, realloc_true, lock_true, get_true, changed_is, dispose_true}

@@ -2,7 +2,6 @@
 --     IsMadeOf        NIL, or the handle of a block that was made
 --     plain_made      what it gives
 use Rattle.std.proofs.Common.{◌≡◌, ◌⊎◌, inl, inr, ℕ, Bool, true, false, List, [], ◌∷◌, length, Option, Some, None, refl, sym, ap, ◌∙◌, subst, true≢false, ◌+◌, ◌==◌, replicate, if◌then◌else◌, ◌++◌}
-use Rattle.hs_code.specs.declared.op.Op.TheVariants as op
 use Rattle.hs_facts.specs.Names.{is_pointer_in, points_to_pointer}
 use Rattle.hs_heap.specs.Blocks.{Block, new_block, is_disposed}
 use Rattle.hs_heap.specs.Memory.{has_room, block_at}
@@ -11,7 +10,6 @@ use Rattle.hs_heap.specs.declared.cell.Pointer.TheVariants.{Nil, Handle}
 use Rattle.hs_hiding.specs.Holding.{IsAlive}
 use Rattle.hs_hiding.specs.PlainRoutines.{length_filled}
 use Rattle.hs_hiding.specs.Roles.{next_there}
-use Rattle.hs_lowering.specs.Laws.Variables as variables
 use Rattle.hs_meaning.specs.Handles.{handle_if}
 use Rattle.hs_meaning.specs.Machine.{Machine, Done, done}
 use Rattle.hs_meaning.specs.Plain.{argument, fill_size, fill_stops, filled, one_word_less, made_size, made_block, new_value, result_by, result_of, next_word, pointed_size, then_unless, with_line, line_of, after_line, argument_stops, plain}

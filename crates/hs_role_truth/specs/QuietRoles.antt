@@ -9,7 +9,6 @@ use Rattle.hs_code.specs.declared.function_code.Placed.{Placed}
 use Rattle.hs_code.specs.declared.op.Op.TheVariants as op
 use Rattle.hs_code_run.specs.Codes.{CodeProgram, scope_of, Point}
 use Rattle.hs_code_run.specs.Steps.{taken, below, holds}
-use Rattle.hs_facts.specs.Changes as changes
 use Rattle.hs_facts.specs.Changes.{Impact, BroughtByRole}
 use Rattle.hs_facts.specs.MustFacts.{MustFact}
 use Rattle.hs_facts.specs.Names.{makes_by, gives_handle, uses_handle, points_to_pointer}
@@ -18,14 +17,13 @@ use Rattle.hs_heap.specs.declared.cell.Pointer.TheVariants.{Nil, Handle}
 use Rattle.hs_heap.specs.declared.stop.HeapStop.{HeapStop}
 use Rattle.hs_hiding.specs.Holding.{Lacking, IsMade, Gets, Lacks, IsAlive, OnDone}
 use Rattle.hs_hiding.specs.Operations.{operate_hands}
-use Rattle.hs_lowering.specs.Laws.Variables as variables
 use Rattle.hs_meaning.specs.Handles.{size_for, handle_if, with_block, asked, makes_block}
 use Rattle.hs_meaning.specs.Machine.{Machine, done}
 use Rattle.hs_meaning.specs.Operations as operation
 use Rattle.hs_meaning.specs.Operations.{called_by, as_kind, is_plain}
 use Rattle.hs_meaning.specs.Plain.{plain}
 use Rattle.hs_meaning.specs.Roles.{role_stops, role_value, role_machine}
-use Rattle.hs_meaning.specs.Steps.{State, acts}
+use Rattle.hs_meaning.specs.Steps.{State}
 use Rattle.hs_meaning.specs.Stops.{first_stop}
 use Rattle.hs_meaning.specs.Values.{Value, pointer}
 use Rattle.hs_meaning.specs.declared.outcome.Outcome.{Outcome}

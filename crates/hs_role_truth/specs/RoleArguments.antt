@@ -1,17 +1,13 @@
 -- Which arguments a role has that does not stop (own).
 --     One, Two        a handle on which the role acts, or NIL, and another argument
 use Rattle.std.proofs.Common.{◌≡◌, true, false, List, [], ◌∷◌, None, refl, Result}
-use Rattle.hs_code.specs.declared.op.Op.TheVariants as op
-use Rattle.hs_facts.specs.Changes as changes
 use Rattle.hs_heap.specs.Blocks.{Block, size_of, state_of, with_lock, with_purge_bit, with_state, emptied, disposed, resized, reallocated}
 use Rattle.hs_heap.specs.declared.stop.HeapStop.{HeapStop}
-use Rattle.hs_lowering.specs.Laws.Variables as variables
 use Rattle.hs_meaning.specs.Handles.{size_for}
 use Rattle.hs_meaning.specs.Roles.{role_stops, handle_stops, state_in, state_stop}
 use Rattle.hs_meaning.specs.Steps.{State}
 use Rattle.hs_meaning.specs.Stops.{first_stop}
 use Rattle.hs_meaning.specs.Values.{Value, number_stop}
-use Rattle.hs_meaning.specs.declared.outcome.Stop.TheVariants as stop
 use Rattle.hs_role_truth.specs.Arguments.{later_none}
 use Rattle.hs_table.specs.declared.role.Role.TheVariants as role
 

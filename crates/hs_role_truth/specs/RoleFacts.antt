@@ -18,7 +18,6 @@ use Rattle.hs_facts.specs.Names.{taken as taken_by, parameter_count, role_in, ma
 use Rattle.hs_heap.specs.declared.cell.Pointer.TheVariants.{Nil, Handle}
 use Rattle.hs_hiding.specs.Blocks.{alive_since}
 use Rattle.hs_hiding.specs.Holding.{Lacking, Lacks, value_of, IsAlive}
-use Rattle.hs_lowering.specs.Laws.Variables as variables
 use Rattle.hs_meaning.specs.Accesses.{unless_stopped}
 use Rattle.hs_meaning.specs.Laws.Changes.Operations.{SpeaksOfRoutine}
 use Rattle.hs_meaning.specs.Machine.{Machine, done}

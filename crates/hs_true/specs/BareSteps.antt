@@ -13,7 +13,6 @@ use Rattle.hs_code.specs.declared.function_code.Placed.{Placed}
 use Rattle.hs_code.specs.declared.op.Op.{Op}
 use Rattle.hs_code_run.specs.Codes.{CodeProgram, scope_of, Point}
 use Rattle.hs_code_run.specs.Steps.{below, holds, operates_if, onward}
-use Rattle.hs_facts.specs.Changes as changes
 use Rattle.hs_facts.specs.Changes.{Impact}
 use Rattle.hs_facts.specs.MustFacts.{Under}
 use Rattle.hs_facts.specs.Names.{taken as taken_by}

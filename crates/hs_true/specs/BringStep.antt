@@ -9,12 +9,11 @@ use Rattle.hs_code.specs.Stacks.{Scope}
 use Rattle.hs_code.specs.declared.function_code.Placed.{Placed}
 use Rattle.hs_code.specs.declared.op.Op.TheVariants as op
 use Rattle.hs_code_run.specs.Codes.{CodeProgram, scope_of, Point}
-use Rattle.hs_code_run.specs.Steps.{holds, onward, picked, on_top}
+use Rattle.hs_code_run.specs.Steps.{onward, picked, on_top}
 use Rattle.hs_facts.specs.Changes as changes
 use Rattle.hs_facts.specs.Changes.{Impact}
 use Rattle.hs_facts.specs.MustFacts.{Keeper, MustFact, With, Saved, Kept, Locked, Live, Distinct, New, on_stack, in_slot, AreNames}
 use Rattle.hs_hiding.specs.Holding.{Lacks, value_of}
-use Rattle.hs_lowering.specs.Laws.Variables as variables
 use Rattle.hs_meaning.specs.Steps.{State}
 use Rattle.hs_meaning.specs.Values.{Value, state}
 use Rattle.hs_meaning.specs.declared.outcome.Outcome.{Outcome}

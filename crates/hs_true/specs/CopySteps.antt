@@ -17,7 +17,6 @@ use Rattle.hs_facts.specs.Changes as changes
 use Rattle.hs_facts.specs.Changes.{Impact, Copied, CopiedByte, Got}
 use Rattle.hs_facts.specs.MustFacts.{Keeper, MustFact, With, Saved, Kept, Locked, Live, Distinct, New, on_stack, in_slot, Under}
 use Rattle.hs_hiding.specs.Holding.{Lacks, value_of}
-use Rattle.hs_lowering.specs.Laws.Variables as variables
 use Rattle.hs_meaning.specs.Accesses.{unless_stopped}
 use Rattle.hs_meaning.specs.Machine.{Machine, done}
 use Rattle.hs_meaning.specs.Operations as operation

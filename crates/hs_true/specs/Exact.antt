@@ -17,7 +17,6 @@ use Rattle.hs_code_run.specs.Codes.{CodeProgram, scope_of, CodeFunction, signatu
 use Rattle.hs_code_run.specs.Steps.{holds}
 use Rattle.hs_effects.specs.Answers.{Answers, IsExact}
 use Rattle.hs_effects.specs.Effecting.{number_of, restored}
-use Rattle.hs_facts.specs.Changes as changes
 use Rattle.hs_facts.specs.Changes.{IsRestore}
 use Rattle.hs_facts.specs.Effects as effect
 use Rattle.hs_facts.specs.Effects.{WholeCode, ops_in, placed_in, Calls, itself, Assigns, only_assigns, first_argument, IsRestoreAt, Effect, shift_has, role_has, OpHas, HasEffect, impact_of}
@@ -26,12 +25,6 @@ use Rattle.hs_facts.specs.Laws.Effects.{Does-called, unless_restore}
 use Rattle.hs_facts.specs.MustFacts.{MustFact, With, Saved, on_stack}
 use Rattle.hs_facts.specs.Names.{taken as taken_by, role_in}
 use Rattle.hs_facts.specs.Rounds.{Holds, HoldsIn}
-use Rattle.hs_heap.specs.Blocks.{disposed}
-use Rattle.hs_heap.specs.declared.presence.Presence.TheVariants as presence
-use Rattle.hs_lowering.specs.Laws.Variables as variables
-use Rattle.hs_meaning.specs.Frames.{closed}
-use Rattle.hs_meaning.specs.Operations.{called}
-use Rattle.hs_meaning.specs.declared.outcome.Stop.TheVariants as stop
 use Rattle.hs_rows.specs.Sets.{has}
 use Rattle.hs_sound_heap.specs.Roles.{nothing, effects_of}
 use Rattle.hs_sound_heap.specs.Shifts.{shifting}

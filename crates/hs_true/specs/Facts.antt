@@ -16,11 +16,9 @@ use Rattle.hs_code.specs.declared.op.Op.TheVariants as op
 use Rattle.hs_code_run.specs.Codes.{CodeProgram, scope_of, Point, CodeFunction, signature_of}
 use Rattle.hs_code_run.specs.Runs.{starting_point, begun}
 use Rattle.hs_code_run.specs.Steps.{taken, below, holds, onward, by_stack, brought, stepped, stepped_at, function_called, picked, under}
-use Rattle.hs_facts.specs.Changes as changes
 use Rattle.hs_facts.specs.Changes.{Impact}
 use Rattle.hs_facts.specs.Names.{taken as taken_by, parameter_count}
 use Rattle.hs_heap.specs.declared.decision.Decision.{Decision}
-use Rattle.hs_heap.specs.declared.presence.Presence.TheVariants as presence
 use Rattle.hs_hiding.specs.Holding.{OnDone}
 use Rattle.hs_kinds.specs.Kinds.{AreOfKinds, kinds_count}
 use Rattle.hs_kinds.specs.Operands.{HasThem, IsSlotBinding}
@@ -28,22 +26,17 @@ use Rattle.hs_kinds.specs.Points.{IsTypedCode, IsKindPoint, signature_there}
 use Rattle.hs_kinds.specs.Steps as steps
 use Rattle.hs_kinds.specs.Steps.{operands, stepped_kinds}
 use Rattle.hs_kinds.specs.Suits.{Suits, stepped_suits}
-use Rattle.hs_lowering.specs.Laws.Variables as variables
 use Rattle.hs_meaning.specs.Frames.{opened, closed}
 use Rattle.hs_meaning.specs.Machine.{Machine, Done, done, stopped, Binding, slot, object_at, binding_of}
 use Rattle.hs_meaning.specs.Objects.{starting_machine}
-use Rattle.hs_meaning.specs.Operations.{called}
 use Rattle.hs_meaning.specs.Runs.{starting}
 use Rattle.hs_meaning.specs.Steps.{State, Ran, went, over, then_with, ran_at, give, acts}
 use Rattle.hs_meaning.specs.Values.{Value}
 use Rattle.hs_meaning.specs.declared.input.Input.{Input}
 use Rattle.hs_meaning.specs.declared.outcome.Outcome.{Outcome}
-use Rattle.hs_meaning.specs.declared.outcome.Stop.TheVariants as stop
 use Rattle.hs_sound_heap.specs.Since.{May}
-use Rattle.hs_table.specs.declared.role.Role.TheVariants as role
 use Rattle.hs_tree.specs.Fitting.{types_of, count_types}
 use Rattle.hs_tree.specs.declared.head.Variable.{Variable}
-use Rattle.hs_tree.specs.declared.head.Variable.TheVariants as name
 use Rattle.hs_true.specs.BringStep.{bring_goes}
 use Rattle.hs_true.specs.Setting.{IsSlot}
 use Rattle.hs_true.specs.Tables.{IsTold}

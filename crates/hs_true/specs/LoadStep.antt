@@ -2,7 +2,6 @@
 --     load_goes
 use Rattle.std.proofs.Common.{◌≡◌, ◌<◌, ◌-◌, ℕ, suc, Bool, true, false, List, [], ◌∷◌, length, Option, Some, None, refl, sym, ap, ◌∙◌, subst, arith, slice_get, pos}
 use Rattle.hs_calls.specs.Calls.{Here, Wait, point_of}
-use Rattle.hs_calls.specs.Changing.{since}
 use Rattle.hs_calls.specs.Stacks.{RanTo, Stays}
 use Rattle.hs_code.specs.Following.{IsNext}
 use Rattle.hs_code.specs.Stacks.{Scope}
@@ -10,7 +9,7 @@ use Rattle.hs_code.specs.declared.function_code.Placed.{Placed}
 use Rattle.hs_code.specs.declared.op.Access as code_access
 use Rattle.hs_code.specs.declared.op.Op.TheVariants as op
 use Rattle.hs_code_run.specs.Codes.{CodeProgram, scope_of, Point}
-use Rattle.hs_code_run.specs.Steps.{taken, below, holds, access_of, operates}
+use Rattle.hs_code_run.specs.Steps.{taken, below, access_of, operates}
 use Rattle.hs_facts.specs.Changes as changes
 use Rattle.hs_facts.specs.Changes.{Impact, UsedIf}
 use Rattle.hs_facts.specs.MustFacts.{MustFact, With, Saved, Kept, Locked, Live, Distinct, New, Under}
@@ -23,7 +22,6 @@ use Rattle.hs_heap.specs.declared.presence.Presence.{Presence}
 use Rattle.hs_heap.specs.declared.presence.Presence.TheVariants as presence
 use Rattle.hs_hiding.specs.Blocks.{alive_since}
 use Rattle.hs_hiding.specs.Holding.{value_of, IsAlive}
-use Rattle.hs_lowering.specs.Laws.Variables as variables
 use Rattle.hs_meaning.specs.Accesses.{loaded, master_in, master_pointer}
 use Rattle.hs_meaning.specs.Machine.{Machine, done}
 use Rattle.hs_meaning.specs.Operations as operation

@@ -5,13 +5,10 @@ use Rattle.std.proofs.Common.{◌≡◌, ◌<◌, ◌≤◌, ◌-◌, ◌⊎◌,
 use Rattle.std.proofs.lemmas.Bool.Decides.{nat_tests}
 use Rattle.std.proofs.lemmas.Option.{same_Some}
 use Rattle.std.specs.List.{AllByRecursion}
-use Rattle.hs_code.specs.declared.op.Op.TheVariants as op
 use Rattle.hs_code_run.specs.Steps.{picked, under}
 use Rattle.hs_hiding.specs.Holding.{Lacks}
-use Rattle.hs_lowering.specs.Laws.Variables as variables
 use Rattle.hs_meaning.specs.Values.{Value}
 use Rattle.hs_truth.specs.Places.{OthersLack, others_too, under_top, at_place, the_top}
-use Rattle.hs_truth.specs.Truth.{fewer}
 
 -- ---- a value of the stack, and the others
 

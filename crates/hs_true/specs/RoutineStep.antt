@@ -1,7 +1,7 @@
 -- The step of a routine, by its role (own).
 --     MayRun            the effects of the function have those of the role, or the state byte was read from its handle
 --     routine_goes      the step
-use Rattle.std.proofs.Common.{◌≡◌, ◌-◌, ◌⊎◌, inl, inr, ℕ, suc, Bool, true, false, List, ◌∷◌, length, Option, Some, None, refl, sym, ap, ◌∙◌, subst, ◌&&◌, slice_get, if◌then◌else◌}
+use Rattle.std.proofs.Common.{◌≡◌, ◌-◌, ◌⊎◌, inl, inr, ℕ, suc, Bool, true, false, List, ◌∷◌, length, Option, Some, None, refl, sym, ap, ◌∙◌, subst, ◌&&◌, slice_get}
 use Rattle.hs_calls.specs.Calls.{Here, moved, Wait, point_of, steady_in}
 use Rattle.hs_calls.specs.Changing.{since}
 use Rattle.hs_calls.specs.Stacks.{RanTo, Stays}
@@ -11,13 +11,10 @@ use Rattle.hs_code.specs.declared.function_code.Placed.{Placed}
 use Rattle.hs_code.specs.declared.op.Op.TheVariants as op
 use Rattle.hs_code_run.specs.Codes.{CodeProgram, scope_of, Point}
 use Rattle.hs_code_run.specs.Steps.{taken, below, holds, operates_if, onward, routine_called, routine_arguments, operates, arguments_of}
-use Rattle.hs_facts.specs.Changes as changes
 use Rattle.hs_facts.specs.Changes.{Impact, IsRestore}
 use Rattle.hs_facts.specs.Names.{taken as taken_by}
 use Rattle.hs_facts.specs.Rounds.{HoldsIn}
 use Rattle.hs_heap.specs.declared.cell.Pointer.TheVariants.{Nil, Handle}
-use Rattle.hs_heap.specs.declared.presence.Presence.TheVariants as presence
-use Rattle.hs_lowering.specs.Laws.Variables as variables
 use Rattle.hs_meaning.specs.Laws.Changes.Operations.{SpeaksOfRoutine}
 use Rattle.hs_meaning.specs.Machine.{Machine, Done, done, stopped}
 use Rattle.hs_meaning.specs.Operations as operation
@@ -25,7 +22,6 @@ use Rattle.hs_meaning.specs.Operations.{operate}
 use Rattle.hs_meaning.specs.Steps.{State, then_with, ran_at, give}
 use Rattle.hs_meaning.specs.Values.{Value, pointer, state}
 use Rattle.hs_meaning.specs.declared.outcome.Outcome.{Outcome}
-use Rattle.hs_meaning.specs.declared.outcome.Stop.TheVariants as stop
 use Rattle.hs_role_truth.specs.HandleRoles.{dispose_sound, lock_sound, unlock_sound, put_on, set_state_sound, get_state_sound, realloc_sound, PutOn}
 use Rattle.hs_role_truth.specs.QuietRoles.{set_size_sound, empty_sound, dispose_ptr_sound, no_purge_sound, move_sound, size_sound, new_ptr_sound, new_handle_sound, purge_sound, putchar_sound, plain_sound, getchar_sound}
 use Rattle.hs_role_truth.specs.Restores.{restore_heap, restore_steady}
@@ -36,7 +32,6 @@ use Rattle.hs_table.specs.declared.role.Role.{Role}
 use Rattle.hs_table.specs.declared.role.Role.TheVariants as role
 use Rattle.hs_tree.specs.declared.function.BoundRoutine.{BoundRoutine}
 use Rattle.hs_tree.specs.declared.function.Prototype.{Prototype}
-use Rattle.hs_tree.specs.declared.head.Variable.TheVariants as name
 use Rattle.hs_truth.specs.Good.{Good}
 use Rattle.hs_truth.specs.Linked.{since_of}
 use Rattle.hs_truth.specs.Owing.{good_after, steady_since, operates_good}

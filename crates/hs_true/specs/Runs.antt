@@ -7,31 +7,24 @@ use Rattle.std.proofs.Common.{◌≡◌, ℕ, Bool, false, List, [], ◌∷◌, 
 use Rattle.hs_calls.specs.Calls.{Here, Wait}
 use Rattle.hs_calls.specs.Stacks.{RanTo, Stack, Goes}
 use Rattle.hs_code.specs.Codes.{IsCode}
-use Rattle.hs_code.specs.declared.op.Op.TheVariants as op
 use Rattle.hs_code_run.specs.Codes.{scope_of, Point, CodeFunction}
 use Rattle.hs_code_run.specs.Runs.{begun}
-use Rattle.hs_code_run.specs.Steps.{holds, stepped}
+use Rattle.hs_code_run.specs.Steps.{stepped}
 use Rattle.hs_effects.specs.Answers.{Answers, IsExact}
-use Rattle.hs_facts.specs.Changes as changes
 use Rattle.hs_facts.specs.Effects.{WholeCode, impact_of}
 use Rattle.hs_facts.specs.Rounds.{Holds, HoldsIn}
 use Rattle.hs_heap.specs.declared.decision.Decision.{Decision}
-use Rattle.hs_heap.specs.declared.presence.Presence.TheVariants as presence
 use Rattle.hs_kinds.specs.Points.{IsTypedCode}
 use Rattle.hs_kinds.specs.Starts.{code_is_typed, run_begins}
-use Rattle.hs_lowering.specs.Laws.Variables as variables
 use Rattle.hs_meaning.specs.Machine.{Machine}
 use Rattle.hs_meaning.specs.Runs.{starting}
 use Rattle.hs_meaning.specs.Steps.{State, went}
 use Rattle.hs_meaning.specs.declared.input.Input.{Input}
 use Rattle.hs_meaning.specs.declared.outcome.Outcome.{Outcome}
-use Rattle.hs_meaning.specs.declared.outcome.Stop.TheVariants as stop
 use Rattle.hs_sound_heap.specs.Since.{Since}
 use Rattle.hs_still.specs.Runs as reach
 use Rattle.hs_still.specs.Runs.{Reaches}
-use Rattle.hs_table.specs.declared.role.Role.TheVariants as role
 use Rattle.hs_tree.specs.Fitting.{Fits}
-use Rattle.hs_tree.specs.declared.head.Variable.TheVariants as name
 use Rattle.hs_true.specs.Exact.{program, exact_told, sets_of, may_of}
 use Rattle.hs_true.specs.Facts.{fact_begins, Fact, fact_steps}
 use Rattle.hs_truth.specs.Linked.{since_of}

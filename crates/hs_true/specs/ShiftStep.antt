@@ -19,7 +19,6 @@ use Rattle.hs_heap.specs.declared.decision.Decision.{Decision}
 use Rattle.hs_heap.specs.declared.presence.Presence.TheVariants.{Purged}
 use Rattle.hs_hiding.specs.Blocks.{alive_since, made_since}
 use Rattle.hs_hiding.specs.Holding.{Lacking, Blocks, value_of, Cells}
-use Rattle.hs_lowering.specs.Laws.Variables as variables
 use Rattle.hs_meaning.specs.Evaluation.{decided_by, powers_of}
 use Rattle.hs_meaning.specs.Machine.{Machine, with_blocks}
 use Rattle.hs_meaning.specs.Steps.{State, then_with, give, next_decision, either, decided}

@@ -5,15 +5,9 @@ use Rattle.hs_calls.specs.Changing.{decision_effects}
 use Rattle.hs_code.specs.declared.function_code.Placed.{Placed}
 use Rattle.hs_code.specs.declared.op.Op.TheVariants as op
 use Rattle.hs_code_run.specs.Codes.{CodeProgram, scope_of, CodeFunction}
-use Rattle.hs_facts.specs.Changes as changes
 use Rattle.hs_facts.specs.Changes.{Impact, IsRestore}
 use Rattle.hs_facts.specs.Names.{taken as taken_by}
 use Rattle.hs_facts.specs.Rounds.{HoldsIn}
-use Rattle.hs_heap.specs.Blocks.{disposed}
-use Rattle.hs_heap.specs.declared.presence.Presence.TheVariants as presence
-use Rattle.hs_lowering.specs.Laws.Variables as variables
-use Rattle.hs_meaning.specs.Frames.{closed}
-use Rattle.hs_meaning.specs.declared.outcome.Stop.TheVariants as stop
 use Rattle.hs_sound_heap.specs.Roles.{effects_of}
 use Rattle.hs_sound_heap.specs.Since.{May, IsWithin}
 use Rattle.hs_table.specs.declared.role.Role.TheVariants as role

@@ -15,7 +15,6 @@ use Rattle.hs_facts.specs.Changes as changes
 use Rattle.hs_facts.specs.Changes.{Impact}
 use Rattle.hs_facts.specs.MustFacts.{Keeper, MustFact, With, Saved, Kept, on_stack, in_slot, Under, AreNames}
 use Rattle.hs_hiding.specs.Holding.{Lacks, value_of}
-use Rattle.hs_lowering.specs.Laws.Variables as variables
 use Rattle.hs_meaning.specs.Steps.{State}
 use Rattle.hs_meaning.specs.Values.{Value, state}
 use Rattle.hs_meaning.specs.declared.outcome.Outcome.{Outcome}

@@ -1,6 +1,6 @@
 -- Each operation inside a call keeps what holds of the call (own).
 --     within_goes       by the operation
-use Rattle.std.proofs.Common.{◌≡◌, ◌⊎◌, inl, inr, ℕ, zero, suc, Bool, true, false, List, [], ◌∷◌, length, Option, Some, None, refl, sym, subst, slice_get, map, true≢false, ◌==◌, if◌then◌else◌, pos}
+use Rattle.std.proofs.Common.{◌≡◌, ◌⊎◌, inl, inr, ℕ, zero, suc, Bool, true, false, List, [], ◌∷◌, length, Option, Some, None, refl, sym, subst, slice_get, map, true≢false, ◌==◌, pos}
 use Rattle.hs_calls.specs.Calls.{Here, Wait, point_of, waiting_of}
 use Rattle.hs_calls.specs.Changing.{since, decision_effects}
 use Rattle.hs_calls.specs.Stacks.{RanTo, Stays, is_inside}
@@ -18,11 +18,9 @@ use Rattle.hs_code.specs.declared.op.Unary.TheVariants as unary
 use Rattle.hs_code_run.specs.Codes.{CodeProgram, scope_of, Point}
 use Rattle.hs_code_run.specs.Laws.Depths.Control.{case_follows}
 use Rattle.hs_code_run.specs.Steps.{holds, operates_if, onward, onto, onto_if, case_for, by_stack, next_choice, later_choices, address_at, brought, access_of, operates}
-use Rattle.hs_facts.specs.Changes as changes
 use Rattle.hs_facts.specs.Changes.{Impact}
 use Rattle.hs_facts.specs.Names.{taken as taken_by}
 use Rattle.hs_heap.specs.declared.cell.Pointer.TheVariants.{Nil, Fixed}
-use Rattle.hs_heap.specs.declared.presence.Presence.TheVariants as presence
 use Rattle.hs_lowering.specs.Laws.Variables as variables
 use Rattle.hs_meaning.specs.Evaluation.{located, address_of}
 use Rattle.hs_meaning.specs.Laws.Changes.Operations.{SpeaksOf}
@@ -33,10 +31,8 @@ use Rattle.hs_meaning.specs.Operations.{Operation}
 use Rattle.hs_meaning.specs.Steps.{State, then_with, ran_at, give, acts, turn_from}
 use Rattle.hs_meaning.specs.Values.{Value, number, pointer}
 use Rattle.hs_meaning.specs.declared.outcome.Outcome.{Outcome}
-use Rattle.hs_meaning.specs.declared.outcome.Stop.TheVariants as stop
 use Rattle.hs_sound_heap.specs.Roles.{nothing}
 use Rattle.hs_sound_heap.specs.Since.{May, IsWithin}
-use Rattle.hs_table.specs.declared.role.Role.TheVariants as role
 use Rattle.hs_tree.specs.declared.constant.Base.TheVariants as base
 use Rattle.hs_tree.specs.declared.function.BoundRoutine.{BoundRoutine}
 use Rattle.hs_tree.specs.declared.head.Variable.{Variable}
