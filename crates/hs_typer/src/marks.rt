@@ -16,6 +16,8 @@ pub struct Mark {
 pub struct Tentative {
     /// The place of the name.
     pub at: Place,
+    /// Where the declaration is in its unit: of several refusals at its end, the one that is first in the text is given.
     pub mark: Mark,
+    /// The type that the declaration gives the object: a struct, or an array of structs.
     pub type_id: TypeId,
 }
