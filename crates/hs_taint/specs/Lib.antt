@@ -1,9 +1,14 @@
 pub mod Coding
 pub mod Flowing
+pub mod Hazarding
 pub mod Knowing
 pub mod Laws
+pub mod Listing
 pub mod Nodes
 pub mod Points
+pub mod Reaching
 pub mod Routes
+pub mod Sizes
+pub mod Solving
 pub mod Stepping
 pub mod Using

@@ -1,10 +1,12 @@
 //! The graph of a program. `specs/Routes.antt` has its nodes and steps.
 
-ghost use Rattle.std.specs.Prelude.{◌≡◌, ◌<◌, ◌≤◌, ◌++◌, ◌+◌, ℕ, true, Some, OnOk, length, slice_get};
+ghost use Rattle.std.specs.Prelude.{◌≡◌, ◌<◌, ◌≤◌, ◌++◌, ◌+◌, ℕ, true, [], Some, IfOk, OnOk, length, slice_get};
 ghost use Rattle.hs_chains.specs.Answering.{given_by};
 ghost use Rattle.hs_effects.specs.Calling.{whole_of};
 ghost use Rattle.hs_flow.specs.Programs.{IsNumbered, IsTableFor, next_in, slots_at};
 ghost use Rattle.hs_must.specs.Answers.{names_in};
+ghost use Rattle.hs_taint.specs.Coding.{numbers};
+ghost use Rattle.hs_taint.specs.Sizes.{most_values};
 ghost use Rattle.hs_taint.specs.Points.{count_of, is_there};
 ghost use Rattle.hs_chains.specs.Chains.{first_fact};
 ghost use Rattle.hs_code.specs.Following.{successors_of};
@@ -25,6 +27,7 @@ use hs_must::Must;
 use hs_search::{Graph, Node};
 use hs_tree::Variable;
 use std::alloc::Global;
+use std::cell::Cell;
 
 /// A program with the tables that answer what is known in it.
 #[derive(Drop)]
@@ -38,6 +41,8 @@ pub(crate) struct ProgramGraph<'a> {
     pub names: Vec<Vec<Variable>>,
     /// How many facts a step may give.
     pub room: usize,
+    /// A buffer for the facts of a step, between steps.
+    pub buffer: Cell<Option<Buffer>>,
     pub ghost functions_are: { operations.functions.now ≡ code.now.functions.items },
     pub ghost names_are: { AreNames (whole_of code.now) names.items },
     pub ghost all_named: { length names.items ≡ length code.now.functions.items },
@@ -45,8 +50,17 @@ pub(crate) struct ProgramGraph<'a> {
     pub ghost numbered: { (f : ℕ) → IsNumbered (whole_of code.now) f },
     pub ghost tables: { (f : ℕ) → f < length code.now.functions.items → IsTableFor (whole_of code.now) effects.now f },
     pub ghost starts: { is_there code.now.functions.items code.now.program.now.main 0 ≡ true },
+    pub ghost deep: { most_values 0 code.now.functions.items < numbers },
     pub ghost has_room: { (f at : ℕ)
         → 4 + slots_at (whole_of code.now) f (given_by (whole_of code.now) effects.now must.now f at) ≤ room },
+}
+
+/// A buffer of facts that waits for the next step.
+#[derive(Drop)]
+pub(crate) struct Buffer {
+    facts: Facts,
+    room: usize,
+    ghost right: { facts.room ≡ room },
 }
 
 /// An operation with what is known there.
@@ -84,6 +98,31 @@ impl<'a> ProgramGraph<'a> {
             places: its.places,
         };
         Here { known, its }
+    }
+
+    /// An empty buffer for the facts of a step: the one that waits, if it has room enough.
+    fn lend(&self) -> Result<Facts, NoMemory>
+        ensures empty { IfOk result (λ it. it.facts ≡ []) }
+        ensures room { IfOk result (λ it. it.room ≡ self.now.room) }
+    {
+        match self.buffer.replace(None) {
+            Some(buffer) if buffer.room == self.room => {
+                let mut facts = buffer.facts;
+                facts.clear();
+                Ok(facts)
+            }
+            _ => Facts::new(self.alloc, self.room),
+        }
+    }
+
+    /// Keeps a buffer for the next step.
+    fn keep(&self, facts: Facts)
+        requires room { facts.room ≡ self.now.room }
+    {
+        self.buffer.set(Some(Buffer {
+            facts,
+            room: self.room,
+        }));
     }
 
     /// Puts the nodes of the facts at the operations that follow one.
@@ -240,9 +279,11 @@ impl<'a> Graph for ProgramGraph<'a> {
         ensures { OnOk result (into.new.items ≡ into.old.items ++ (flow_in self.now).steps from) }
     {
         let here = self.here(from.at);
-        let mut facts = Facts::new(self.alloc, self.room)?;
+        let mut facts = self.lend()?;
         put_facts(&here.known, here.its.op, fact_of(from.fact), &mut facts);
-        self.put_steps(here, from.entered, facts.all(), into)
+        self.put_steps(here, from.entered, facts.all(), into)?;
+        self.keep(facts);
+        Ok(())
     }
 
     fn enters(&self, from: Node) -> Option<Node>

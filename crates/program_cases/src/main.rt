@@ -7,6 +7,7 @@ mod declarations;
 mod effects;
 mod expressions;
 mod functions;
+mod hazards;
 mod initialisers;
 mod must_facts;
 mod programs;
@@ -55,6 +56,7 @@ fn answer(alloc: Global, it: &Case<'_>) -> Result<String, Refusal> {
         "assigned" => analysis::answer(alloc, analysis::Asked::Assigned, it.text),
         "restores" => analysis::answer(alloc, analysis::Asked::Restores, it.text),
         "must" => must_facts::answer(alloc, it.text),
+        "hazards" => hazards::answer(alloc, it.text),
         _ => Err(Why::Unread.into()),
     }
 }

@@ -6,11 +6,11 @@ ghost use Rattle.hs_effects.specs.Calling.{whole_of};
 ghost use Rattle.hs_rows.specs.Sets.{width};
 
 use crate::programs::program;
-use crate::refusal::{Refusal, Why};
+use crate::refusal::Refusal;
 use hs_code::{Code, Op, Placed};
 use hs_effects::EffectTable;
 use hs_lower::lower;
-use hs_must::{Must, MustEnd, must};
+use hs_must::{Must, must};
 use hs_restores::effects;
 use hs_tree::{Program, Variable};
 use std::alloc::{AllocError, Global};
@@ -102,15 +102,10 @@ fn of_table(alloc: Global, code: &Code, table: &EffectTable) -> Result<String, R
     requires globals { length code.now.program.now.globals ≤ width table.now.assigned }
     requires exact { IsExact (whole_of code.now) table.now }
 {
-    match must(alloc, code, table) {
-        Ok(its) => {
-            let mut words = String::new(alloc);
-            push_marked(&mut words, code, &its)?;
-            Ok(words)
-        }
-        Err(MustEnd::Limit(_)) => Err(Why::Limit.into()),
-        Err(MustEnd::NoMemory) => Err(Why::NoMemory.into()),
-    }
+    let its = must(alloc, code, table)?;
+    let mut words = String::new(alloc);
+    push_marked(&mut words, code, &its)?;
+    Ok(words)
 }
 
 /// The same, of code.

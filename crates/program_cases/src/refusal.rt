@@ -3,6 +3,8 @@
 use hs_base::NoMemory;
 use hs_expr_parser::ParseEnd;
 use hs_lower::LowerEnd;
+use hs_must::MustEnd;
+use hs_taint::TaintEnd;
 use hs_tokens::Place;
 use hs_typer::TypeError;
 use hs_typing::ProgramError;
@@ -84,6 +86,24 @@ impl From<LowerEnd> for Refusal {
         match why {
             LowerEnd::Limit(_) => Why::Limit.into(),
             LowerEnd::NoMemory => Why::NoMemory.into(),
+        }
+    }
+}
+
+impl From<MustEnd> for Refusal {
+    fn from(why: MustEnd) -> Refusal {
+        match why {
+            MustEnd::Limit(_) => Why::Limit.into(),
+            MustEnd::NoMemory => Why::NoMemory.into(),
+        }
+    }
+}
+
+impl From<TaintEnd> for Refusal {
+    fn from(why: TaintEnd) -> Refusal {
+        match why {
+            TaintEnd::Limit(_) => Why::Limit.into(),
+            TaintEnd::NoMemory => Why::NoMemory.into(),
         }
     }
 }

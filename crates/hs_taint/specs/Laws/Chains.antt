@@ -49,14 +49,14 @@ module _ (whole : WholeCode) (known : Knowledge) (fits : IsSmallProgram whole kn
       (enter_small (parameters_of whole f) (known.at c.function c.at) (parameters_small whole known fits f) c.fact callers.2) callers.4
 
   -- and it is the entry of the stack
-  entry_of_callers : (stack : List Spot) (f : ℕ) (entry : Fact) (nodes : List Node) → AreCallers whole known stack f entry nodes
+  pub entry_of_callers : (stack : List Spot) (f : ℕ) (entry : Fact) (nodes : List Node) → AreCallers whole known stack f entry nodes
       → IsEntry whole known stack f entry
   entry_of_callers [] f entry [] callers = callers
   entry_of_callers [] f entry (node ∷ nodes) callers = absurd callers
   entry_of_callers (c ∷ stack) f entry [] callers = absurd callers
   entry_of_callers (c ∷ stack) f entry (node ∷ nodes) callers = callers.4
 
-  one_entry : (stack : List Spot) (f : ℕ) (a b : Fact) → IsEntry whole known stack f a → IsEntry whole known stack f b → a ≡ b
+  pub one_entry : (stack : List Spot) (f : ℕ) (a b : Fact) → IsEntry whole known stack f a → IsEntry whole known stack f b → a ≡ b
   one_entry [] f a b first second = first ∙ sym second
   one_entry (c ∷ stack) f a b first second = some_fact (sym first ∙ second)
 
