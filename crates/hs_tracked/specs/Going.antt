@@ -4,7 +4,8 @@
 --     Leaves                      the operation leaves blocks and variables as they were
 --     stays_at, place_stays       the facts of a slot that the operation does not take: the row `stays`
 --     goes_tracked                all that is tracked still is, if the places of the new stack and the cells are
-use Rattle.std.proofs.Common.{◌≡◌, ◌<◌, ◌-◌, ℕ, Bool, true, List, [], ◌∷◌, length, slice_get, Some, refl, sym, ap, ◌∙◌, subst, arith}
+use Rattle.std.proofs.Common.{◌≡◌, ◌<◌, ◌-◌, ℕ, zero, suc, Bool, true, false, List, [], ◌∷◌, length, slice_get, Option, Some, refl, sym, ap, ◌∙◌, subst, arith}
+use Rattle.std.proofs.lemmas.Option.{none-some}
 use Rattle.std.specs.List.{AllByRecursion}
 use Rattle.hs_calls.specs.Calls.{Here, Wait, moved}
 use Rattle.hs_chains.specs.Chains.{FollowsIn, FollowsOf, goes as goes_along}
@@ -33,6 +34,7 @@ use Rattle.hs_hiding.specs.Holding.{value_of}
 use Rattle.hs_meaning.specs.Machine.{Machine}
 use Rattle.hs_meaning.specs.Values.{Value}
 use Rattle.hs_must.specs.Answers.{names_in}
+use Rattle.hs_sound_heap.specs.Since.{May, Since, IsThere}
 use Rattle.hs_tracked.specs.Passing.{Brings, Passes, ClassesPass, PlacesPass, Undisturbed, IsQuiet, goes_on, pass_value, pass_places, pass_blocks, pass_objects, quiet_passes}
 use Rattle.hs_tracked.specs.Tracking.{MeansHere, TrackedCells, TrackedPlaces, AreTracked}
 use Rattle.hs_tree.specs.declared.head.Variable.{Variable}
@@ -103,6 +105,26 @@ module _ (whole : WholeCode) (known : Knowledge) (here : Here) (machine : Machin
         → Undisturbed whole known here next machine after ws block (block_at after.blocks n)
     pub values : (x : Variable) → value_of after x ≡ value_of machine x
     pub lasts : (n : ℕ) → here.lasting n ≡ true → lasting n ≡ true
+
+  -- so it is, if the operation neither moves nor marks
+  pub leaves_since : (may : May) → may.moves ≡ false → may.marks ≡ false → Since may machine.blocks after.blocks
+      → ((x : Variable) → value_of after x ≡ value_of machine x) → ((n : ℕ) → here.lasting n ≡ true → lasting n ≡ true) → Leaves
+  leaves_since may moves marks since values lasts = record { blocks = by_number; values = values; lasts = lasts }
+    where
+      by_there : (block : Block) (found : Option Block) → IsThere may block found → Undisturbed whole known here next machine after ws block found
+      by_there block found its =
+          record {
+            block = its.block;
+            there = its.there;
+            epoch = its.since.epoch moves;
+            marked = λ so. its.since.purgeable marks so;
+            gone = λ so. its.since.unpurged moves so;
+          }
+
+      by_number : (n : ℕ) (block : Block) → block_at machine.blocks n ≡ Some block
+          → Undisturbed whole known here next machine after ws block (block_at after.blocks n)
+      by_number zero block there = absurd (none-some block there)
+      by_number (suc i) block there = by_there block (slice_get after.blocks i) (since i block there)
 
   means_still : Leaves → (its : FactStatus) (n : ℕ) → MeansHere whole its here machine n → MeansHere whole its next after n
   means_still leaves (status.Fresh h) n means = (means.0, means.1, leaves.values means.0 ∙ means.2)

@@ -1,5 +1,10 @@
+pub mod Cells
 pub mod Going
+pub mod Loading
 pub mod Moving
 pub mod Passing
+pub mod Right
 pub mod Setting
+pub mod Shifting
+pub mod Storing
 pub mod Tracking

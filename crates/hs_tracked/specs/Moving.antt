@@ -2,7 +2,7 @@
 --     drops, pushes                what is below the operands stays, and a value without facts is put on top: the row `stays`
 --     dup, tuck, get               the rows `dup_also`; `tuck_low`, `tuck_top`, `tuck_moved`; `get_also`
 --     offset, step                 a pointer that is moved inside its block: the rows `offset_pointer`, `step_pointer`
-use Rattle.std.proofs.Common.{◌≡◌, ◌≤◌, inl, inr, ℤ, ℕ, pos, suc, ◌-◌, ◌+ℤ◌, Bool, true, false, List, ◌∷◌, length, Some, None, refl, sym, ap, ◌∙◌, subst, arith, if◌then◌else◌}
+use Rattle.std.proofs.Common.{◌≡◌, ◌≤◌, inr, ℤ, ℕ, pos, suc, ◌-◌, ◌+ℤ◌, Bool, true, false, List, ◌∷◌, length, Some, None, refl, sym, ap, ◌∙◌, subst, arith, if◌then◌else◌}
 use Rattle.hs_calls.specs.Calls.{Here, Wait, moved}
 use Rattle.hs_chains.specs.Knowledge.{Knowledge}
 use Rattle.hs_code.specs.Following.{IsNext}
@@ -24,7 +24,6 @@ use Rattle.hs_flow.specs.declared.fact.Slot as flow_slot
 use Rattle.hs_flow.specs.declared.fact.Slot.TheVariants as slot
 use Rattle.hs_heap.specs.Blocks.{Block}
 use Rattle.hs_heap.specs.Memory.{block_at}
-use Rattle.hs_heap.specs.declared.cell.Spot as spot
 use Rattle.hs_heap.specs.declared.cell.Pointer.{Pointer}
 use Rattle.hs_heap.specs.declared.cell.Pointer.TheVariants.{Nil, Fixed, Handle, Spot}
 use Rattle.hs_hiding.specs.Holding.{value_of}
@@ -32,8 +31,8 @@ use Rattle.hs_meaning.specs.Machine.{Machine}
 use Rattle.hs_meaning.specs.Pointers.{moved_by, moved_stop}
 use Rattle.hs_meaning.specs.Values.{Value, pointer}
 use Rattle.hs_tracked.specs.Going.{IsAt, Leaves, leads, value_goes, classes, rest_stays, goes_tracked}
-use Rattle.hs_tracked.specs.Passing.{PointersPass, StaysCurrent, pass_value, pass_spot}
-use Rattle.hs_tracked.specs.Tracking.{MeansHere, Backed, TrackedSpot, TrackedPointer, Tracked, TrackedPlaces, AreTracked}
+use Rattle.hs_tracked.specs.Passing.{PointersPass, StaysCurrent, pass_value, pass_spot, same_spot}
+use Rattle.hs_tracked.specs.Tracking.{MeansHere, TrackedPointer, Tracked, TrackedPlaces, AreTracked}
 use Rattle.hs_tree.specs.declared.head.Variable.{Variable}
 use Rattle.hs_tree.specs.declared.operators.Stride.{Stride}
 
@@ -65,7 +64,7 @@ module _ (whole : WholeCode) (known : Knowledge) (here : Here) (machine : Machin
     abbrev next : Here
     next = moved here at stack lasting
 
-    same_machine : Leaves whole known here machine ws its is_at form is at stack lasting goes machine
+    pub same_machine : Leaves whole known here machine ws its is_at form is at stack lasting goes machine
     same_machine =
         record {
           blocks = λ n block there. record { block = block; there = there; epoch = refl; marked = λ so. so; gone = λ so. so };
@@ -224,21 +223,6 @@ module _ (whole : WholeCode) (known : Knowledge) (here : Here) (machine : Machin
               backed = λ calls backed. backed;
             }
 
-    same_spot : (from to : spot.Spot) → to.block ≡ from.block → to.epoch ≡ from.epoch → TrackedSpot whole known later machine ws (slot.Place j) from
-        → TrackedSpot whole known later machine ws (slot.Place j) to
-    same_spot from to one_block one_epoch (inl stale) = inl stale
-    same_spot from to one_block one_epoch (inr c) =
-        inr (record {
-          block = c.block;
-          there = ap (block_at machine.blocks) one_block ∙ c.there;
-          current = one_epoch ∙ c.current;
-          alive = c.alive;
-          status = c.status;
-          has = c.has;
-          means = subst (MeansHere whole c.status later machine) (sym one_block) c.means;
-          backed = subst (Backed whole c.status c.has.calls ws) (sym one_block) c.backed;
-        })
-
     -- by so many bytes; NIL and handles stop
     moved_tracked : (p : Pointer) (bytes : ℤ) → moved_stop bytes p ≡ None → TrackedPointer whole known here machine ws (slot.Place i) p
         → TrackedPointer whole known later machine ws (slot.Place j) (moved_by bytes p)
@@ -246,7 +230,7 @@ module _ (whole : WholeCode) (known : Knowledge) (here : Here) (machine : Machin
     moved_tracked (Fixed object at) bytes no_stop tracked = tt
     moved_tracked (Handle n) bytes no_stop tracked = absurd cc
     moved_tracked (Spot from) bytes no_stop tracked =
-        same_spot from (record from { offset = from.offset +ℤ bytes }) refl refl
+        same_spot whole known later machine ws (slot.Place j) from (record from { offset = from.offset +ℤ bytes }) refl refl
         (pass_spot whole known here later machine machine ws (slot.Place i) (slot.Place j) steps_on from tracked)
 
   -- Offset: the pointer on top

@@ -1,10 +1,11 @@
 -- How an operation keeps values tracked: one record of what it keeps of a slot, and the law that a value then stays tracked (own).
+--     same_spot, fresh_backed, loose_backed      what is known of a pointer
 --     Leads                       each chain with the one fact goes on with the other fact
 --     PointersPass, HandlePasses  what an operation keeps of pointers and of a handle that it leaves in a slot
 --     Passes of to v              of a value
 --     pass_value, pass_places, ..      the law
 --     IsQuiet stay, quiet_passes  an operation that moves and marks nothing: each status stays as `stay` says
-use Rattle.std.proofs.Common.{◌≡◌, ◌⊎◌, inl, inr, ℕ, suc, Bool, true, false, List, [], ◌∷◌, length, Option, Some, refl, sym, ◌∙◌, subst}
+use Rattle.std.proofs.Common.{◌≡◌, ◌⊎◌, inl, inr, ℕ, suc, Bool, true, false, List, [], ◌∷◌, length, Option, Some, refl, sym, ap, ◌∙◌, subst}
 use Rattle.std.specs.List.{AllByRecursion}
 use Rattle.hs_calls.specs.Calls.{Here, Wait}
 use Rattle.hs_chains.specs.Chains.{Chain, Spot as Mark}
@@ -27,6 +28,36 @@ use Rattle.hs_meaning.specs.Machine.{Machine, Object}
 use Rattle.hs_meaning.specs.Values.{Value, number, pointer, state, structure}
 use Rattle.hs_sound_heap.specs.Since.{is_marked, is_purged}
 use Rattle.hs_tracked.specs.Tracking.{mark_of, MeansHere, Backed, HasChain, Current, TrackedSpot, TrackedHandle, TrackedPointer, TrackedCell, TrackedCells, Tracked, TrackedPlaces}
+
+-- ---- pointers and statuses
+
+-- what is known of a pointer depends on its block and its epoch alone
+pub same_spot : (whole : WholeCode) (known : Knowledge) (here : Here) (machine : Machine) (ws : List Wait) (of : flow_slot.Slot) (a b : spot.Spot)
+    → a.block ≡ b.block → a.epoch ≡ b.epoch → TrackedSpot whole known here machine ws of a → TrackedSpot whole known here machine ws of b
+same_spot whole known here machine ws of a b one_block one_epoch (inl stale) = inl stale
+same_spot whole known here machine ws of a b one_block one_epoch (inr c) =
+    inr (record {
+      block = c.block;
+      there = ap (block_at machine.blocks) (sym one_block) ∙ c.there;
+      current = sym one_epoch ∙ c.current;
+      alive = c.alive;
+      status = c.status;
+      has = c.has;
+      means = subst (MeansHere whole c.status here machine) one_block c.means;
+      backed = subst (Backed whole c.status c.has.calls ws) one_block c.backed;
+    })
+
+-- what is fresh owes its callers nothing
+pub fresh_backed : (whole : WholeCode) (h : ℕ) (calls : List Mark) (ws : List Wait) (n : ℕ) → Backed whole (status.Fresh h) calls ws n
+fresh_backed whole h [] ws n = tt
+fresh_backed whole h (c ∷ calls) [] n = tt
+fresh_backed whole h (c ∷ calls) (w ∷ ws) n = tt
+
+-- nor what is loose
+pub loose_backed : (whole : WholeCode) (calls : List Mark) (ws : List Wait) (n : ℕ) → Backed whole status.Loose calls ws n
+loose_backed whole [] ws n = tt
+loose_backed whole (c ∷ calls) [] n = tt
+loose_backed whole (c ∷ calls) (w ∷ ws) n = tt
 
 module _ (whole : WholeCode) (known : Knowledge) (here next : Here) (machine after : Machine) (ws : List Wait) where
   -- ---- what is kept

@@ -27,7 +27,7 @@ use Rattle.hs_meaning.specs.Machine.{Machine, with_value}
 use Rattle.hs_meaning.specs.Values.{Value}
 use Rattle.hs_must.specs.Answers.{names_in}
 use Rattle.hs_tracked.specs.Going.{IsAt, leads}
-use Rattle.hs_tracked.specs.Passing.{Brings, Passes, ClassesPass, PlacesPass, Undisturbed, IsQuiet, goes_on, pass_value, pass_places, pass_blocks, pass_objects, quiet_passes}
+use Rattle.hs_tracked.specs.Passing.{Brings, Passes, ClassesPass, PlacesPass, Undisturbed, IsQuiet, goes_on, pass_value, pass_places, pass_blocks, pass_objects, quiet_passes, fresh_backed, loose_backed}
 use Rattle.hs_tracked.specs.Tracking.{NameHolds, MeansHere, Backed, TrackedCells, TrackedPlaces, Tracked, AreTracked}
 use Rattle.hs_tree.specs.declared.head.Variable.{Variable}
 use Rattle.hs_tree.specs.declared.head.Variable.TheVariants as name
@@ -69,17 +69,12 @@ module _ (whole : WholeCode) (known : Knowledge) (here : Here) (machine : Machin
   means_set status.Loose n means = tt
   means_set other n means = absurd means
 
-  -- what is fresh or loose owes nothing
-  owes_nothing : (h : ℕ) (z : Bool) (calls : List Mark) (ws : List Wait) (n : ℕ) → Backed whole (if z then status.Loose else status.Fresh h) calls ws n
-  owes_nothing h true [] ws n = tt
-  owes_nothing h true (c ∷ calls) [] n = tt
-  owes_nothing h true (c ∷ calls) (w ∷ ws) n = tt
-  owes_nothing h false [] ws n = tt
-  owes_nothing h false (c ∷ calls) [] n = tt
-  owes_nothing h false (c ∷ calls) (w ∷ ws) n = tt
+  owes_nothing : (h : ℕ) (z : Bool) (calls : List Mark) (n : ℕ) → Backed whole (if z then status.Loose else status.Fresh h) calls ws n
+  owes_nothing h true calls n = loose_backed whole calls ws n
+  owes_nothing h false calls n = fresh_backed whole h calls ws n
 
   backed_set : (status : FactStatus) (n : ℕ) (calls : List Mark) → Backed whole status calls ws n → Backed whole (stay status) calls ws n
-  backed_set (status.Fresh h) n calls backed = owes_nothing h (is_name_of (slice_get facts.names h) x) calls ws n
+  backed_set (status.Fresh h) n calls backed = owes_nothing h (is_name_of (slice_get facts.names h) x) calls n
   backed_set other n calls backed = backed
 
   same_block : (n : ℕ) (block : Block) → block_at machine.blocks n ≡ Some block
