@@ -1,8 +1,9 @@
 -- What holds of each cell of a machine holds of the cells that a load reads, and of those that a store leaves (own).
 --     InBlocks, InObjects          of the cells of all blocks, and of all objects
 --     cells_read                   the cells that a pointer reaches
+--     objects_ended                the cells after the objects of a call have ended
 --     blocks_written, objects_written      the cells after others are put where a pointer reaches
-use Rattle.std.proofs.Common.{◌≡◌, ℤ, ℕ, zero, suc, ◌+◌, ◌-◌, List, [], ◌++◌, take, drop, length, slice_get, Option, Some, None, refl}
+use Rattle.std.proofs.Common.{◌≡◌, ℤ, ℕ, zero, suc, ◌+◌, ◌-◌, List, [], ◌∷◌, ◌++◌, take, drop, length, slice_get, Option, Some, None, refl}
 use Rattle.std.proofs.lemmas.Option.{none-some}
 use Rattle.std.specs.List.{AllByRecursion}
 use Rattle.hs_base.specs.Entries.{all_at, all_appended}
@@ -13,7 +14,8 @@ use Rattle.hs_heap.specs.declared.cell.Pointer.{Pointer}
 use Rattle.hs_heap.specs.declared.cell.Pointer.TheVariants.{Nil, Fixed, Handle, Spot}
 use Rattle.hs_hiding.specs.Lists.{all_set, all_take, all_drop}
 use Rattle.hs_meaning.specs.Accesses.{start_at, cells_from, with_cells_from, cells_of_object, cells_of_block, cells_at, put_in_object, put_in_block, with_cells_at}
-use Rattle.hs_meaning.specs.Machine.{Machine, Object}
+use Rattle.hs_meaning.specs.Frames.{without_objects}
+use Rattle.hs_meaning.specs.Machine.{Machine, Object, Binding, slot, object_at, with_object, ended_object}
 
 module _ (P : Cell → Type 0) where
   -- of all cells of blocks
@@ -91,3 +93,13 @@ module _ (P : Cell → Type 0) where
       by_block : (found : Option Block) → InObjects (put_in_block its new machine found).objects
       by_block None = are
       by_block (Some b) = are
+
+  -- ---- the end of a call
+
+  -- objects that end have no cells
+  pub objects_ended : (locals : List Binding) (machine : Machine) → InObjects machine.objects → InObjects (without_objects locals machine).objects
+  objects_ended [] machine are = are
+  objects_ended (slot value ∷ rest) machine are = objects_ended rest machine are
+  objects_ended (object_at place ∷ rest) machine are =
+      objects_ended rest (with_object place ended_object machine)
+      (all_set (λ it. AllByRecursion P it.cells) machine.objects place ended_object are tt)

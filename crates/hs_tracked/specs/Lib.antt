@@ -1,8 +1,11 @@
 pub mod Cells
 pub mod Going
+pub mod Leaving
 pub mod Loading
 pub mod Moving
+pub mod Over
 pub mod Passing
+pub mod Returning
 pub mod Right
 pub mod Setting
 pub mod Shifting
