@@ -1,4 +1,5 @@
 pub mod Cells
+pub mod Entering
 pub mod Going
 pub mod Leaving
 pub mod Loading
