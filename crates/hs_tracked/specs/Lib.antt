@@ -1,3 +1,4 @@
+pub mod Calling
 pub mod Cells
 pub mod Entering
 pub mod Going
