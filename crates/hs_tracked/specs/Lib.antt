@@ -1,3 +1,4 @@
+pub mod Bringing
 pub mod Calling
 pub mod Cells
 pub mod Entering
