@@ -2,8 +2,12 @@
 --     Acts               what the role leaves of blocks and variables
 --     routine_value      the rows `routine_stays`; `routine_holds`, `routine_unlocks`; `routine_marks`, `routine_purgeable`
 --     made_value         a handle that is made: the row `routine_makes`
-use Rattle.std.proofs.Common.{◌≡◌, ◌⊎◌, inl, inr, ℕ, suc, ◌-◌, Bool, true, false, ◌&&◌, List, length, Option, Some, refl, sym, ◌∙◌, subst, true≢false}
+--     routine            all that a call has
+--     acts_since         roles that mark and unmark nothing act so
+use Rattle.std.proofs.Common.{◌≡◌, ◌⊎◌, inl, inr, ℕ, suc, ◌-◌, Bool, true, false, ◌&&◌, List, length, Option, Some, refl, sym, ◌∙◌, subst, true≢false, ◌<◌, zero, [], ◌∷◌}
 use Rattle.std.proofs.lemmas.Bool.{and_parts}
+use Rattle.std.proofs.lemmas.Option.{none-some}
+use Rattle.std.specs.List.{AllByRecursion}
 use Rattle.hs_calls.specs.Calls.{Here, Wait, moved}
 use Rattle.hs_chains.specs.Chains.{Spot as Mark}
 use Rattle.hs_chains.specs.Knowledge.{Knowledge}
@@ -15,6 +19,7 @@ use Rattle.hs_facts.specs.Names.{taken, role_at, makes_handle}
 use Rattle.hs_flow.specs.Given.{Given, apart, share_name}
 use Rattle.hs_flow.specs.Among.{Among}
 use Rattle.hs_flow.specs.Laws.Coming as rows
+use Rattle.hs_flow.specs.Laws.Staying.{is_below_of}
 use Rattle.hs_flow.specs.Next.{at_slot, next_of, unlocks_by, marks_by, unmarks_by}
 use Rattle.hs_flow.specs.Programs.{scope_at}
 use Rattle.hs_flow.specs.Slots.{is_below}
@@ -29,15 +34,15 @@ use Rattle.hs_heap.specs.declared.cell.Pointer.TheVariants.{Handle}
 use Rattle.hs_hiding.specs.Holding.{value_of}
 use Rattle.hs_meaning.specs.Machine.{Machine}
 use Rattle.hs_meaning.specs.Values.{Value, pointer}
-use Rattle.hs_sound_heap.specs.Since.{is_marked, is_purged}
+use Rattle.hs_sound_heap.specs.Since.{May, Since, IsThere, is_marked, is_purged}
 use Rattle.hs_table.specs.declared.role.Role.{Role}
 use Rattle.hs_tracked.specs.Going.{IsAt, leads}
 use Rattle.hs_tracked.specs.Over.{outer_backed}
-use Rattle.hs_tracked.specs.Passing.{Brings, Passes, PointersPass, HandlePasses, HandleStays, StaysCurrent, ClassesPass, goes_on, pass_value, pass_cells}
+use Rattle.hs_tracked.specs.Passing.{Brings, Passes, PointersPass, HandlePasses, HandleStays, StaysCurrent, ClassesPass, PlacesPass, goes_on, pass_value, pass_cells, pass_places, pass_blocks, pass_objects}
 use Rattle.hs_tracked.specs.Right.{AreRight, IsIn, shared_there, apart_blocks}
-use Rattle.hs_tracked.specs.Tracking.{MeansHere, Backed, HasChain, TrackedHandle, TrackedCells, Tracked}
+use Rattle.hs_tracked.specs.Tracking.{MeansHere, Backed, HasChain, TrackedHandle, TrackedCells, Tracked, TrackedPlaces, AreTracked}
 use Rattle.hs_tree.specs.declared.head.Variable.{Variable}
-use Rattle.hs_truth.specs.Places.{at_place}
+use Rattle.hs_truth.specs.Places.{at_place, place_low, the_top, under_top}
 
 module _ (whole : WholeCode) (known : Knowledge) (here : Here) (machine after : Machine) (ws : List Wait) (its : Placed) (is_at : IsAt whole known here its)
     (right : AreRight whole known here machine) (lasting : ℕ → Bool) (stack : List Value) (number : ℕ) (is : its.op ≡ op.Routine number) where
@@ -215,3 +220,60 @@ module _ (whole : WholeCode) (known : Knowledge) (here : Here) (machine after : 
         marked = λ so. absurd (true≢false (sym so ∙ unmarked));
         gone = λ so. absurd (true≢false (sym so ∙ alive));
       }
+
+  -- ---- all that a call has
+
+  module _ (acts : Acts) (rest : List Value) (below : base ≡ length rest)
+      (same : (i : ℕ) (u : Value) → at_place i rest ≡ Some u → at_place i here.stack ≡ Some u) where
+    places_pass : (values : List Value) → ((i : ℕ) (u : Value) → at_place i values ≡ Some u → at_place i rest ≡ Some u)
+        → PlacesPass whole known here next machine after ws (classes acts) values
+    places_pass [] there = tt
+    places_pass (u ∷ values) there = (
+      passes acts (slot.Place (length values))
+          (is_below_of base (length values) (subst (λ n. length values < n) (sym below)
+          (place_low (length values) rest u (there (length values) u (the_top (length values) u values refl))))) u
+          (same (length values) u (there (length values) u (the_top (length values) u values refl))),
+      places_pass values (λ i w has. there i w (under_top i u values (place_low i values w has) ∙ has)),
+    )
+
+    -- The values below the arguments, variables and cells stay tracked; the result and new cells are as they are given.
+    pub routine : (v : Value) → stack ≡ v ∷ rest → Tracked whole known next after ws (slot.Place (length rest)) v
+        → TrackedPlaces whole known here machine ws rest
+        → (AllByRecursion (λ block. TrackedCells whole known next after ws block.cells) machine.blocks
+        → AllByRecursion (λ block. TrackedCells whole known next after ws block.cells) after.blocks)
+        → (AllByRecursion (λ object. TrackedCells whole known next after ws object.cells) machine.objects
+        → AllByRecursion (λ object. TrackedCells whole known next after ws object.cells) after.objects)
+        → AreTracked whole known here machine ws → AreTracked whole known next after ws
+    routine v so result places blocks objects are =
+        record {
+          reached = routine_reached acts are.reached;
+          places = subst (TrackedPlaces whole known next after ws) (sym so)
+              (result, pass_places whole known here next machine after ws (classes acts) rest (places_pass rest (λ i u has. has)) places);
+          variables = λ x u holds.
+              routine_value acts (slot.Variable x) refl u (sym (acts.values x) ∙ holds) (are.variables x u (sym (acts.values x) ∙ holds));
+          blocks = blocks (pass_blocks whole known here next machine after ws (classes acts) machine.blocks are.blocks);
+          objects = objects (pass_objects whole known here next machine after ws (classes acts) machine.objects are.objects);
+        }
+
+  -- ---- roles that mark and unmark nothing
+
+  -- HLock, HUnlock, the sizes, HGetState, EmptyHandle, ReallocateHandle, DisposeHandle, NewHandle, pointers, BlockMove, characters, and plain routines
+  pub acts_since : (may : May) → may.moves ≡ false → may.marks ≡ false → unmarks_by its_role ≡ false → Since may machine.blocks after.blocks
+      → ((x : Variable) → value_of after x ≡ value_of machine x)
+      → (unlocks_by facts.restores its_role ≡ false → (n : ℕ) → here.lasting n ≡ true → lasting n ≡ true) → Acts
+  acts_since may moves marks unmarks since values lasts = record { blocks = by_number; values = values; lasts = lasts }
+    where
+      by_there : (n : ℕ) (old : Block) → IsThere may old (block_at after.blocks n) → ActsAt n old
+      by_there n old new =
+          record {
+            block = new.block;
+            there = new.there;
+            epoch = new.since.epoch moves;
+            gone = λ so. new.since.unpurged moves so;
+            marked = λ so. inl (new.since.purgeable marks so);
+            unmarked = λ so unmarked argument. true≢false (sym unmarked ∙ unmarks);
+          }
+
+      by_number : (n : ℕ) (block : Block) → block_at machine.blocks n ≡ Some block → ActsAt n block
+      by_number zero block there = absurd (none-some block there)
+      by_number (suc i) block there = by_there (suc i) block (since i block there)
