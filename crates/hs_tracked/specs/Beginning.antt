@@ -1,14 +1,15 @@
 -- The begin of a call: its parameters are given their arguments, and other variables have no values (own).
 --     Goes place id binding       an argument goes where its parameter is: to the slot, or to the class of the object
 --     begun                       all that the function has is tracked
+--     all_begun                   and so is all that the calls have that wait
 use Rattle.std.proofs.Common.{◌≡◌, ◌<◌, ◌≤◌, ◌⊎◌, inl, inr, ℕ, zero, suc, pos, ◌+◌, Bool, true, false, List, [], ◌∷◌, length, map, take, replicate, slice_get, slice_set, Option, Some, None, refl, sym, ap, ◌∙◌, subst, arith, if◌then◌else◌}
 use Rattle.std.specs.List.{AllByRecursion}
 use Rattle.hs_base.specs.Entries.{all_appended, set_either, set_other}
-use Rattle.hs_calls.specs.Calls.{Here, Wait}
+use Rattle.hs_calls.specs.Calls.{Here, Wait, IsWait}
 use Rattle.hs_chains.specs.Knowledge.{Knowledge}
 use Rattle.hs_code.specs.declared.function_code.Placed.{Placed}
 use Rattle.hs_code.specs.declared.op.Op.TheVariants as op
-use Rattle.hs_code_run.specs.Codes.{CodeFunction}
+use Rattle.hs_code_run.specs.Codes.{CodeFunction, CodeProgram}
 use Rattle.hs_facts.specs.Effects.{WholeCode}
 use Rattle.hs_flow.specs.Calls.{base_of, entered}
 use Rattle.hs_flow.specs.declared.fact.Slot.{Slot}
@@ -31,7 +32,7 @@ use Rattle.hs_tracked.specs.Cells.{InObjects, objects_written}
 use Rattle.hs_tracked.specs.Entering.{begin, waiting, enter_cells, enter_pointer, enter_reached, enter_value}
 use Rattle.hs_tracked.specs.Going.{IsAt}
 use Rattle.hs_tracked.specs.Right.{AreRight}
-use Rattle.hs_tracked.specs.Tracking.{TrackedCell, TrackedCells, Tracked, AreTracked}
+use Rattle.hs_tracked.specs.Tracking.{TrackedCell, TrackedCells, Tracked, AreTracked, AreAllTracked}
 use Rattle.hs_flow.specs.Programs.{parameters_of}
 use Rattle.hs_tree.specs.Classes.{is_slot}
 use Rattle.hs_tree.specs.declared.head.Variable.{Variable}
@@ -303,3 +304,13 @@ module _ (whole : WholeCode) (known : Knowledge) (here : Here) (machine : Machin
             enter_value whole known here machine ws its is_at fn function calls of_function right after same.blocks (flow_slot.Variable (name.Global g))
             (flow_slot.Variable (name.Global g)) refl v
             (tracked.variables (name.Global g) v (sym (ap value_of_slot (ap (λ gs. slice_get gs g) same.globals)) ∙ holds))
+
+    -- The function goes on, and its caller waits.
+    pub all_begun : (program : CodeProgram) → IsWait program (waiting whole known here machine ws its is_at fn function calls of_function right after same.blocks)
+        → AllGo after same.blocks start 0 (take parameters variables) → AreArguments 0 values → AreAllTracked whole known program here machine ws
+        → AreAllTracked whole known program (new after same.blocks) after (inside after same.blocks)
+    all_begun program waits go are all = (begun go are (first ws all), waits, all)
+      where
+        first : (vs : List Wait) → AreAllTracked whole known program here machine vs → AreTracked whole known here machine vs
+        first [] all = all
+        first (v ∷ vs) all = all.0

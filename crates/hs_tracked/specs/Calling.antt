@@ -2,7 +2,7 @@
 --     Acts               what the role leaves of blocks and variables
 --     routine_value      the rows `routine_stays`; `routine_holds`, `routine_unlocks`; `routine_marks`, `routine_purgeable`
 --     made_value         a handle that is made: the row `routine_makes`
---     routine            all that a call has
+--     routine, copies    all that a call has; BlockMove
 --     acts_since         roles that mark and unmark nothing act so
 use Rattle.std.proofs.Common.{◌≡◌, ◌⊎◌, inl, inr, ℕ, suc, ◌-◌, Bool, true, false, ◌&&◌, List, length, Option, Some, refl, sym, ◌∙◌, subst, true≢false, ◌<◌, zero, [], ◌∷◌}
 use Rattle.std.proofs.lemmas.Bool.{and_parts}
@@ -30,17 +30,20 @@ use Rattle.hs_flow.specs.declared.fact.Slot.TheVariants as slot
 use Rattle.hs_heap.specs.Blocks.{Block}
 use Rattle.hs_heap.specs.Memory.{block_at}
 use Rattle.hs_heap.specs.declared.cell.Cell.{Cell}
+use Rattle.hs_heap.specs.declared.cell.Pointer.{Pointer}
 use Rattle.hs_heap.specs.declared.cell.Pointer.TheVariants.{Handle}
 use Rattle.hs_hiding.specs.Holding.{value_of}
+use Rattle.hs_meaning.specs.Accesses.{cells_at, with_cells_at}
 use Rattle.hs_meaning.specs.Machine.{Machine}
 use Rattle.hs_meaning.specs.Values.{Value, pointer}
 use Rattle.hs_sound_heap.specs.Since.{May, Since, IsThere, is_marked, is_purged}
 use Rattle.hs_table.specs.declared.role.Role.{Role}
+use Rattle.hs_tracked.specs.Cells.{InBlocks, InObjects, cells_read, blocks_written, objects_written}
 use Rattle.hs_tracked.specs.Going.{IsAt, leads}
 use Rattle.hs_tracked.specs.Over.{outer_backed}
 use Rattle.hs_tracked.specs.Passing.{Brings, Passes, PointersPass, HandlePasses, HandleStays, StaysCurrent, ClassesPass, PlacesPass, goes_on, pass_value, pass_cells, pass_places, pass_blocks, pass_objects}
 use Rattle.hs_tracked.specs.Right.{AreRight, IsIn, shared_there, apart_blocks}
-use Rattle.hs_tracked.specs.Tracking.{MeansHere, Backed, HasChain, TrackedHandle, TrackedCells, Tracked, TrackedPlaces, AreTracked}
+use Rattle.hs_tracked.specs.Tracking.{MeansHere, Backed, HasChain, TrackedHandle, TrackedCell, TrackedCells, Tracked, TrackedPlaces, AreTracked}
 use Rattle.hs_tree.specs.declared.head.Variable.{Variable}
 use Rattle.hs_truth.specs.Places.{at_place, place_low, the_top, under_top}
 
@@ -254,6 +257,23 @@ module _ (whole : WholeCode) (known : Knowledge) (here : Here) (machine after : 
           blocks = blocks (pass_blocks whole known here next machine after ws (classes acts) machine.blocks are.blocks);
           objects = objects (pass_objects whole known here next machine after ws (classes acts) machine.objects are.objects);
         }
+
+    -- BlockMove: cells that are copied are of the classes of which they were.
+    pub copies : (v : Value) → stack ≡ v ∷ rest → Tracked whole known next after ws (slot.Place (length rest)) v
+        → TrackedPlaces whole known here machine ws rest → (from to : Pointer) (count : ℕ)
+        → after ≡ with_cells_at to (cells_at from count machine) machine → AreTracked whole known here machine ws
+        → AreTracked whole known next after ws
+    copies v so result places from to count copied are =
+        routine v so result places
+        (λ cells. subst (λ m. InBlocks (TrackedCell whole known next after ws) m.blocks) (sym copied)
+        (blocks_written (TrackedCell whole known next after ws) to (cells_at from count machine) machine new cells))
+        (λ cells. subst (λ m. InObjects (TrackedCell whole known next after ws) m.objects) (sym copied)
+        (objects_written (TrackedCell whole known next after ws) to (cells_at from count machine) machine new cells)) are
+      where
+        new : TrackedCells whole known next after ws (cells_at from count machine)
+        new =
+            routine_cells acts (cells_at from count machine)
+            (cells_read (TrackedCell whole known here machine ws) from count machine are.blocks are.objects)
 
   -- ---- roles that mark and unmark nothing
 

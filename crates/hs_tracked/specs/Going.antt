@@ -2,7 +2,7 @@
 --     IsAt here its               the operation that is next in the call, as the analysis knows it
 --     leads                       a rule of the flow carries each chain on
 --     Leaves                      the operation leaves blocks and variables as they were
---     stays_at, place_stays       the facts of a slot that the operation does not take: the row `stays`
+--     stays_at                    the facts of a slot that the operation does not take: the row `stays`
 --     goes_tracked                all that is tracked still is, if the places of the new stack and the cells are
 use Rattle.std.proofs.Common.{◌≡◌, ◌<◌, ◌-◌, ℕ, zero, suc, Bool, true, false, List, [], ◌∷◌, length, slice_get, Option, Some, refl, sym, ap, ◌∙◌, subst, arith}
 use Rattle.std.proofs.lemmas.Option.{none-some}
@@ -91,11 +91,6 @@ module _ (whole : WholeCode) (known : Knowledge) (here : Here) (machine : Machin
     pub stays_at : (of : flow_slot.Slot) → is_below (given.places - taken scope form) of ≡ true → (its : FactStatus)
         → Brings whole known here next machine after ws of of its its
     stays_at of low its = leads of of its its (rows.stays scope (length whole.classes) given form its of leaves_slots low)
-
-    -- a place below what it takes
-    pub place_stays : (rest : List Value) → given.places - taken scope form ≡ length rest → (i : ℕ) → i < length rest → (its : FactStatus)
-        → Brings whole known here next machine after ws (slot.Place i) (slot.Place i) its its
-    place_stays rest so i low its = stays_at (slot.Place i) (is_below_of (given.places - taken scope form) i (subst (λ n. i < n) (sym so) low)) its
 
   -- ---- blocks and variables that stay
 

@@ -1,6 +1,7 @@
 -- A return: the caller has what it left over the call, and what the function leaves to it (own).
 --     IsReturn      a return of a function to the call that waits for it
 --     returned      all that the caller has is tracked
+--     all_returned  and so is all that the calls have that wait below it
 use Rattle.std.proofs.Common.{◌≡◌, ◌<◌, ℕ, zero, suc, ◌-◌, nat_lt, true, false, List, [], ◌∷◌, length, slice_get, Some, refl, sym, ap, ◌∙◌, subst, arith}
 use Rattle.std.proofs.lemmas.Bool.Decides.{nat_tests}
 use Rattle.std.specs.List.{AllByRecursion}
@@ -8,6 +9,7 @@ use Rattle.hs_calls.specs.Calls.{Here, Wait, resumed, fixed_in}
 use Rattle.hs_chains.specs.Knowledge.{Knowledge}
 use Rattle.hs_code.specs.declared.function_code.Placed.{Placed}
 use Rattle.hs_code.specs.declared.op.Op.TheVariants as op
+use Rattle.hs_code_run.specs.Codes.{CodeProgram}
 use Rattle.hs_code_run.specs.Steps.{below}
 use Rattle.hs_facts.specs.Effects.{WholeCode}
 use Rattle.hs_flow.specs.Calls.{Callee, assigned, base_of, goes_over}
@@ -28,7 +30,7 @@ use Rattle.hs_tracked.specs.Going.{IsAt}
 use Rattle.hs_tracked.specs.Leaving.{Exits, leave_cells, leave_value}
 use Rattle.hs_tracked.specs.Over.{does, over_value, over_reached}
 use Rattle.hs_tracked.specs.Right.{AreRight}
-use Rattle.hs_tracked.specs.Tracking.{TrackedCell, TrackedCells, TrackedPlaces, Tracked, AreTracked}
+use Rattle.hs_tracked.specs.Tracking.{TrackedCell, TrackedCells, TrackedPlaces, Tracked, AreTracked, AreAllTracked}
 use Rattle.hs_tree.specs.declared.head.Variable.{Variable}
 use Rattle.hs_tree.specs.declared.head.Variable.TheVariants as name
 use Rattle.hs_truth.specs.Places.{at_place, below_place, place_low, the_top, under_top}
@@ -195,3 +197,16 @@ module _ (whole : WholeCode) (known : Knowledge) (here : Here) (machine : Machin
           class_exits (slot.Variable (name.Global g)) (slot.Variable (name.Global g)) (slot.Variable (name.Global g)) (global_exits g) v
           (are.variables (name.Global g) v
           (sym (ap value_of_slot (ap (λ gs. slice_get gs g) (closed_same w.machine.locals machine).globals)) ∙ holds))
+
+  -- The call of the caller goes on, and each call that waits below it is as it was.
+  pub all_returned : (program : CodeProgram) → AreAllTracked whole known program here machine (w ∷ ws) → AreAllTracked whole known program next after ws
+  all_returned program all = by_waiting ws all.2 (returned all.0 (first ws all.2))
+    where
+      first : (vs : List Wait) → AreAllTracked whole known program w.here w.machine vs → AreTracked whole known w.here w.machine vs
+      first [] all = all
+      first (v ∷ vs) all = all.0
+
+      by_waiting : (vs : List Wait) → AreAllTracked whole known program w.here w.machine vs → AreTracked whole known next after vs
+          → AreAllTracked whole known program next after vs
+      by_waiting [] all are = are
+      by_waiting (v ∷ vs) all are = (are, all.1, all.2)
