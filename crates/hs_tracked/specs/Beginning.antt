@@ -90,7 +90,8 @@ module _ (whole : WholeCode) (known : Knowledge) (here : Here) (machine : Machin
     -- objects and variables so far; variables from a place on are as they were
     record Filled (start : List Binding) (place : ℕ) (m : Machine) : Type 0 where
       objects : InObjects P m.objects
-      locals : (i : ℕ) (v : Value) → value_of_slot (slice_get m.locals i) ≡ Some v → Tracked whole known new final inside (flow_slot.Variable (name.Local i)) v
+      locals : (i : ℕ) (v : Value) → value_of_slot (slice_get m.locals i) ≡ Some v
+          → Tracked whole known new final inside (flow_slot.Variable (name.Local i)) v
       later : (k : ℕ) → place ≤ k → slice_get m.locals k ≡ slice_get start k
 
     bytes_free : (bytes : List ℕ) → AllByRecursion P (map Byte bytes)
@@ -120,7 +121,8 @@ module _ (whole : WholeCode) (known : Knowledge) (here : Here) (machine : Machin
     cells_given place (of_struct size) (pointer p) gets are = tt
 
     -- a parameter that is a slot
-    slot_given : (start : List Binding) (place : ℕ) (v : Value) (m : Machine) → GetsArgument whole known here fn setting place (flow_slot.Variable (name.Local place))
+    slot_given : (start : List Binding) (place : ℕ) (v : Value) (m : Machine)
+        → GetsArgument whole known here fn setting place (flow_slot.Variable (name.Local place))
         → Tracked whole known here machine ws (flow_slot.Place (base + place)) v → Filled start place m
         → Filled start (suc place) (record m { locals = slice_set m.locals place (slot (Some v)) })
     slot_given start place v m gets are filled =
@@ -169,8 +171,8 @@ module _ (whole : WholeCode) (known : Knowledge) (here : Here) (machine : Machin
             by_either i u (set_either m.locals place (slot (Some v)) i (slot (Some u)) (at ∙ ap (λ it. Some (slot it)) holds))
 
     -- a parameter that is an object
-    object_given : (start : List Binding) (place object : ℕ) (reached : Access) (v : Value) (m : Machine) → GoesToClass whole known here fn setting place reached
-        → Tracked whole known here machine ws (flow_slot.Place (base + place)) v → Filled start place m
+    object_given : (start : List Binding) (place object : ℕ) (reached : Access) (v : Value) (m : Machine)
+        → GoesToClass whole known here fn setting place reached → Tracked whole known here machine ws (flow_slot.Place (base + place)) v → Filled start place m
         → OnDone (λ it after. Filled start (suc place) after) (stored reached (Fixed object (pos 0)) v m)
     object_given start place object reached v m gets are filled =
         unless_so (λ it after. Filled start (suc place) after) (store_stop reached v ∷ use_stops (Fixed object (pos 0)) (length_of reached) m) v
@@ -200,7 +202,8 @@ module _ (whole : WholeCode) (known : Knowledge) (here : Here) (machine : Machin
     -- each parameter from that place on goes where its argument is given
     abbrev pub AllGo : List Binding → ℕ → List VariableDecl → Type 0
     AllGo start place [] = Unit {0}
-    AllGo start place (variable ∷ rest) = Goes whole known here fn setting place variable.type_id (slice_get start place) × AllGo start (suc place) rest
+    AllGo start place (variable ∷ rest) =
+        Goes whole known here fn setting place variable.type_id (slice_get start place) × AllGo start (suc place) rest
 
     all_given : (start : List Binding) (place : ℕ) (variables : List VariableDecl) (values : List Value) (m : Machine) → AllGo start place variables
         → AreArguments place values → Filled start place m
@@ -306,7 +309,8 @@ module _ (whole : WholeCode) (known : Knowledge) (here : Here) (machine : Machin
             (tracked.variables (name.Global g) v (sym (ap value_of_slot (ap (λ gs. slice_get gs g) same.globals)) ∙ holds))
 
     -- The function goes on, and its caller waits.
-    pub all_begun : (program : CodeProgram) → IsWait program (waiting whole known here machine ws its is_at fn function calls of_function right after same.blocks)
+    pub all_begun : (program : CodeProgram)
+        → IsWait program (waiting whole known here machine ws its is_at fn function calls of_function right after same.blocks)
         → AllGo after same.blocks start 0 (take parameters variables) → AreArguments 0 values → AreAllTracked whole known program here machine ws
         → AreAllTracked whole known program (new after same.blocks) after (inside after same.blocks)
     all_begun program waits go are all = (begun go are (first ws all), waits, all)

@@ -1,7 +1,7 @@
 -- What a call leaves to its caller: the result, globals, and what is in memory (own).
 --     Exits of exit to       a return and then its call bring what is in the one slot to the other
 --     leave_value            the rows `return_answers`, `return_stays`; `leave_stays`, `leave_fresh`, `leave_held`, `leave_outer`
-use Rattle.std.proofs.Common.{◌≡◌, ◌<◌, inl, inr, ℕ, suc, Bool, true, false, ◌&&◌, List, [], ◌∷◌, length, slice_get, Some, refl, sym, ap, ◌∙◌, subst}
+use Rattle.std.proofs.Common.{◌≡◌, ◌<◌, inl, inr, ℕ, suc, true, false, ◌&&◌, List, [], ◌∷◌, length, slice_get, Some, refl, ap, ◌∙◌, subst}
 use Rattle.hs_calls.specs.Calls.{Here, Wait, resumed}
 use Rattle.hs_chains.specs.Chains.{Chain, Spot as Mark, leaves as chain_out}
 use Rattle.hs_chains.specs.Knowledge.{Knowledge}
@@ -9,7 +9,7 @@ use Rattle.hs_code.specs.declared.function_code.Placed.{Placed}
 use Rattle.hs_code.specs.declared.op.Op.TheVariants as op
 use Rattle.hs_facts.specs.Effects.{WholeCode, ops_in}
 use Rattle.hs_flow.specs.Among.{Among}
-use Rattle.hs_flow.specs.Calls.{Callee, assigned, assigned_in, assigns_name, fresh_or_loose, at_some, back, back_outer, left, leave_of}
+use Rattle.hs_flow.specs.Calls.{Callee, assigned, at_some, back, back_outer, left, leave_of}
 use Rattle.hs_flow.specs.Given.{Given}
 use Rattle.hs_flow.specs.Next.{at_slot}
 use Rattle.hs_flow.specs.Programs.{next_in}
@@ -27,11 +27,10 @@ use Rattle.hs_heap.specs.declared.cell.Spot as spot
 use Rattle.hs_hiding.specs.Holding.{value_of}
 use Rattle.hs_meaning.specs.Machine.{Machine}
 use Rattle.hs_meaning.specs.Values.{Value, number, pointer, state, structure}
-use Rattle.hs_must.specs.Answers.{names_in}
 use Rattle.hs_tracked.specs.Going.{IsAt}
-use Rattle.hs_tracked.specs.Over.{outer_backed}
-use Rattle.hs_tracked.specs.Passing.{fresh_backed, loose_backed}
-use Rattle.hs_tracked.specs.Tracking.{mark_of, AreCalls, NameHolds, MeansHere, Backed, HasChain, Current, TrackedSpot, TrackedHandle, TrackedPointer, TrackedCell, TrackedCells, Tracked}
+use Rattle.hs_tracked.specs.Over.{outer_backed, means_named, backed_named}
+use Rattle.hs_tracked.specs.Passing.{loose_backed}
+use Rattle.hs_tracked.specs.Tracking.{mark_of, AreCalls, MeansHere, Backed, HasChain, Current, TrackedSpot, TrackedHandle, TrackedPointer, TrackedCell, TrackedCells, Tracked}
 use Rattle.hs_tree.specs.declared.head.Variable.{Variable}
 
 -- a call by its function, its operation and its fact
@@ -104,30 +103,16 @@ module _ (whole : WholeCode) (known : Knowledge) (here : Here) (machine : Machin
 
     -- ---- what the caller's status says when it is back
 
-    means_named : (h n : ℕ) (z : Bool) → assigns_name callee facts h ≡ z → NameHolds (names_in whole w.here.fn) w.machine h n
-        → MeansHere whole (fresh_or_loose z h) next after n
-    means_named h n true assigns holds = tt
-    means_named h n false assigns holds = (
-      holds.0,
-      holds.1,
-      values holds.0
-          (sym (ap (assigned_in callee) (ap (λ names. slice_get names h) called_at.names ∙ holds.1)) ∙ assigns) ∙ holds.2,
-    )
-
-    backed_named : (h n : ℕ) (z : Bool) (inside : List Mark) → Backed whole (fresh_or_loose z h) inside ws n
-    backed_named h n true inside = loose_backed whole inside ws n
-    backed_named h n false inside = fresh_backed whole h inside ws n
-
     means_back : (caller : FactStatus) (n : ℕ) → here.lasting n ≡ true → MeansHere whole caller w.here w.machine n
         → MeansHere whole (back callee facts caller) next after n
-    means_back (status.Fresh h) n lasting means = means_named h n (assigns_name callee facts h) refl means
+    means_back (status.Fresh h) n lasting means = means_named whole known callee w ws called_at.names after values h n next.lasting means
     means_back status.Held n lasting means = ap (λ z. z && here.lasting n) means ∙ lasting
     means_back status.Outer n lasting means = tt
     means_back status.Loose n lasting means = tt
     means_back other n lasting means = absurd means
 
     means_outer : (caller : FactStatus) (n : ℕ) → MeansHere whole caller w.here w.machine n → MeansHere whole (back_outer callee facts caller) next after n
-    means_outer (status.Fresh h) n means = means_named h n (assigns_name callee facts h) refl means
+    means_outer (status.Fresh h) n means = means_named whole known callee w ws called_at.names after values h n next.lasting means
     means_outer status.Held n means = tt
     means_outer status.Outer n means = tt
     means_outer status.Loose n means = tt
@@ -135,12 +120,12 @@ module _ (whole : WholeCode) (known : Knowledge) (here : Here) (machine : Machin
 
     backed_back : (caller : FactStatus) (n : ℕ) (inside : List Mark) → Backed whole caller inside ws n
         → Backed whole (back callee facts caller) inside ws n
-    backed_back (status.Fresh h) n inside backed = backed_named h n (assigns_name callee facts h) inside
+    backed_back (status.Fresh h) n inside backed = backed_named whole known callee w ws called_at.names after values h n inside
     backed_back other n inside backed = backed
 
     backed_outer : (caller : FactStatus) (n : ℕ) (inside : List Mark) → Backed whole caller inside ws n
         → Backed whole (back_outer callee facts caller) inside ws n
-    backed_outer (status.Fresh h) n inside backed = backed_named h n (assigns_name callee facts h) inside
+    backed_outer (status.Fresh h) n inside backed = backed_named whole known callee w ws called_at.names after values h n inside
     backed_outer status.Held n inside backed = outer_backed whole inside ws n backed
     backed_outer other n inside backed = backed
 

@@ -31,7 +31,7 @@ use Rattle.hs_sound_heap.specs.Since.{May, Since, IsThere, is_marked, is_purged}
 use Rattle.hs_tracked.specs.Going.{IsAt}
 use Rattle.hs_tracked.specs.Passing.{Brings, Passes, PointersPass, HandleStays, StaysCurrent, ClassesPass, goes_on, pass_value, fresh_backed, loose_backed}
 use Rattle.hs_tracked.specs.Right.{AreRight, IsIn, named_fixed, locked_fixed, fixed_block}
-use Rattle.hs_tracked.specs.Tracking.{NameHolds, MeansHere, Backed, HasChain, Tracked}
+use Rattle.hs_tracked.specs.Tracking.{Means, NameHolds, MeansHere, Backed, HasChain, Tracked}
 use Rattle.hs_tree.specs.declared.head.Variable.{Variable}
 
 -- what the function may do to blocks; of disposing nothing is asked
@@ -44,6 +44,29 @@ pub outer_backed : (whole : WholeCode) (calls : List Mark) (ws : List Wait) (n :
 outer_backed whole [] ws n backed = tt
 outer_backed whole (c ∷ calls) [] n backed = tt
 outer_backed whole (c ∷ calls) (w ∷ ws) n backed = backed
+
+-- what is fresh in the caller, or loose if the function may assign the name
+module _ (whole : WholeCode) (known : Knowledge) (callee : Callee) (w : Wait) (ws : List Wait)
+    (names : (known.at w.here.fn w.here.at).names ≡ names_in whole w.here.fn) (after : Machine)
+    (values : (x : Variable) → assigned callee x ≡ false → value_of after x ≡ value_of w.machine x) where
+  -- the name still has the handle, unless the function may assign it
+  means_by : (h n : ℕ) (lasting : ℕ → Bool) (z : Bool) → assigns_name callee (known.at w.here.fn w.here.at) h ≡ z
+      → NameHolds (names_in whole w.here.fn) w.machine h n → Means (fresh_or_loose z h) (names_in whole w.here.fn) lasting after n
+  means_by h n lasting true assigns holds = tt
+  means_by h n lasting false assigns holds =
+      (holds.0, holds.1, values holds.0 (sym (ap (assigned_in callee) (ap (λ its. slice_get its h) names ∙ holds.1)) ∙ assigns) ∙ holds.2)
+
+  pub means_named : (h n : ℕ) (lasting : ℕ → Bool) → NameHolds (names_in whole w.here.fn) w.machine h n
+      → Means (fresh_or_loose (assigns_name callee (known.at w.here.fn w.here.at) h) h) (names_in whole w.here.fn) lasting after n
+  means_named h n lasting holds = means_by h n lasting (assigns_name callee (known.at w.here.fn w.here.at) h) refl holds
+
+  backed_by : (h n : ℕ) (z : Bool) (inside : List Mark) → Backed whole (fresh_or_loose z h) inside ws n
+  backed_by h n true inside = loose_backed whole inside ws n
+  backed_by h n false inside = fresh_backed whole h inside ws n
+
+  pub backed_named : (h n : ℕ) (inside : List Mark)
+      → Backed whole (fresh_or_loose (assigns_name callee (known.at w.here.fn w.here.at) h) h) inside ws n
+  backed_named h n inside = backed_by h n (assigns_name callee (known.at w.here.fn w.here.at) h) inside
 
 module _ (whole : WholeCode) (known : Knowledge) (w : Wait) (ws : List Wait) (after : Machine) (value : Value) (lasting : ℕ → Bool) (its : Placed)
     (is_at : IsAt whole known w.here its) (calls : its.op ≡ op.Call w.called) (of_function : w.called < length whole.functions)
@@ -131,21 +154,6 @@ module _ (whole : WholeCode) (known : Knowledge) (w : Wait) (ws : List Wait) (af
         ⊎ StaysCurrent whole known w.here next w.machine after ws of of old n block
     stales old n block has = inl (leads_over of old status.Stale has)
 
-    -- the name still has the handle, unless the function may assign it
-    means_named : (h n : ℕ) (z : Bool) → assigns_name callee facts h ≡ z → NameHolds (names_in whole w.here.fn) w.machine h n
-        → MeansHere whole (fresh_or_loose z h) next after n
-    means_named h n true assigns holds = tt
-    means_named h n false assigns holds = (
-      holds.0,
-      holds.1,
-      values holds.0
-          (sym (ap (assigned_in callee) (ap (λ names. slice_get names h) is_at.names ∙ holds.1)) ∙ assigns) ∙ holds.2,
-    )
-
-    backed_named : (h n : ℕ) (z : Bool) (inside : List Mark) → Backed whole (fresh_or_loose z h) inside ws n
-    backed_named h n true inside = loose_backed whole inside ws n
-    backed_named h n false inside = fresh_backed whole h inside ws n
-
     by_name : (h n : ℕ) (block : Block) → block_at w.machine.blocks n ≡ Some block → NameHolds (names_in whole w.here.fn) w.machine h n
         → (moves unlocks lock : Bool) → callee.moves ≡ moves → callee.unlocks ≡ unlocks → facts.locked h ≡ lock
         → Brings whole known w.here next w.machine after ws of of (status.Fresh h) status.Stale
@@ -156,7 +164,8 @@ module _ (whole : WholeCode) (known : Knowledge) (w : Wait) (ws : List Wait) (af
             ⊎ StaysCurrent whole known w.here next w.machine after ws of of (status.Fresh h) n block
         still is =
             stays (status.Fresh h) (fresh_or_loose (assigns_name callee facts h) h) n block is (rows.over_fresh callee facts of goes h)
-            (means_named h n (assigns_name callee facts h) refl holds) (λ inside backed. backed_named h n (assigns_name callee facts h) inside)
+            (means_named whole known callee w ws is_at.names after values h n next.lasting holds)
+            (λ inside backed. backed_named whole known callee w ws is_at.names after values h n inside)
 
         stale : callee.moves ≡ true → is_kept callee facts h ≡ false
             → Brings whole known w.here next w.machine after ws of of (status.Fresh h) status.Stale

@@ -113,6 +113,7 @@ module _ (whole : WholeCode) (known : Knowledge) (here next : Here) (machine aft
 
   -- ---- the law
 
+  -- a chain goes on so
   abbrev pub goes_on : (of to : flow_slot.Slot) (its new : FactStatus) → Brings of to its new → HasChain whole known here ws of its
       → HasChain whole known next ws to new
   goes_on of to its new brings has =
@@ -235,7 +236,8 @@ module _ (whole : WholeCode) (known : Knowledge) (here next : Here) (machine aft
     pub backed : (its : FactStatus) (n : ℕ) (calls : List Mark) → Backed whole its calls ws n → Backed whole (stay its) calls ws n
 
   -- a value passes to a slot, if each of its statuses does
-  pub quiet_passes : (stay : FactStatus → FactStatus) → IsQuiet stay → (of to : flow_slot.Slot) → ((its : FactStatus) → Brings of to its (stay its)) → (v : Value)
+  pub quiet_passes : (stay : FactStatus → FactStatus) → IsQuiet stay → (of to : flow_slot.Slot)
+      → ((its : FactStatus) → Brings of to its (stay its)) → (v : Value)
       → Passes of to v
   quiet_passes stay quiet of to each v =
       record {

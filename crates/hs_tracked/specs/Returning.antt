@@ -115,7 +115,8 @@ module _ (whole : WholeCode) (known : Knowledge) (here : Here) (machine : Machin
 
   cells : (its' : List Cell) → TrackedCells whole known here machine (w ∷ ws) its'
       → TrackedCells whole known next after ws its'
-  cells = leave_cells whole known here machine w ws after value return its is.is_at is.returns is.called_at calls_here there_here same_blocks values_of class_exits
+  cells =
+      leave_cells whole known here machine w ws after value return its is.is_at is.returns is.called_at calls_here there_here same_blocks values_of class_exits
 
   left_blocks : (blocks : List Block) → AllByRecursion (λ block. TrackedCells whole known here machine (w ∷ ws) block.cells) blocks
       → AllByRecursion (λ block. TrackedCells whole known next after ws block.cells) blocks

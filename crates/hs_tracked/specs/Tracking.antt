@@ -130,6 +130,7 @@ module _ (whole : WholeCode) (known : Knowledge) where
     TrackedCell (State byte) = Unit {0}
     TrackedCell (Part at its class) = TrackedPointer (slot.Class class) its
 
+    -- cells, one by one
     abbrev pub TrackedCells : List Cell → Type 0
     TrackedCells cells = AllByRecursion TrackedCell cells
 
@@ -145,6 +146,7 @@ module _ (whole : WholeCode) (known : Knowledge) where
     TrackedPlaces [] = Unit {0}
     TrackedPlaces (v ∷ rest) = Tracked (slot.Place (length rest)) v × TrackedPlaces rest
 
+    -- each variable that has a value
     abbrev pub TrackedVariables : Type 0
     TrackedVariables = (x : Variable) (v : Value) → value_of machine x ≡ Some v → Tracked (slot.Variable x) v
 
