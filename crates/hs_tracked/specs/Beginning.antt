@@ -84,30 +84,30 @@ module _ (whole : WholeCode) (known : Knowledge) (here : Here) (machine : Machin
     inside = waiting whole known here machine ws its is_at fn function calls of_function right final blocks ∷ ws
 
     -- what is known of cells
-    abbrev P : Cell → Type 0
-    P = TrackedCell whole known new final inside
+    abbrev CellIs : Cell → Type 0
+    CellIs = TrackedCell whole known new final inside
 
     -- objects and variables so far; variables from a place on are as they were
     record Filled (start : List Binding) (place : ℕ) (m : Machine) : Type 0 where
-      objects : InObjects P m.objects
+      objects : InObjects CellIs m.objects
       locals : (i : ℕ) (v : Value) → value_of_slot (slice_get m.locals i) ≡ Some v
           → Tracked whole known new final inside (flow_slot.Variable (name.Local i)) v
       later : (k : ℕ) → place ≤ k → slice_get m.locals k ≡ slice_get start k
 
-    bytes_free : (bytes : List ℕ) → AllByRecursion P (map Byte bytes)
+    bytes_free : (bytes : List ℕ) → AllByRecursion CellIs (map Byte bytes)
     bytes_free [] = tt
     bytes_free (byte ∷ bytes) = (tt, bytes_free bytes)
 
     -- the cells that an argument leaves in its object
     cells_given : (place : ℕ) (reached : Access) (v : Value) → GoesToClass whole known here fn setting place reached
-        → Tracked whole known here machine ws (flow_slot.Place (base + place)) v → AllByRecursion P (cells_for reached v)
+        → Tracked whole known here machine ws (flow_slot.Place (base + place)) v → AllByRecursion CellIs (cells_for reached v)
     cells_given place (of_number kind) (number bits) gets are = bytes_free (bytes_of (integer_size kind) bits)
     cells_given place (of_number kind) (state byte) gets are = (tt, tt)
     cells_given place (of_number kind) (pointer p) gets are = tt
     cells_given place (of_number kind) (structure cells) gets are = tt
     cells_given place (of_pointer class) (pointer p) gets are = (part, (part, (part, (part, tt))))
       where
-        part : P (Part 0 p class)
+        part : CellIs (Part 0 p class)
         part =
             enter_pointer whole known here machine ws its is_at fn function calls of_function right final blocks (flow_slot.Place (base + place))
             (flow_slot.Class class) gets p are
@@ -178,12 +178,12 @@ module _ (whole : WholeCode) (known : Knowledge) (here : Here) (machine : Machin
         unless_so (λ it after. Filled start (suc place) after) (store_stop reached v ∷ use_stops (Fixed object (pos 0)) (length_of reached) m) v
         (with_cells_at (Fixed object (pos 0)) (cells_for reached v) m) m
         (by_object (slice_get m.objects object)
-        (objects_written P (Fixed object (pos 0)) (cells_for reached v) m (cells_given place reached v gets are) filled.objects))
+        (objects_written CellIs (Fixed object (pos 0)) (cells_for reached v) m (cells_given place reached v gets are) filled.objects))
       where
         lower : (k : ℕ) → suc place ≤ k → place ≤ k
         lower k from = omega (arith, from)
 
-        by_object : (found : Option Object) → InObjects P (put_in_object object (pos 0) (cells_for reached v) m found).objects
+        by_object : (found : Option Object) → InObjects CellIs (put_in_object object (pos 0) (cells_for reached v) m found).objects
             → Filled start (suc place) (put_in_object object (pos 0) (cells_for reached v) m found)
         by_object None objects = record { objects = objects; locals = filled.locals; later = λ k from. filled.later k (lower k from) }
         by_object (Some o) objects = record { objects = objects; locals = filled.locals; later = λ k from. filled.later k (lower k from) }
@@ -233,17 +233,17 @@ module _ (whole : WholeCode) (known : Knowledge) (here : Here) (machine : Machin
         by_slot false zero slots others holds = cc
         by_slot false (suc i) slots others holds = others i holds
 
-    objects_free : (types : TypeTable) (variables : List VariableDecl) → InObjects P (objects_for types variables)
+    objects_free : (types : TypeTable) (variables : List VariableDecl) → InObjects CellIs (objects_for types variables)
     objects_free types [] = tt
     objects_free types (variable ∷ rest) = by_slot (is_slot types variable) (objects_free types rest)
       where
-        by_slot : (z : Bool) → InObjects P (objects_for types rest)
-            → InObjects P (if z then objects_for types rest
+        by_slot : (z : Bool) → InObjects CellIs (objects_for types rest)
+            → InObjects CellIs (if z then objects_for types rest
             else record { cells = replicate (size_of types variable.type_id) Undefined; storage = automatic } ∷ objects_for types rest)
         by_slot true others = others
-        by_slot false others = (all_same P (size_of types variable.type_id) Undefined tt, others)
+        by_slot false others = (all_same CellIs (size_of types variable.type_id) Undefined tt, others)
 
-    old_objects : (objects : List Object) → AllByRecursion (λ object. TrackedCells whole known here machine ws object.cells) objects → InObjects P objects
+    old_objects : (objects : List Object) → AllByRecursion (λ object. TrackedCells whole known here machine ws object.cells) objects → InObjects CellIs objects
     old_objects [] are = tt
     old_objects (object ∷ rest) are =
         (enter_cells whole known here machine ws its is_at fn function calls of_function right final blocks object.cells are.0, old_objects rest are.1)
@@ -277,7 +277,7 @@ module _ (whole : WholeCode) (known : Knowledge) (here : Here) (machine : Machin
         first =
             record {
               objects =
-                  all_appended (λ object. AllByRecursion (P after same.blocks) object.cells) machine.objects (objects_for setting.types variables)
+                  all_appended (λ object. AllByRecursion (CellIs after same.blocks) object.cells) machine.objects (objects_for setting.types variables)
                   (old_objects after same.blocks machine.objects tracked.objects) (objects_free after same.blocks setting.types variables);
               locals = λ i v holds. absurd (no_value after same.blocks setting.types (length machine.objects) variables i v holds);
               later = λ k from. refl;

@@ -105,9 +105,9 @@ module _ (whole : WholeCode) (known : Knowledge) (here : Here) (machine : Machin
   next v = moved here (suc here.at) (v ∷ rest) lasting
 
   -- all is tracked, if the value is
-  on : (reached : code_access.Access) → its.op ≡ op.Load reached → (v : Value) → Tracked whole known (next v) machine ws (slot.Place (length rest)) v
+  with_top : (reached : code_access.Access) → its.op ≡ op.Load reached → (v : Value) → Tracked whole known (next v) machine ws (slot.Place (length rest)) v
       → AreTracked whole known (next v) machine ws
-  on reached is v tracked =
+  with_top reached is v tracked =
       pushes whole known here machine ws its is_at lasting lasts (op.Load reached) is tt rest top are tops.1 refl v tracked
 
   -- ---- cells
@@ -146,7 +146,7 @@ module _ (whole : WholeCode) (known : Knowledge) (here : Here) (machine : Machin
   pub load_cells : (reached : code_access.Access) → its.op ≡ op.Load reached
       → AreTracked whole known (next (value_in (access_of reached) (cells_at p (length_of (access_of reached)) machine))) machine ws
   load_cells reached is =
-      on reached is (value_in (access_of reached) (cells_at p (length_of (access_of reached)) machine)) (found_at reached is)
+      with_top reached is (value_in (access_of reached) (cells_at p (length_of (access_of reached)) machine)) (found_at reached is)
 
   -- ---- a master pointer
 
@@ -207,4 +207,4 @@ module _ (whole : WholeCode) (known : Knowledge) (here : Here) (machine : Machin
     -- a load from a handle
     pub load_master : AreTracked whole known (next (pointer (master_pointer (master_of n block)))) machine ws
     load_master =
-        on (access.Pointer class) is (pointer (master_pointer (master_of n block))) (by_presence block.presence refl)
+        with_top (access.Pointer class) is (pointer (master_pointer (master_of n block))) (by_presence block.presence refl)
