@@ -1,0 +1,17 @@
+pub mod Beginning
+pub mod Bringing
+pub mod Calling
+pub mod Cells
+pub mod Entering
+pub mod Going
+pub mod Leaving
+pub mod Loading
+pub mod Moving
+pub mod Over
+pub mod Passing
+pub mod Returning
+pub mod Right
+pub mod Setting
+pub mod Shifting
+pub mod Storing
+pub mod Tracking
