@@ -2,8 +2,8 @@
 use Rattle.std.proofs.Common.{◌≡◌, ◌<◌, ◌≤◌, ℕ, zero, suc, Bool, true, false, nat_lt, List, [], ◌∷◌, ◌++◌, inl, inr, ◌⊎◌, refl, ap, sym, ◌∙◌, Some, subst, arith, length, slice_get, map}
 use Rattle.std.proofs.lemmas.Bool.Decides.{nat_tests}
 use Rattle.hs_search.proofs.Listing.{some_is, get_left, get_either}
-use Rattle.hs_search.proofs.Membership.{Has-either, Has-map, map-Has}
-use Rattle.hs_search.proofs.Nodes.{node_is}
+use Rattle.hs_search.specs.Laws.Membership.{Has-either, Has-map, map-Has}
+use Rattle.hs_search.specs.Laws.Nodes.{node_is}
 use Rattle.hs_search.specs.Bringing.{Book}
 use Rattle.hs_search.specs.Chains.{IsOnce}
 use Rattle.hs_search.specs.Graphs.{FlowGraph, Has}

@@ -1,7 +1,7 @@
 -- Calls get numbers, and what was said of the others stays.
 use Rattle.std.proofs.Common.{◌≡◌, ◌<◌, ◌≤◌, ℕ, List, [], ◌∷◌, ◌++◌, inl, inr, ◌⊎◌, refl, ap, sym, ◌∙◌, Option, Some, None, subst, arith, length, slice_get, append-nil}
 use Rattle.hs_search.proofs.Listing.{get_within, get_there, get_left, get_end, get_either}
-use Rattle.hs_search.proofs.Nodes.{node_is}
+use Rattle.hs_search.specs.Laws.Nodes.{node_is}
 use Rattle.hs_search.specs.Calling.{IsNumbered}
 use Rattle.hs_search.specs.Graphs.{FlowGraph, IsFramed}
 use Rattle.hs_search.specs.Layout.{Grows, IsCalls, IsPlaced}

@@ -1,8 +1,8 @@
 -- Past the most: what is left of the search is a plain closure.
 use Rattle.std.proofs.Common.{◌≡◌, ◌≤◌, ◌+◌, ℕ, suc, List, ◌++◌, inl, inr, ◌⊎◌, refl, ap, sym, ◌∙◌, Some, subst, arith, length}
-use Rattle.hs_search.proofs.Chaining.{tabulated_from_chain, chain_from_tabulated, level_entry, depth_entry}
-use Rattle.hs_search.proofs.Exactness.{all_right}
-use Rattle.hs_search.proofs.Membership.{Has-either}
+use Rattle.hs_search.specs.Laws.Chaining.{tabulated_from_chain, chain_from_tabulated, level_entry, depth_entry}
+use Rattle.hs_search.specs.Laws.Exactness.{all_right}
+use Rattle.hs_search.specs.Laws.Membership.{Has-either}
 use Rattle.hs_search.proofs.Rounding.{take_all, get_Has, take_front_of, Known-more, AllBrought-complete}
 use Rattle.hs_search.specs.Chains.{IsReached}
 use Rattle.hs_search.specs.Graphs.{FlowGraph, Has, IsFramed}

@@ -3,7 +3,7 @@ use Rattle.std.proofs.Common.{◌≡◌, ◌<◌, ℕ, suc, Bool, true, false, L
 use Rattle.std.proofs.lemmas.Bool.{cases_order}
 use Rattle.hs_search.proofs.Calling.{node_kept, placed_kept}
 use Rattle.hs_search.proofs.Listing.{some_is, get_within, get_either}
-use Rattle.hs_search.proofs.Membership.{Has-left, Has-right, Has-either, Has-map, map-Has}
+use Rattle.hs_search.specs.Laws.Membership.{Has-left, Has-right, Has-either, Has-map, map-Has}
 use Rattle.hs_search.proofs.Making.{Done, done_has, done_of, item_last, item_more, on_return, on_step}
 use Rattle.hs_search.proofs.Entering.{AfterCall, call_offered}
 use Rattle.hs_search.specs.Bringing.{AreFit, AreRows, Book, CallOffered, EndOffered, item_of, step_back, step_on}

@@ -2,7 +2,7 @@
 use Rattle.std.proofs.Common.{◌≡◌, ◌<◌, ◌≤◌, ℕ, suc, List, [], ◌∷◌, ◌++◌, inl, inr, ◌⊎◌, refl, ap, sym, ◌∙◌, Some, subst, length, slice_get, take, append_assoc, zero}
 use Rattle.hs_search.proofs.Listing.{some_is}
 use Rattle.hs_search.proofs.Calling.{grows_none, node_kept, placed_kept}
-use Rattle.hs_search.proofs.Membership.{Has-left, Has-right, Has-either}
+use Rattle.hs_search.specs.Laws.Membership.{Has-left, Has-right, Has-either}
 use Rattle.hs_search.proofs.Rounding.{AllBrought-none, AllBrought-next}
 use Rattle.hs_search.specs.Bringing.{Book}
 use Rattle.hs_search.specs.Graphs.{FlowGraph, Has}

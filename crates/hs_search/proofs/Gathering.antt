@@ -1,7 +1,7 @@
 -- What the items of a key make is gathered by a walk.
 use Rattle.std.proofs.Common.{◌≡◌, ◌<◌, ◌-◌, ℕ, List, [], ◌++◌, inl, inr, ◌⊎◌, refl, ap, sym, ◌∙◌, Option, Some, None, option_map, arith, slice_get, append_assoc, append-nil}
 use Rattle.hs_search.proofs.Listing.{some_is, walk_back, walk_own}
-use Rattle.hs_search.proofs.Membership.{Has-left, Has-right, Has-either}
+use Rattle.hs_search.specs.Laws.Membership.{Has-left, Has-right, Has-either}
 use Rattle.hs_search.specs.Bringing.{Gathers, MakesCaller, MakesEnd, listed, step_back}
 use Rattle.hs_search.specs.Graphs.{FlowGraph, Has}
 use Rattle.hs_search.specs.Listing.{IsIndex, IsWalk, Seen}

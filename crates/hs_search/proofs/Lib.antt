@@ -1,17 +1,13 @@
 mod Adding
 mod Beginning
 mod Calling
-mod Chaining
 mod Closing
 mod Entering
-mod Exactness
 mod Expanding
 mod Expansions
 mod Gathering
 mod Listing
 mod Making
-mod Membership
-mod Nodes
 mod Parts
 mod Passing
 mod Past

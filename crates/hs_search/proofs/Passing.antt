@@ -4,7 +4,7 @@ use Rattle.std.proofs.lemmas.Bool.{cases_order}
 use Rattle.hs_search.proofs.Calling.{placed_kept}
 use Rattle.hs_search.proofs.Closing.{built_within, candidate_within}
 use Rattle.hs_search.proofs.Expansions.{row_kept, rows_at, rows_kept}
-use Rattle.hs_search.proofs.Membership.{Has-left, Has-right, Has-either}
+use Rattle.hs_search.specs.Laws.Membership.{Has-left, Has-right, Has-either}
 use Rattle.hs_search.proofs.PuttingOff.{key_or}
 use Rattle.hs_search.proofs.Rounding.{behind, ready_next, ready_same}
 use Rattle.hs_search.proofs.Adding.{past_or, rows_more}

@@ -2,9 +2,9 @@
 use Rattle.std.proofs.Common.{◌≡◌, ◌<◌, ◌≤◌, ℕ, suc, List, [], ◌∷◌, ◌++◌, inl, inr, ◌⊎◌, refl, ap, sym, ◌∙◌, Some, subst, arith, length, slice_get, append_assoc, append-nil, true}
 use Rattle.std.proofs.lemmas.Bool.{cases_order}
 use Rattle.hs_search.proofs.Closing.{closing_brought, closing_done, closing_first, closing_taken, reached_within}
-use Rattle.hs_search.proofs.Exactness.{known_within, shortest_row}
+use Rattle.hs_search.specs.Laws.Exactness.{known_within, shortest_row}
 use Rattle.hs_search.proofs.Expansions.{rows_kept}
-use Rattle.hs_search.proofs.Membership.{Has-left, Has-right, Has-either, map-Has, Has-map}
+use Rattle.hs_search.specs.Laws.Membership.{Has-left, Has-right, Has-either, map-Has, Has-map}
 use Rattle.hs_search.proofs.Passing.{rows_long}
 use Rattle.hs_search.proofs.PuttingOff.{key_or}
 use Rattle.hs_search.proofs.Rounding.{behind, ready_closed}

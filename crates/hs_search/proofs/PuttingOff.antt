@@ -3,7 +3,7 @@ use Rattle.std.proofs.Common.{◌≡◌, ◌<◌, ◌≤◌, ◌+◌, ℕ, suc, 
 use Rattle.std.proofs.lemmas.Bool.Decides.{nat_tests}
 use Rattle.std.proofs.lemmas.List.{take_more}
 use Rattle.hs_search.proofs.Listing.{get_left, get_end, get_either}
-use Rattle.hs_search.proofs.Membership.{Has-left, Has-right, Has-either}
+use Rattle.hs_search.specs.Laws.Membership.{Has-left, Has-right, Has-either}
 use Rattle.hs_search.specs.Graphs.{Has}
 use Rattle.hs_search.specs.Searching.{AreBelow, IsPutOff, key_if, key_of}
 use Rattle.hs_search.specs.declared.lists.Item.{Item}

@@ -1,9 +1,9 @@
 -- The rounds of the search: offers are taken, and the rows that came of them make their own.
 use Rattle.std.proofs.Common.{◌≡◌, ◌<◌, ◌≤◌, ℕ, zero, suc, List, [], ◌∷◌, ◌++◌, inl, inr, ◌⊎◌, refl, ap, sym, ◌∙◌, Some, subst, arith, take, length, slice_get}
 use Rattle.std.proofs.lemmas.Bool.{cases_order}
-use Rattle.hs_search.proofs.Exactness.{call_longer}
+use Rattle.hs_search.specs.Laws.Exactness.{call_longer}
 use Rattle.hs_search.proofs.Listing.{some_is, get_there, take_left}
-use Rattle.hs_search.proofs.Membership.{Has-left, Has-either}
+use Rattle.hs_search.specs.Laws.Membership.{Has-left, Has-either}
 use Rattle.hs_search.specs.Graphs.{FlowGraph, Has, IsFramed}
 use Rattle.hs_search.specs.Rounds.{Row, Known, Candidate, starts, goes, enters, leaves, IsNext, Built, nothing, round, Closed, stepped, entered_by, returned, first_row, IsReady, IsTaken, BroughtBy, by_step, by_call, as_caller, as_end, AllBrought}
 use Rattle.hs_search.specs.declared.graph.Node.{Node}

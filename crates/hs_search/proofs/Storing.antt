@@ -2,7 +2,7 @@
 use Rattle.std.proofs.Common.{◌≡◌, ◌<◌, ℕ, suc, List, [], ◌∷◌, ◌++◌, inl, inr, ◌⊎◌, refl, sym, Some, subst, arith, length, slice_get, take, ◌-◌, ◌+◌, zero, Ok, Err, slice_index_or}
 use Rattle.std.proofs.lemmas.List.{take_more}
 use Rattle.hs_search.proofs.Listing.{walk_back, walk_own}
-use Rattle.hs_search.proofs.Membership.{Has-left, Has-either, Has-last}
+use Rattle.hs_search.specs.Laws.Membership.{Has-left, Has-either, Has-last}
 use Rattle.hs_search.specs.Graphs.{Has}
 use Rattle.hs_search.specs.Listing.{IsIndex, IsWalk, Seen}
 use Rattle.hs_search.specs.Storing.{HasRow, IsListed, IsTakenList, Takes, TakesEach, TakesListed, Taking, none_taken, one_known, one_added}

@@ -1,7 +1,7 @@
 -- Offers that are taken: the rows grow, and the node of each offer is known.
 use Rattle.std.proofs.Common.{◌≡◌, ◌<◌, ◌≤◌, ℕ, suc, List, [], ◌∷◌, ◌++◌, inl, inr, ◌⊎◌, refl, ap, sym, ◌∙◌, subst, arith, length, map, append_assoc, append-nil, Ok, Err, Result}
 use Rattle.hs_search.proofs.Closing.{reached_within}
-use Rattle.hs_search.proofs.Membership.{Has-left, Has-right, Has-either, Has-last, map-Has}
+use Rattle.hs_search.specs.Laws.Membership.{Has-left, Has-right, Has-either, Has-last, map-Has}
 use Rattle.hs_search.proofs.Adding.{capped_at, capped_node, capped_placed, capped_short, known_of_row, laid_more, nodes_more, once_more, row_of_known, rows_more, unknown_node}
 use Rattle.hs_search.specs.Bringing.{Book}
 use Rattle.hs_search.specs.Chains.{IsOnce, IsTooMany}

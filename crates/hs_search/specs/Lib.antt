@@ -3,11 +3,15 @@ pub mod Calling
 pub mod Chains
 pub mod Finding
 pub mod Graphs
+pub mod Laws
 pub mod Layout
 pub mod Levels
 pub mod Listing
+pub mod Orders
 pub mod Rounds
 pub mod Searching
 pub mod Sorting
 pub mod States
 pub mod Storing
+pub mod Traces
+pub mod Trails

@@ -1,5 +1,5 @@
 use Rattle.std.proofs.Common.{rules, ◌≡◌, ◌<◌, length, refl, take, ◌∙◌, Err}
-use Rattle.hs_search.proofs.Membership.{Has-index}
+use Rattle.hs_search.specs.Laws.Membership.{Has-index}
 use Rattle.hs_search.proofs.Storing.{each_full, take_Has, taking_next}
 use Rattle.hs_search.specs.Storing.{none_taken}
 use Rattle.hs_search.proofs.reach.take_each.Goals as goal

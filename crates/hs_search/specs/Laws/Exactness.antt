@@ -1,8 +1,8 @@
 -- Rows that are built by taking the shortest candidates have the lengths of shortest chains (after Dijkstra and Knuth).
 use Rattle.std.proofs.Common.{◌≡◌, ◌<◌, ◌≤◌, ℕ, suc, ◌+◌, List, [], ◌∷◌, inl, inr, ◌⊎◌, refl, ap, sym, ◌∙◌, Some, subst, arith}
-use Rattle.hs_search.proofs.Chaining.{tabulated_from_chain, chain_from_tabulated, level_entry, depth_entry}
-use Rattle.hs_search.proofs.Membership.{Has-either}
-use Rattle.hs_search.proofs.Nodes.{node_or}
+use Rattle.hs_search.specs.Laws.Chaining.{tabulated_from_chain, chain_from_tabulated, level_entry, depth_entry}
+use Rattle.hs_search.specs.Laws.Membership.{Has-either}
+use Rattle.hs_search.specs.Laws.Nodes.{node_or}
 use Rattle.hs_search.specs.Chains.{Reaches, IsShortest}
 use Rattle.hs_search.specs.Graphs.{FlowGraph, Has, IsFramed}
 use Rattle.hs_search.specs.Levels.{Level, here, on, call, Depth, main, entered}
@@ -37,7 +37,7 @@ known_or (r ∷ rows) node = step (node_or r.node node) (known_or rows node)
 
 -- ---- the frontier: a candidate that is not known and no longer
 
-abbrev Front : FlowGraph → List Row → ℕ → Type 0
+abbrev pub Front : FlowGraph → List Row → ℕ → Type 0
 Front graph rows n = (o : Row) × Candidate graph rows o × (¬ Known rows o.node) × (o.length ≤ n)
 
 front_more : (graph : FlowGraph) (rows : List Row) (n m : ℕ) → n ≤ m → Front graph rows n → Front graph rows m
@@ -131,7 +131,7 @@ frontier_depth graph framed rows right _ _ (entered n m k e c b depth level ente
         reach graph rows (entered_by known.0 b) b k (enters known.0 b known.1 (ap graph.enters known.2 ∙ enter)) refl (omega arith)
 
 -- whatever a chain reaches is known, or a candidate that is no longer is not
-frontier : (graph : FlowGraph) (framed : IsFramed graph) (rows : List Row) → AllRight graph rows → (e x : Node) (k m : ℕ) → Depth graph k e
+pub frontier : (graph : FlowGraph) (framed : IsFramed graph) (rows : List Row) → AllRight graph rows → (e x : Node) (k m : ℕ) → Depth graph k e
     → Level graph e m x → Known rows x ⊎ Front graph rows (k + m)
 frontier graph framed rows right e x k m depth level =
     frontier_level graph framed rows right e x k m depth level (frontier_depth graph framed rows right e k depth)
@@ -175,7 +175,7 @@ owned graph framed rows right _ (leaves c e y at_call at_end enter leave) =
       (let sum = its.sum in omega arith),
     )
 
-right_next : (graph : FlowGraph) → IsFramed graph → (rows : List Row) → AllRight graph rows → (r : Row) → IsNext graph rows r → IsRight graph r
+pub right_next : (graph : FlowGraph) → IsFramed graph → (rows : List Row) → AllRight graph rows → (r : Row) → IsNext graph rows r → IsRight graph r
 unfolding Owned
 right_next graph framed rows right r step =
     let own = owned graph framed rows right r step.candidate in
