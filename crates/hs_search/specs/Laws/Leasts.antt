@@ -60,7 +60,7 @@ all_right graph framed _ (round traces layer before tops) =
     from : (r : Row) → (t : Trace) × Has (traces ++ layer) t × (t.row ≡ r) → AllRight graph (rows_in traces) → IsRight graph r
     from r found right = subst (IsRight graph) found.2 (either found.0 (Has-either traces layer found.0 found.1) right)
 
--- ---- what is known of one trod, at a node by another name
+-- ---- what is known of one trace, at a node by another name
 
 way_at : (graph : FlowGraph) (t : Trace) (its : IsBest graph t) (x e : Node) (s : List Node) → t.row.node ≡ x
     → graph.entry x ≡ e → Way graph e s x → Best t.way s
