@@ -5,16 +5,35 @@ ghost use Rattle.hs_effects.specs.Answers.{IsExact};
 ghost use Rattle.hs_effects.specs.Calling.{whole_of};
 ghost use Rattle.hs_rows.specs.Sets.{width};
 
-use crate::programs::program;
+use crate::programs::program_with;
 use crate::refusal::Refusal;
 use hs_code::{Code, Op, Placed};
 use hs_effects::EffectTable;
 use hs_lower::lower;
 use hs_must::{Must, must};
 use hs_restores::effects;
+use hs_table_text::read;
 use hs_tree::{Program, Variable};
 use std::alloc::{AllocError, Global};
 use std::fmt::Write;
+
+/// The table: routines of each role on handles, and others.
+const TABLE: &[u8] = b"version = 1
+[routine]
+DisposeHandle = { role = \"dispose_handle\" }
+EmptyHandle = { role = \"empty\" }
+HGetState = { role = \"get_state\" }
+HLock = { role = \"lock\" }
+HNoPurge = { role = \"no_purge\" }
+HPurge = { role = \"purge\" }
+HSetState = { role = \"set_state\" }
+HUnlock = { role = \"unlock\" }
+NewHandle = { role = \"new_handle\", moves = true, purges = true }
+ReallocateHandle = { role = \"realloc\", moves = true, purges = true }
+TENew = { role = \"plain\", moves = true, purges = true }
+getchar = { role = \"getchar\" }
+putchar = { role = \"putchar\" }
+";
 
 /// Appends a word and two numbers, if it is so.
 fn push_pair(
@@ -124,6 +143,6 @@ fn of_program(alloc: Global, program: &Program) -> Result<String, Refusal> {
 
 /// What is known at the marked places of the program that a text is.
 pub(crate) fn answer(alloc: Global, text: &str) -> Result<String, Refusal> {
-    let its = program(alloc, text)?;
+    let its = program_with(alloc, read(alloc, TABLE)?, text)?;
     of_program(alloc, &its)
 }

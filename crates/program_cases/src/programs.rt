@@ -1,24 +1,33 @@
 //! Whole programs: what they are made of.
 
 use crate::refusal::Refusal;
-use crate::texts::{boxed, units_of};
+use crate::texts::{boxed, units_of, with};
 use hs_syntax::Unit;
-use hs_table::built_in;
+use hs_table::{Table, built_in};
 use hs_tree::{BoundRoutine, Global as Object, Program};
 use hs_types::FieldId;
 use hs_typing::program_of;
 use std::alloc::{AllocError, Global};
 use std::fmt::Write;
 
-/// The program that these units are.
-fn program_in(alloc: Global, units: &[Unit]) -> Result<Box<Program>, Refusal> {
-    boxed(alloc, program_of(alloc, built_in(alloc)?, units))
+/// The program that these units are with a table.
+fn program_in(alloc: Global, table: Table, units: &[Unit]) -> Result<Box<Program>, Refusal> {
+    boxed(alloc, program_of(alloc, table, units))
+}
+
+/// The program that a text is with a table.
+pub(crate) fn program_with(
+    alloc: Global,
+    table: Table,
+    text: &str,
+) -> Result<Box<Program>, Refusal> {
+    let (table, units) = with(table, units_of(alloc, text))?;
+    program_in(alloc, table, &units)
 }
 
 /// The program that a text is.
 pub(crate) fn program(alloc: Global, text: &str) -> Result<Box<Program>, Refusal> {
-    let units = units_of(alloc, text)?;
-    program_in(alloc, &units)
+    program_with(alloc, built_in(alloc)?, text)
 }
 
 /// How many functions the program has, and the number of its `main`.

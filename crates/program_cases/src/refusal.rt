@@ -4,6 +4,7 @@ use hs_base::NoMemory;
 use hs_expr_parser::ParseEnd;
 use hs_lower::LowerEnd;
 use hs_must::MustEnd;
+use hs_table_text::TableError;
 use hs_taint::TaintEnd;
 use hs_tokens::Place;
 use hs_typer::TypeError;
@@ -104,6 +105,17 @@ impl From<TaintEnd> for Refusal {
         match why {
             TaintEnd::Limit(_) => Why::Limit.into(),
             TaintEnd::NoMemory => Why::NoMemory.into(),
+        }
+    }
+}
+
+impl From<TableError> for Refusal {
+    fn from(why: TableError) -> Refusal {
+        match why {
+            TableError::NotToml | TableError::BadVersion | TableError::BadEntry(_) => {
+                Why::Unread.into()
+            }
+            TableError::NoMemory => Why::NoMemory.into(),
         }
     }
 }
