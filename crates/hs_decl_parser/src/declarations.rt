@@ -65,7 +65,7 @@ fn items<'a>(
     ensures read { Gives (λ x. (map view_item x.0.items, x.1.now)) result (items_at known.now (view_item start ∷ []) tokens.now) }
     ensures shorter { IfOk result (λ x. length x.1.now ≤ length tokens.now) }
 {
-    let mut its = Vec::new(alloc);
+    let mut its = Vec::with_capacity(alloc, 1)?;
     its.push(start)?;
     let mut rest = tokens;
     'items: while let Some((_, next)) = mark_ahead(rest, b",") {

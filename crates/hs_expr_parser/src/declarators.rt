@@ -221,7 +221,7 @@ pub(crate) fn declarators<'a, F: Fn(&[SourceToken]) -> Result<(Expr, usize), Par
     ensures read { Gives (λ x. (map view_declarator x.0.items, x.1.now)) result (declarators_at known.now [] tokens.now) }
     ensures shorter { IfOk result (λ x. length x.1.now ≤ length tokens.now) }
 {
-    let mut its = Vec::new(alloc);
+    let mut its = Vec::with_capacity(alloc, 1)?;
     let (start, behind) = declarator(alloc, known, conditional, false, tokens)?;
     its.push(start)?;
     let mut rest = behind;
@@ -249,7 +249,7 @@ fn parameters<'a, F: Fn(&[SourceToken]) -> Result<(Expr, usize), ParseEnd>>(
     ensures read { Gives (λ x. (map view_parameter x.0.items, x.1.now)) result (parameters_at known.now [] tokens.now) }
     ensures shorter { IfOk result (λ x. length x.1.now < length tokens.now) }
 {
-    let mut its = Vec::new(alloc);
+    let mut its = Vec::with_capacity(alloc, 1)?;
     let (start, behind) = parameter(alloc, known, conditional, tokens)?;
     its.push(start)?;
     let mut rest = behind;

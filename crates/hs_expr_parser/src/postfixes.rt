@@ -214,10 +214,11 @@ fn arguments<'a>(
     ensures read { Gives (λ x. (map view x.0.items, x.1.now)) result (some_arguments_at known.now tokens.now) }
     ensures shorter { IfOk result (λ x. length x.1.now ≤ length tokens.now) }
 {
-    let mut its = Vec::new(alloc);
     if is_mark_ahead(tokens, b")") {
-        return Ok((its, tokens));
+        return Ok((Vec::new(alloc), tokens));
     }
+    // Most calls have one argument.
+    let mut its = Vec::with_capacity(alloc, 1)?;
     let (start, behind) = assignment(alloc, known, tokens)?;
     its.push(start)?;
     let mut rest = behind;

@@ -80,7 +80,7 @@ pub(crate) fn specifiers<'a, F: Fn(&[SourceToken]) -> Result<(Expr, usize), Pars
         return Err(ParseEnd::NotExpr);
     }
     let (start, left) = specifier(alloc, known, conditional, source, behind)?;
-    let mut its = Vec::new(alloc);
+    let mut its = Vec::with_capacity(alloc, 1)?;
     let mut typed = is_typed(false, &start);
     its.push(start)?;
     let mut rest = left;

@@ -1,10 +1,10 @@
 -- What is ahead of a cursor: the start of a text, a front of it, and the first byte of phases 1 and 2.
-use Rattle.std.proofs.Common.{◌≡◌, ℕ, zero, suc, ◌+◌, ◌-◌, ◌≤◌, min, Bool, true, false, ◌&&◌, ◌==◌, List, [], ◌∷◌, length, take, drop, get_or, refl, sym, ap, inl, inr, arith}
+use Rattle.std.proofs.Common.{◌≡◌, ℕ, zero, suc, ◌+◌, ◌-◌, ◌≤◌, min, Bool, true, false, not, ◌&&◌, ◌||◌, ◌==◌, List, [], ◌∷◌, length, take, drop, get_or, refl, sym, ap, inl, inr, arith}
 use Rattle.std.proofs.lemmas.List.{take_all}
 use Rattle.std.proofs.lemmas.Bool.{cases_Bool}
 use Rattle.hs_base.specs.declared.pos.Pos.{Pos}
 use Rattle.hs_base.specs.Text.{ends_line, next_place}
-use Rattle.hs_tokens.specs.Lines.{Placed, placed_from, begins_with_end, unspliced_after, unspliced, logical}
+use Rattle.hs_tokens.specs.Lines.{Placed, placed_from, begins_with_end, unspliced_after, unspliced, logical, is_itself}
 use Rattle.hs_tokens.specs.Cursor.{ahead_of}
 
 -- a front of a front is the shorter front
@@ -91,3 +91,24 @@ pub none_of : (pos : Pos) (rest : List ℕ) (left : ℕ) → unspliced (placed_f
 unfolding ahead_of
 none_of pos rest zero same = refl
 none_of pos rest (suc left) same = rw same refl
+
+-- what a byte is not, if both phases leave it as it is
+pub is_itself_parts : (byte : ℕ) → is_itself byte ≡ true → ((byte == 92) ≡ false) × ((byte == 10) ≡ false) × ((byte == 13) ≡ false)
+is_itself_parts byte is = by_tests (byte == 92) (byte == 10) (byte == 13) is
+  where
+    by_tests : (a b c : Bool) → not (a || b || c) ≡ true → (a ≡ false) × (b ≡ false) × (c ≡ false)
+    by_tests false false false is = (refl, refl, refl)
+    by_tests false false true is = cc
+    by_tests false true c is = cc
+    by_tests true b c is = cc
+
+-- a byte that both phases leave as it is
+pub itself_here : (pos : Pos) (rest others : List ℕ) (byte left : ℕ) → rest ≡ byte ∷ others → 1 ≤ left → is_itself byte ≡ true
+    → ahead_of pos rest left
+    ≡ record { byte = byte; pos = pos } ∷ ahead_of (record { file = pos.file; line = pos.line; col = pos.col + 1 }) others (left - 1)
+unfolding ahead_of
+itself_here pos rest others byte zero first more is = absurd (omega arith)
+itself_here pos rest others byte (suc left) first more is =
+    let less : suc left - 1 ≡ left = omega arith in
+    let parts : ((byte == 92) ≡ false) × ((byte == 10) ≡ false) × ((byte == 13) ≡ false) = is_itself_parts byte is in
+    rw first (rw (parts.1, parts.2, parts.0, less) refl)

@@ -3,7 +3,8 @@
 --     placed_from at text         each byte and its place; a line's end is one LF
 --     unspliced bytes             without each backslash that an LF follows directly, and that LF
 --     logical file text           both
-use Rattle.std.specs.Prelude.{ℕ, ◌==◌, Bool, true, false, ◌&&◌, List, [], ◌∷◌, if◌then◌else◌}
+--     is_itself byte              whatever stands beside it, both leave the byte as it is
+use Rattle.std.specs.Prelude.{ℕ, ◌==◌, Bool, true, false, not, ◌&&◌, ◌||◌, List, [], ◌∷◌, if◌then◌else◌}
 use Rattle.hs_base.specs.Text.{ends_line, next_place}
 use Rattle.hs_base.specs.declared.pos.Pos.{Pos}
 
@@ -39,3 +40,7 @@ unspliced bytes = unspliced_after false bytes
 -- phases 1 and 2 of a whole text, which begins at line 1, column 1
 abbrev pub logical : ℕ → List ℕ → List Placed
 logical file text = unspliced (placed_from (record { file = file; line = 1; col = 1 }) text)
+
+-- it belongs to no splice and to no line's end
+abbrev pub is_itself : ℕ → Bool
+is_itself byte = not ((byte == 92) || (byte == 10) || (byte == 13))

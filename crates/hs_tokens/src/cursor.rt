@@ -1,8 +1,8 @@
 //! Steps through a text, past its splices (X3.159-1989 2.1.1.2, phases 1 and 2).
 
-ghost use Rattle.std.specs.Prelude.{◌≡◌, ◌≤◌, ◌<◌, ◌+◌, ◌^◌, length, take, drop, IfOk, nat_eq};
+ghost use Rattle.std.specs.Prelude.{◌≡◌, ◌≤◌, ◌<◌, ◌+◌, ◌∷◌, ◌^◌, true, Some, length, take, drop, IfOk, nat_eq};
 ghost use Rattle.std.specs.List.{starts_with};
-ghost use Rattle.hs_tokens.specs.Lines.{logical};
+ghost use Rattle.hs_tokens.specs.Lines.{is_itself, logical};
 ghost use Rattle.hs_tokens.specs.Forms.{place_of};
 ghost use Rattle.hs_tokens.specs.Cursor.{HasRoom};
 
@@ -29,6 +29,14 @@ pub(crate) struct Step<'a> {
     pub(crate) pos: Pos,
     /// After the byte.
     pub(crate) after: Cursor<'a>,
+}
+
+/// Whether a byte is the same in each phase, whatever stands beside it: it belongs to no splice and to no line's end.
+#[inline(always)]
+fn is_itself(byte: u8) -> bool
+    ensures { result ≡ is_itself byte }
+{
+    byte != b'\\' && byte != b'\n' && byte != b'\r'
 }
 
 impl<'a> Cursor<'a> {
@@ -75,8 +83,46 @@ impl<'a> Cursor<'a> {
         None
     }
 
-    /// The first byte of phase 2: no splices.
+    /// The first byte of phase 2: no splices. Most bytes are found by one look at them.
+    #[inline(always)]
     pub(crate) fn next(self) -> Option<Step<'a>>
+        ensures { IsNext self.entry result }
+    {
+        if let Some((byte, others)) = self.rest.split_first() {
+            if self.left > 0 && is_itself(*byte) {
+                return Some(self.past(*byte, others));
+            }
+        }
+        self.next_of_lines()
+    }
+
+    /// The first byte, if it is the same in each phase.
+    #[inline(always)]
+    fn past(self, byte: u8, others: &'a [u8]) -> Step<'a>
+        requires some { 0 < self.left }
+        requires first { self.rest.now ≡ byte ∷ others.now }
+        requires is_itself { is_itself byte ≡ true }
+        ensures { IsNext self.entry (Some result) }
+    {
+        let after = Cursor {
+            rest: others,
+            pos: Pos {
+                file: self.pos.file,
+                line: self.pos.line,
+                col: self.pos.col + 1,
+            },
+            left: self.left - 1,
+        };
+        Step {
+            byte,
+            pos: self.pos,
+            after,
+        }
+    }
+
+    /// The same, by way of the bytes of phase 1.
+    #[inline(never)]
+    fn next_of_lines(self) -> Option<Step<'a>>
         ensures { IsNext self.entry result }
     {
         if self.left == 0 {

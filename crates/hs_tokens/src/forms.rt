@@ -1,6 +1,6 @@
 //! What begins at a byte, and how long it is (X3.159-1989 2.1.1.2, phase 3).
 
-ghost use Rattle.std.specs.Prelude.{◌≡◌, ◌≤◌, map, IfSome, false};
+ghost use Rattle.std.specs.Prelude.{◌≡◌, ◌≤◌, ◌<◌, ◌+◌, ◌∷◌, [], map, nat_eq, IfSome, false, if◌then◌else◌};
 ghost use Rattle.std.specs.List.{prefix_len, starts_with};
 ghost use Rattle.hs_base.specs.Text.{is_word_byte};
 ghost use Rattle.hs_tokens.specs.Forms.{begins_number, number_len, comment_len_after, longest_of, punctuators, punctuator_len, plain_form, form_of};
@@ -123,12 +123,46 @@ fn longest_of(texts: &[&str], step: Step) -> usize
     longest
 }
 
-/// How long the operator or punctuator ahead is, or 0 if none is.
+/// Whether the byte is ahead.
+#[inline(always)]
+fn is_ahead(byte: u8, cursor: Cursor) -> bool
+    ensures { result ≡ starts_with nat_eq (bytes_ahead cursor.entry) (byte ∷ []) }
+{
+    match cursor.next() {
+        Some(step) => step.byte == byte,
+        None => false,
+    }
+}
+
+/// One byte more, if it is so.
+fn longer(is: bool, len: usize) -> usize
+    requires { len < 4 }
+    ensures { result ≡ (if is then len + 1 else len) }
+{
+    if is { len + 1 } else { len }
+}
+
+/// How long the operator or punctuator ahead is, or 0 if none is: by its first byte, and those that may follow it.
 #[tactic(auto, unfolding(crate::specs::Forms::punctuators))]
 fn punctuator_len(step: Step) -> usize
     ensures { result ≡ punctuator_len (bytes_at step.entry) }
 {
-    longest_of(&PUNCTUATORS, step)
+    match step.byte {
+        b'(' | b')' | b',' | b';' | b'{' | b'}' | b'[' | b']' | b'~' | b'?' | b':' => 1,
+        b'=' | b'*' | b'!' | b'/' | b'%' | b'^' => longer(is_ahead(b'=', step.after), 1),
+        b'#' => longer(is_ahead(b'#', step.after), 1),
+        b'+' => longer(is_ahead(b'+', step.after) || is_ahead(b'=', step.after), 1),
+        b'&' => longer(is_ahead(b'&', step.after) || is_ahead(b'=', step.after), 1),
+        b'|' => longer(is_ahead(b'|', step.after) || is_ahead(b'=', step.after), 1),
+        b'-' => longer(
+            is_ahead(b'>', step.after) || is_ahead(b'-', step.after) || is_ahead(b'=', step.after),
+            1,
+        ),
+        b'.' => longest_of(&[".", "..."], step),
+        b'<' => longest_of(&["<", "<=", "<<", "<<="], step),
+        b'>' => longest_of(&[">", ">=", ">>", ">>="], step),
+        _ => longest_of(&PUNCTUATORS, step),
+    }
 }
 
 /// The comment whose opening is at that place, with the rest after the opening.
@@ -223,7 +257,7 @@ pub(crate) fn part_ahead(cursor: Cursor) -> Part
         Part::LineEnd
     } else if is_blank(step.byte) {
         Part::Blank
-    } else if step.starts_with(b"/*") {
+    } else if step.byte == b'/' && is_ahead(b'*', step.after) {
         comment(step.pos, step.after.behind(1))
     } else if step.byte == b'"' {
         literal(step.pos, step.after)

@@ -2,7 +2,7 @@ use Rattle.std.proofs.Common.{arith, sym, ◌∙◌, ap}
 use Rattle.hs_tokens.specs.Lines.{unspliced}
 use Rattle.hs_tokens.specs.Ahead.{placed_at}
 use Rattle.hs_tokens.proofs.Cursors.{none_left, none_of, next_of}
-use Rattle.hs_tokens.proofs.cursor.Cursor.next.Goals as goal
+use Rattle.hs_tokens.proofs.cursor.Cursor.next_of_lines.Goals as goal
 
 pub returns-then-self-eq0 : goal.returns-then-self-eq0
 returns-then-self-eq0 c = none_left c.args.self.pos c.args.self.rest.now c.args.self.left c.if-self-eq0.true
