@@ -172,7 +172,9 @@ pub fn value(alloc: Global, typer: &mut Typer, e: &Expr) -> Result<Box<Rvalue>, 
 fn values(alloc: Global, typer: &mut Typer, its: &[Expr]) -> Result<Vec<Rvalue>, TypeError>
     ensures { Steps (λ done. map view_right done.items) typer.new (typed_all [] (expressions_from (map view its.now)) typer.old) result }
 {
-    let mut done = Vec::new(alloc);
+    let Ok(mut done) = Vec::with_capacity(alloc, its.len()) else {
+        return Err(TypeError::NoMemory);
+    };
     'its: for it in its {
         let made = value(alloc, typer, it)?;
         done = pushed(done, made)?;
@@ -185,7 +187,9 @@ fn values(alloc: Global, typer: &mut Typer, its: &[Expr]) -> Result<Vec<Rvalue>,
 fn lefts(alloc: Global, typer: &mut Typer, its: &[Left]) -> Result<Vec<Rvalue>, TypeError>
     ensures { Steps (λ done. map view_right done.items) typer.new (typed_lefts [] (lefts_from (map view_left its.now)) typer.old) result }
 {
-    let mut done = Vec::new(alloc);
+    let Ok(mut done) = Vec::with_capacity(alloc, its.len()) else {
+        return Err(TypeError::NoMemory);
+    };
     'its: for it in its {
         let made = value(alloc, typer, &it.operand)?;
         done = pushed(done, made)?;
@@ -477,7 +481,9 @@ fn parameter_types(
 ) -> Result<Vec<TypeId>, TypeError>
     ensures { Steps (λ ids. ids.items) typer.new (parameter_types at 0 [] (parameters_from (map view_parameter its.now)) typer.old) result }
 {
-    let mut done = Vec::new(alloc);
+    let Ok(mut done) = Vec::with_capacity(alloc, its.len()) else {
+        return Err(TypeError::NoMemory);
+    };
     let mut place = 0u32;
     'its: for it in its {
         let first = first_place(at, &it.specifiers);

@@ -79,7 +79,9 @@ fn matched(
     ensures { Gives (λ its. map view_right its.items) (matched types.now at [] parameters (map view_right arguments.items)) result }
 {
     let mut list = parameters;
-    let mut done = Vec::new(alloc);
+    let Ok(mut done) = Vec::with_capacity(alloc, arguments.len()) else {
+        return Err(OperandEnd::NoMemory);
+    };
     'arguments: for argument in arguments {
         let Some(Parameters::More { first, others }) = types.parameters(list) else {
             return Err(OperandEnd::Untyped(at));

@@ -57,7 +57,9 @@ fn declared_all(
 ) -> Result<Vec<Declaration>, TypeError>
     ensures { Works (λ done. map view_declaration done.items) m.new (declared_all at [] (map view_decl its.now) m.old) result }
 {
-    let mut done = Vec::new(alloc);
+    let Ok(mut done) = Vec::with_capacity(alloc, its.len()) else {
+        return Err(TypeError::NoMemory);
+    };
     'its: for it in its {
         let items = block_declaration(alloc, m, at, it)?;
         done = with_declaration(done, first_place(at, it), items)?;
@@ -259,7 +261,9 @@ fn all_stated(
 ) -> Result<Vec<Labelled>, TypeError>
     ensures { Works (λ done. map view_labelled done.items) m.new (all_stated at cases [] (statements_from (map view_syntax its.now)) m.old) result }
 {
-    let mut done = Vec::new(alloc);
+    let Ok(mut done) = Vec::with_capacity(alloc, its.len()) else {
+        return Err(TypeError::NoMemory);
+    };
     let mut left = cases;
     'its: for it in its {
         let (labels, next) = all_labelled(alloc, m, left, &it.labels)?;
