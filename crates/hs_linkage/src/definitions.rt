@@ -6,7 +6,7 @@ ghost use Rattle.hs_linkage.specs.Definitions.{first_place, is_definition_of, te
 ghost use Rattle.hs_syntax.specs.Views.{view_external, view_unit};
 ghost use Rattle.hs_typer.specs.Declarators.{word_of};
 
-use crate::statics::statics_of;
+use crate::statics::{is_kept_static, statics_of};
 use hs_base::{Bytes, NoMemory};
 use hs_index::Index;
 use hs_syntax::{External, Unit, Word};
@@ -64,8 +64,8 @@ impl Definitions {
         }
     }
 
-    /// The functions that these units define. A function has internal linkage if a declaration of its name at file scope of its unit has
-    /// the word `static`. Fails if memory runs out.
+    /// The functions that these units define. A function has internal linkage if the first declaration of its name at file scope of its
+    /// unit has the word `static`. Fails if memory runs out.
     ///
     /// Example: `static int f(void);` and later `int f(void) { return 1; }` define `f` with internal linkage.
     pub fn of(alloc: Global, units: &[Unit]) -> Result<Definitions, NoMemory>
@@ -118,7 +118,7 @@ impl Definitions {
         self.with_externals(alloc, unit, &statics, its)
     }
 
-    /// The definitions, and those of these external declarations. The names in the index have internal linkage.
+    /// The definitions, and those of these external declarations. The index has the linkage of their names.
     fn with_externals(
         self,
         alloc: Global,
@@ -148,7 +148,7 @@ impl Definitions {
         match it {
             External::Function { declarator, .. } => {
                 let name = text_of(word_of(declarator));
-                self.with(alloc, unit, name, statics.place(name).is_some())
+                self.with(alloc, unit, name, is_kept_static(statics, name))
             }
             External::Declaration(_) => Ok(self),
         }
@@ -201,7 +201,12 @@ fn text_of(word: Option<&Word>) -> &[u8]
 }
 
 /// Gives the name that place, if it has none. Fails if memory runs out.
-fn put_first(alloc: Global, names: &mut Index, name: &[u8], place: u32) -> Result<(), NoMemory>
+pub(crate) fn put_first(
+    alloc: Global,
+    names: &mut Index,
+    name: &[u8],
+    place: u32,
+) -> Result<(), NoMemory>
     ensures put { OnOk result (PutsFirst name.now place names.old names.new) }
 {
     if names.place(name).is_some() {
