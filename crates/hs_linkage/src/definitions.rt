@@ -6,7 +6,7 @@ ghost use Rattle.hs_linkage.specs.Definitions.{first_place, is_definition_of, te
 ghost use Rattle.hs_syntax.specs.Views.{view_external, view_unit};
 ghost use Rattle.hs_typer.specs.Declarators.{word_of};
 
-use crate::statics::{is_kept_static, statics_of};
+use crate::statics::statics_of;
 use hs_base::{Bytes, NoMemory};
 use hs_index::Index;
 use hs_syntax::{External, Unit, Word};
@@ -53,17 +53,6 @@ impl Model for Definitions {
 impl Definitions {
     ghost use Rattle.hs_linkage.specs.Indexes.{defined_as};
 
-    /// No definitions. Takes no memory.
-    fn new(alloc: Global) -> Definitions
-        ensures { result ≡ [] }
-    {
-        Definitions {
-            vec: Vec::new(alloc),
-            externals: Index::new(alloc),
-            units: Vec::new(alloc),
-        }
-    }
-
     /// The functions that these units define. A function has internal linkage if the first declaration of its name at file scope of its
     /// unit has the word `static`. Fails if memory runs out.
     ///
@@ -71,7 +60,11 @@ impl Definitions {
     pub fn of(alloc: Global, units: &[Unit]) -> Result<Definitions, NoMemory>
         ensures { IfOk result (λ its. its ≡ all_definitions 0 (map view_unit units.now)) }
     {
-        let mut its = Definitions::new(alloc);
+        let mut its = Definitions {
+            vec: Vec::new(alloc),
+            externals: Index::new(alloc),
+            units: Vec::new(alloc),
+        };
         let mut number = 0u32;
         'units: for unit in units {
             its = its.with_unit(alloc, number, &unit.externals)?;
@@ -148,7 +141,7 @@ impl Definitions {
         match it {
             External::Function { declarator, .. } => {
                 let name = text_of(word_of(declarator));
-                self.with(alloc, unit, name, is_kept_static(statics, name))
+                self.with(alloc, unit, name, statics.place(name) == Some(1))
             }
             External::Declaration(_) => Ok(self),
         }

@@ -2,7 +2,7 @@
 
 ghost use Rattle.std.specs.Prelude.{◌≡◌, ℕ, List, map, option_copied, IfOk};
 ghost use Rattle.hs_index.specs.Index.{at};
-ghost use Rattle.hs_linkage.specs.Indexes.{linkage_number, or_first, number_if, linkage_of, is_kept_static};
+ghost use Rattle.hs_linkage.specs.Indexes.{linkage_number, or_first, number_if, linkage_of};
 ghost use Rattle.hs_linkage.specs.Definitions.{storage_of, has_static, declares_with, is_named, is_among, declares, is_static};
 ghost use Rattle.hs_syntax.specs.Views.{view_external, view_item, view_specifier, specification_of};
 ghost use Rattle.hs_typer.specs.Declarators.{word_of};
@@ -46,16 +46,6 @@ fn linkage_number(its: &[Specifier]) -> u32
     match storage_of(its) {
         Some(Storage::Static) => 1,
         Some(Storage::Typedef | Storage::Extern) | None => 0,
-    }
-}
-
-/// Whether the index says of the name that its first declaration has the word `static`.
-pub(crate) fn is_kept_static(statics: &Index, name: &[u8]) -> bool
-    ensures { result ≡ is_kept_static name.now statics.now }
-{
-    match statics.place(name) {
-        Some(number) => number == 1,
-        None => false,
     }
 }
 
