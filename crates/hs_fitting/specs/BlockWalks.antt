@@ -20,7 +20,8 @@ use Rattle.hs_fitting.specs.Claims.{Claims, RefersTo, IsVariableIn, Stands, Proc
 use Rattle.hs_fitting.specs.Declaring.{either_moved, new_object_moved, tag_always}
 use Rattle.hs_fitting.specs.Initialised.{initialised_walks}
 use Rattle.hs_fitting.specs.Known.{typing_walks}
-use Rattle.hs_fitting.specs.LinkedNames.{IsObject, MayLink, refers_kept, kept_walks, placed_object_walks, define_object_walks, named_walks, renamed_walks, linked_walks}
+use Rattle.hs_fitting.specs.HasLinks.{HasLink}
+use Rattle.hs_fitting.specs.LinkedNames.{IsObject, MayLinkAs, with_link, refers_kept, kept_walks, placed_object_walks, define_object_walks, named_walks, renamed_walks, linked_walks}
 use Rattle.hs_fitting.specs.Making.{designates_makes}
 use Rattle.hs_fitting.specs.Noting.{NamesAllow, Noting, Notes, same_noted}
 use Rattle.hs_fitting.specs.NotingCalm.{begun_struct_notes}
@@ -140,11 +141,13 @@ module _ {here : List ℕ → Bool} {program : TypedProgram} {function : TypedFu
       typing_walks (inline_words it) (λ Q. inline_words_notes Q program.types it) (λ s scoped counts knows binds p given noted. tt)
 
   -- a function that is declared, at any level
-  pub function_declared_walks : (static : Bool) (word : Word) (id : TypeId) (it : Option Initialising) → (static ≡ true → here word.text ≡ true)
-      → Walks here program function (λ its m. MayLink program its m id) (function_declared static word id it) Nothing (λ done. Unit {0})
-  function_declared_walks static word id it inside =
-      then_walks {holds = λ its. Unit {0}} (linked static word id) (linked_walks static word id inside)
-      (λ its. so_walks {holds = λ done. Unit {0}} (λ its m met. tt) (λ its m done is. tt) (λ done is before. tt) (words_walks it))
+  pub function_declared_walks : (static : Bool) (word : Word) (id : TypeId) (it : Option Initialising)
+      → Walks here program function (MayLinkAs here program static word id) (function_declared static word id it)
+      (λ its m done. HasLink word.text m) (λ done. Unit {0})
+  function_declared_walks static word id it =
+      then_walks {holds = λ its. Unit {0}} (linked static word id) (linked_walks static word id)
+      (λ its. so_walks {holds = λ done. Unit {0}} (λ its m is. (tt, is.4)) (λ its m done is. is.1) (λ done is before. tt)
+      (with_link word.text (words_walks it)))
 
   -- ---- objects
 
@@ -176,7 +179,8 @@ module _ {here : List ℕ → Bool} {program : TypedProgram} {function : TypedFu
   extern_object_walks word id it =
       then_walks (is_object word id) (own_over id (object_walks {pre = Anywhere} word id))
       (λ may. then_walks {holds = λ its. Unit {0}} (linked false word id)
-      (so_walks (λ its m is. (λ other. is.0, is.1)) (λ its m made is. tt) (λ made is. is) (linked_walks false word id (λ is. absurd (false_true is))))
+      (so_walks (λ its m is. ((λ other. is.0, is.1), λ static. absurd (false_true static))) (λ its m made is. tt) (λ made is. is)
+      (linked_walks false word id))
       (λ its. then_walks {holds = λ done. Unit {0}} (not_started it) (not_started_walks {pre = Anywhere} it)
       (λ none. passes_walks None (λ its m is. tt) (λ a b c. tt))))
 
@@ -270,11 +274,13 @@ module _ {here : List ℕ → Bool} {program : TypedProgram} {function : TypedFu
         → Walks here program function (λ its m. OwnId id its m × (is_function m.typer.types id ≡ true)) (block_function stored storage word id it) Nothing
         (IsRightItemIf program function)
     block_function_walks stored storage word id it =
-        then_walks {after = λ its m done. MayLink program its m id} {holds = λ done. Unit {0}} (unless (Untyped stored) (λ m. is_static storage))
+        then_walks {after = λ its m done. MayLinkAs here program false word id its m} {holds = λ done. Unit {0}}
+        (unless (Untyped stored) (λ m. is_static storage))
         (unless_walks (Untyped stored) (λ m. is_static storage)
-        (λ its m met failed. (λ other. absurd (true_false (is_function m.typer.types id) met.1 other), met.0)))
+        (λ its m met failed.
+        ((λ other. absurd (true_false (is_function m.typer.types id) met.1 other), met.0), λ static. absurd (true_false false static refl))))
         (λ may. then_walks {holds = λ done. Unit {0}} (function_declared false word id it)
-        (function_declared_walks false word id it (λ is. absurd (true_false false is refl)))
+        (function_declared_walks false word id it)
         (λ done. passes_walks None (λ its m is. tt) (λ a b. tt)))
 
     -- by its type

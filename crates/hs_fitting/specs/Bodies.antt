@@ -23,6 +23,7 @@ use Rattle.hs_expressions.specs.Laws.Always.{Anything}
 use Rattle.hs_expressions.specs.Laws.Reached.{IsAllowedAt, left_entered}
 use Rattle.hs_fitting.specs.Claims.{Claims, RefersTo, IsVariableIn, IsLink, IsExternal, IsRoutineDeclared, IsMet, IsMetAs, IsRegisteredAs, category_at, Endures, IsObjectRight, Stands, Proceeds}
 use Rattle.hs_fitting.specs.Done.{IsExactly, AreDone, claimed_before, done_later, done_with}
+use Rattle.hs_fitting.specs.HasLinks.{HasLink, link_kept}
 use Rattle.hs_fitting.specs.Inner.{Inner, inner_moves, with_name}
 use Rattle.hs_fitting.specs.Known.{stands_typer}
 use Rattle.hs_fitting.specs.Lasting.{continues_of, endures_scopes}
@@ -164,6 +165,7 @@ pub record DefinedRight (program : TypedProgram) (here : List ℕ → Bool) (its
   pub definitions : p.1.definitions ≡ m.definitions
   pub unit : p.1.typer.origins.unit ≡ m.typer.origins.unit
   pub functions : AreDone program claims p.1 (done ++ p.0 ∷ [])
+  pub linked : (one : Definition) → slice_get m.definitions (length done) ≡ Some one → HasLink one.name p.1
   pub gives : Endures program claims p.1 → EachBlock (IsRightPhrase program p.0) p.0.body
 
 -- of an answer
@@ -190,6 +192,7 @@ pub record IsBehind (program : TypedProgram) (here : List ℕ → Bool) (its : C
   pub among : (first : TypeId) → claims.functions (length done) ≡ Some first
       → IsAmong (meaning.Function id (bound.Function (length done))) claims.entities
   pub met : IsMet c one
+  pub linked : HasLink one.name c
 
 -- the first ones, and the others, of two lists that are the same
 pub first_same : {A : Type 0} → (a b : A) (xs ys : List A) → (a ∷ xs) ≡ (b ∷ ys) → a ≡ b
@@ -324,6 +327,9 @@ module _ (program : TypedProgram) (here : List ℕ → Bool) (sound : IsRight pr
                 exact_here
                 (λ other there. subst (IsMet (end_of n)) (one_end other there)
                 ((proceeds_still program.types walked.claims n (end_of n) refl refl refl refl).met one (walked.proceeds.met one behind.met)));
+            linked = λ other there. subst (λ one. HasLink one.name (end_of n))
+                (one_there (slice_get m.definitions (length done)) one other at there)
+                (link_kept program.types one.name claims walked.claims c n walked.proceeds moves behind.linked);
             gives = λ endures. walked.gives
                 (continues_of program (function_of n (length c.locals) (length c.typer.taken) made) walked.claims c n moves
                 (endures_scopes program walked.claims n (leave n.typer).names (leave n.typer).tags

@@ -17,6 +17,7 @@ use Rattle.hs_fitting.specs.Agreeing.{agree_strict}
 use Rattle.hs_fitting.specs.Claims.{Claims, ObjectsStay, RefersAs, RefersTo, IsVariableIn, IsBoundIn, IsLink, IsExternal, IsInternalLink, Stands, category_at, IsTypedIn}
 use Rattle.hs_fitting.specs.Entities.{IsAmong, all_agree_each, all_agree_shapes, newest_has}
 use Rattle.hs_fitting.specs.Found.{same_texts, link_found}
+use Rattle.hs_fitting.specs.HasLinks.{MayBeStatic}
 use Rattle.hs_fitting.specs.Links.{HasShape, objects_self, refers_as, refers_typed, global_typed, bound_typed, declared_again}
 use Rattle.hs_fitting.specs.Making.{function_category, IsFunction, agrees_typed, declared_function, function_typed}
 use Rattle.hs_fitting.specs.Owned.{IsOwn, own_later}
@@ -440,7 +441,7 @@ module _ (program : TypedProgram) (here : List ℕ → Bool) (its : Claims) (var
       )))))
 
   -- what the name was linked to in the unit
-  pub link_as_chosen : (static : Bool) → (static ≡ true → here word.text ≡ true) → (found : Option Linked) → find word.text m.links ≡ found
+  pub link_as_chosen : (static : Bool) → MayBeStatic here static word m → (found : Option Linked) → find word.text m.links ≡ found
       → Gives (Choosing program.types here its m word id) (link_as static word id found m)
-  link_as_chosen static inside None same = first_chosen static inside same
+  link_as_chosen static inside None same = first_chosen static (λ is. inside is same) same
   link_as_chosen static inside (Some it) same = next_chosen static it same

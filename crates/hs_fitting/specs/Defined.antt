@@ -4,6 +4,7 @@ use Rattle.std.proofs.Common.{◌≡◌, ℕ, suc, Bool, true, false, not, ◌||
 use Rattle.std.specs.Prelude.{◌==◌}
 use Rattle.std.specs.List.{AllByRecursion}
 use Rattle.hs_base.specs.Entries.{all_appended, all_so}
+use Rattle.hs_base.specs.Options.{is_there}
 use Rattle.hs_declarations.specs.Declarations.{block_declared}
 use Rattle.hs_expressions.specs.Binding.{IsSignature}
 use Rattle.hs_expressions.specs.Expressions.{enter}
@@ -15,6 +16,7 @@ use Rattle.hs_fitting.specs.Claims.{Claims, RefersTo, IsVariableIn, IsMet, IsCal
 use Rattle.hs_fitting.specs.Defining.{parameters_in_moved}
 use Rattle.hs_fitting.specs.Done.{AreDone}
 use Rattle.hs_fitting.specs.Given.{HasParameters, parameters_given}
+use Rattle.hs_fitting.specs.HasLinks.{HasLink, MayBeStatic}
 use Rattle.hs_fitting.specs.Heading.{typed_variables, typed_types, named_among, named_met}
 use Rattle.hs_fitting.specs.Inner.{Inner, inner_moves, inner_named, named_inside, with_name, with_name_outside}
 use Rattle.hs_fitting.specs.Known.{stands_typer, own_here, names_after, constant_refers, constant_local}
@@ -41,7 +43,7 @@ use Rattle.hs_linkage.specs.Linkage.{clash_of, is_function, link}
 use Rattle.hs_linkage.specs.Works.{work_with, ◌>>=◌, ◌>>◌, typing}
 use Rattle.hs_linkage.specs.declared.definitions.Definition.{Definition}
 use Rattle.hs_linkage.specs.declared.translator.Translator.{Translator}
-use Rattle.hs_names.specs.Scopes.{declared as declared_in, entered, declared_outside}
+use Rattle.hs_names.specs.Scopes.{find, declared as declared_in, entered, declared_outside}
 use Rattle.hs_statements.specs.Statements.{body_of}
 use Rattle.hs_syntax.specs.Trees.{Declaration, Compound, Parameters}
 use Rattle.hs_syntax.specs.declared.word.Word.{Word}
@@ -191,7 +193,7 @@ module _ (program : TypedProgram) (here : List ℕ → Bool) (sound : IsRight pr
         locals = same_locals new.types m.locals;
       }
 
-  module _ (static : Bool) (inside : static ≡ true → here word.text ≡ true) (p : Entity × Translator)
+  module _ (static : Bool) (inside : MayBeStatic here static word here_opened) (p : Entity × Translator)
       (linked : link static word id here_opened ≡ Ok p) (moves : Moves here_opened p.1) (only : is_of_other (length done) p.0 ≡ false) where
     -- with its name
     abbrev here_named : Translator
@@ -347,6 +349,8 @@ module _ (program : TypedProgram) (here : List ℕ → Bool) (sound : IsRight pr
               met = subst (λ n. IsMet n one) (sym has.1)
                   ((proceeds_still program.types linking.claims p.1 (record here_named { locals = here_named.locals ++ has.0 }) refl refl refl refl).met one
                   (named_met program here its variables here_opened word id p linking (length done) one at_linked named unit_linked));
+              linked = subst (λ n. HasLink one.name n) (sym has.1)
+                  (subst (λ name. HasLink name p.1) (sym named) (is_there (find word.text p.1.links) linking.linked linking.found));
             }
 
         -- the rest of the definition
@@ -381,7 +385,7 @@ module _ (program : TypedProgram) (here : List ℕ → Bool) (sound : IsRight pr
     after_named =
         after_parameters (parameters_in word.place them list here_named) refl ((parameters_in_moved word.place them list).from here_named inner_here.scoped)
 
-  module _ (static : Bool) (inside : static ≡ true → here word.text ≡ true) where
+  module _ (static : Bool) (inside : MayBeStatic here static word here_opened) where
     after_only : (p : Entity × Translator) → link static word id here_opened ≡ Ok p → Moves here_opened p.1 → (b : Bool) → is_of_other (length done) p.0 ≡ b
         → DefiningRight program here its m done (work_with {A = Unit {0}} {B = TypedFunction}
         (λ ready. typing (named_outside word p.0) >> (parameters_in word.place them list

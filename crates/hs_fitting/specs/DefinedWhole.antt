@@ -16,6 +16,7 @@ use Rattle.hs_fitting.specs.Declaring.{front_always}
 use Rattle.hs_fitting.specs.Defined.{with_right}
 use Rattle.hs_fitting.specs.Defining.{FitsGiven, said_fits}
 use Rattle.hs_fitting.specs.Done.{AreDone, done_later}
+use Rattle.hs_fitting.specs.HasLinks.{MayBeItem}
 use Rattle.hs_fitting.specs.Known.{stands_typer, own_here, proceeds_typer, names_after, names_allow, constant_refers, constant_local}
 use Rattle.hs_fitting.specs.Lasting.{endures_typer}
 use Rattle.hs_fitting.specs.Noting.{Noted, Noting}
@@ -65,6 +66,7 @@ defining_behind program here its m n done same unit proceeds (Ok p) right = λ g
       definitions = is.definitions ∙ same;
       unit = is.unit ∙ unit;
       functions = is.functions;
+      linked = λ one at. is.linked one (subst (λ all. slice_get all (length done) ≡ Some one) (sym same) at);
       gives = is.gives;
     }
 defining_behind program here its m n done same unit proceeds (Err why) right = tt
@@ -86,7 +88,7 @@ module _ (program : TypedProgram) (here : List ℕ → Bool) (sound : IsRight pr
       (stands : Stands program here its [] m) (are : AreDone program its m done) (at : slice_get m.definitions (length done) ≡ Some one)
       (unit : (one.unit == m.typer.origins.unit) ≡ true) (static : Bool) where
     -- by the type
-    module _ (inside : (word : Word) → word_of it ≡ Some word → static ≡ true → here word.text ≡ true) (word : Word)
+    module _ (inside : MayBeItem here static (word_of it) m) (word : Word)
         (is_word : word_of it ≡ Some word) (them : Parameters) where
       named_so : one.name ≡ word.text
       named_so = named ∙ ap text_of is_word
@@ -118,7 +120,7 @@ module _ (program : TypedProgram) (here : List ℕ → Bool) (sound : IsRight pr
 
     -- by its name and its parameters
     by_right : (place : Place) (said : Front) → IsOwn its.base m.typer.types said.type_id → (static ≡ is_static said.storage)
-        → ((word : Word) → word_of it ≡ Some word → static ≡ true → here word.text ≡ true) → (word : Option Word) → word_of it ≡ word
+        → MayBeItem here static (word_of it) m → (word : Option Word) → word_of it ≡ word
         → (them : Option Parameters) → parameters_of it ≡ them
         → DefiningRight program here its m done (defined_by (length done) place said it body word them m)
     by_right place said own is_so inside None is_word them same = tt
@@ -143,7 +145,7 @@ module _ (program : TypedProgram) (here : List ℕ → Bool) (sound : IsRight pr
 
     -- and by its storage word
     said_right : (place stored : Place) (said : Front) → IsOwn its.base m.typer.types said.type_id → (static ≡ is_static said.storage)
-        → ((word : Word) → word_of it ≡ Some word → static ≡ true → here word.text ≡ true)
+        → MayBeItem here static (word_of it) m
         → DefiningRight program here its m done (defined_said (length done) place stored it body said m)
     said_right place stored said own is_so inside = may (is_typedef_word said.storage)
       where
@@ -155,7 +157,7 @@ module _ (program : TypedProgram) (here : List ℕ → Bool) (sound : IsRight pr
   module _ (m : Translator) (scoped : IsScoped m.typer) (counts_here : m.typer.counts ≡ true) (none : m.locals ≡ [])
       (stands : Stands program here its [] m) (are : AreDone program its m done) (at : slice_get m.definitions (length done) ≡ Some one)
       (unit : (one.unit == m.typer.origins.unit) ≡ true) (words : Specification)
-      (inside : has_static words ≡ true → (word : Word) → word_of it ≡ Some word → here word.text ≡ true) where
+      (inside : MayBeItem here (has_static words) (word_of it) m) where
     -- what stands after its specifiers
     stands_front : (new : Typer) → Reaches IsConstant m.typer new → AllByRecursion (IsCallClaimed program.types its m.typer.table) new.calls
         → AreRight new.types → Stands program here its [] (record m { typer = new })
@@ -184,7 +186,7 @@ module _ (program : TypedProgram) (here : List ℕ → Bool) (sound : IsRight pr
         (subst (λ number. (one.unit == number) ≡ true) (sym reached.unit) unit) (is_static p.0.storage) place stored p.0
         (subst (Owning its.base (λ types said. IsOwn its.base types said.type_id)) same
         (front_own its.base place words m.typer scoped (own_here program here its [] m stands))) refl
-        (λ word is_word static. inside (front_static place words m.typer p.1 p.0 same static) word is_word)))
+        (λ word is_word static none. inside word is_word (front_static place words m.typer p.1 p.0 same static) none)))
     after_front place stored (Err why) same reached noted = tt
 
     -- A definition.

@@ -33,6 +33,7 @@ pub mod Found
 pub mod Fulfilling
 pub mod Functions
 pub mod Given
+pub mod HasLinks
 pub mod Heading
 pub mod Initialised
 pub mod Initialising

@@ -16,6 +16,7 @@ use Rattle.hs_fitting.specs.Accounting.{accounted_linked, linked_accounted, link
 use Rattle.hs_fitting.specs.Claims.{Claims, IsBoundAs, IsFulfilled, IsAccounted, RefersTo, IsVariableIn, IsBoundIn, IsLink, IsExternal, IsRoutineDeclared, IsRegistered, IsMet, Endures, IsCallClaimed, IsObjectRight, Stands, Proceeds}
 use Rattle.hs_fitting.specs.Entities.{IsAmong, all_by_among}
 use Rattle.hs_fitting.specs.Found.{link_found, link_here, IsThere, external_all}
+use Rattle.hs_fitting.specs.HasLinks.{MayBeStatic}
 use Rattle.hs_fitting.specs.Lasting.{is_place}
 use Rattle.hs_fitting.specs.Links.{refers_full, refers_later, call_later, bound_typed, global_typed}
 use Rattle.hs_fitting.specs.Making.{zero_right, IsFunction}
@@ -312,7 +313,7 @@ module _ (program : TypedProgram) (here : List ℕ → Bool) (its : Claims) (var
       subst (λ new. Gives IsLinking ((compatible_routines word id p.0 >> noted word id p.0) new)) (sym is.1) (noted_gives p.0 p.1.objects is.0)
 
   -- of an answer of `link`
-  pub link_gives : (static : Bool) → (static ≡ true → here word.text ≡ true)
+  pub link_gives : (static : Bool) → MayBeStatic here static word m
       → Gives (λ p. Linking program here its variables m word id p) (link static word id m)
   link_gives static inside =
       gives_then (Choosing program.types here its m word id) IsLinking (λ it. compatible_routines word id it >> noted word id it)
@@ -321,7 +322,7 @@ module _ (program : TypedProgram) (here : List ℕ → Bool) (its : Claims) (var
 
 -- What `link` gives refers to what was claimed.
 pub link_stands : (program : TypedProgram) (here : List ℕ → Bool) (static : Bool) (word : Word) (id : TypeId) (its : Claims)
-    (variables : List VariableDecl) (m : Translator) → Grows m.typer.types program.types → (static ≡ true → here word.text ≡ true)
+    (variables : List VariableDecl) (m : Translator) → Grows m.typer.types program.types → MayBeStatic here static word m
     → MayMake program m id → IsOwn its.base m.typer.types id → Stands program here its variables m → (p : Entity × Translator)
     → link static word id m ≡ Ok p
     → Linking program here its variables m word id p

@@ -27,7 +27,7 @@ use Rattle.hs_fitting.specs.FileWalks.{file_declared_walks}
 use Rattle.hs_fitting.specs.Lasting.{all_of_prefix}
 use Rattle.hs_fitting.specs.Names.{names_of, defined_names, AreNamed, unit_named}
 use Rattle.hs_fitting.specs.Passes.{AreWhole, Passes}
-use Rattle.hs_fitting.specs.Positions.{unit_internal, unit_counts}
+use Rattle.hs_fitting.specs.Positions.{no_links, unit_internal, unit_counts}
 use Rattle.hs_fitting.specs.Rightness.{right_later}
 use Rattle.hs_fitting.specs.UnitEnds.{signed_ended, unit_before}
 use Rattle.hs_fitting.specs.Units.{AllFit, unit_fits, units_fit}
@@ -390,7 +390,7 @@ module _ (program : TypedProgram) (sound : IsRight program.types) (anyone : Type
       between.scoped between.counts between.outside between.fit
       (between.stands (is_internal unit) (λ number it at same. unit_internal units before unit after are_units number it
       (subst (λ all. slice_get all number ≡ Some it) between.definitions at) (subst (λ count. (it.unit == count) ≡ true) between.unit same)))
-      between.functions between.definitions between.unit (between.count ∙ none_more (length (all_definitions 0 before))))
+      (no_links m) between.functions between.definitions between.unit (between.count ∙ none_more (length (all_definitions 0 before))))
       (unit_fits done unit m between.scoped (subst (AreWhole m.typer.types) (sym between.outside) tt) between.fit)
       ((unit_named (length before) unit done).given m)
     where

@@ -1,12 +1,13 @@
 -- The storage word that specifiers are found to say is one of their words (X3.159-1989 3.5.1).
---     front_storage             what is said is `static` where `static` is among the specifiers
+--     front_storage             what is said is the storage word among the specifiers
 --     front_static              if `static` is said, it is among them
-use Rattle.std.proofs.Common.{◌≡◌, Bool, true, false, ◌&&◌, ◌||◌, not, [], Option, Some, None, is_some, Result, Ok, Err, refl, sym, ap, subst, ◌∙◌, if◌then◌else◌}
-use Rattle.hs_declarations.specs.Declarations.{is_static}
+--     front_typedef             `typedef` is said where it is among them
+use Rattle.std.proofs.Common.{◌≡◌, Bool, true, false, ◌&&◌, not, [], Option, Some, None, is_some, Result, Ok, Err, refl, sym, ap, subst, ◌∙◌, if◌then◌else◌}
+use Rattle.hs_declarations.specs.Declarations.{is_static, is_typedef_word}
 use Rattle.hs_declarations.specs.Fronts.{front}
 use Rattle.hs_declarations.specs.declared.fronts.Front.{Front}
 use Rattle.hs_expressions.specs.Expressions.{specified, specifier, members_of, constants_of}
-use Rattle.hs_linkage.specs.Definitions.{is_static_word, has_static}
+use Rattle.hs_linkage.specs.Definitions.{storage_word, or_storage, storage_of, says_static, says_typedef, has_static}
 use Rattle.hs_names.specs.Scopes.{find}
 use Rattle.hs_syntax.specs.Trees as syntax
 use Rattle.hs_syntax.specs.Trees.{Specified, Specification}
@@ -79,81 +80,74 @@ next_always {Q = Q} {next = next} first after = record { given = λ s. given_nex
 
 -- ---- storage words
 
--- what is said is `static` where it was said before, or is among these
-abbrev Says : Bool → Bool → Specifiers → Type 0
-Says before among its = is_static its.storage ≡ (before || among)
+-- what is said is what was said before, or else the word among these
+abbrev Says : Option Storage → Option Storage → Specifiers → Type 0
+Says before among its = its.storage ≡ or_storage before among
 
 -- with nothing else
-or_none : (b : Bool) → b ≡ (b || false)
-or_none true = refl
-or_none false = refl
-
--- one word is said
-word_says : (word : Storage) (at : Place) → is_static (Some word) ≡ is_static_word (syntax.storage word at)
-word_says storage.Typedef at = refl
-word_says storage.Extern at = refl
-word_says storage.Static at = refl
+or_none : (o : Option Storage) → o ≡ or_storage o None
+or_none None = refl
+or_none (Some word) = refl
 
 -- a storage word, if there is no storage word before it
 stored_by : (stored : Bool) (before : Option Storage) (word : Storage) (at : Place) (done : Specifiers)
-    → Looked (Says (is_static before) (is_static_word (syntax.storage word at)))
-    (if stored && not (is_some before) then Ok (record done { storage = Some word }) else Err (Untyped at))
-stored_by true None word at done = word_says word at
+    → Looked (Says before (Some word)) (if stored && not (is_some before) then Ok (record done { storage = Some word }) else Err (Untyped at))
+stored_by true None word at done = refl
 stored_by true (Some other) word at done = tt
 stored_by false before word at done = tt
 
 -- by what is said already
 stored_says : (stored : Bool) (word : Storage) (at : Place) (done : Specifiers)
-    → Looked (Says (is_static done.storage) (is_static_word (syntax.storage word at))) (with_storage stored word at done)
+    → Looked (Says done.storage (Some word)) (with_storage stored word at done)
 stored_says stored word at done = stored_by stored done.storage word at done
 
 -- a type adds no storage word
-type_says : (id : TypeId) (done : Specifiers) → Says (is_static done.storage) false (with_type id done)
-type_says id done = or_none (is_static done.storage)
+type_says : (id : TypeId) (done : Specifiers) → Says done.storage None (with_type id done)
+type_says id done = or_none done.storage
 
 -- one specifier
 specifier_says : (stored : Bool) (first : Place) (done : Specifiers) (it : Specified)
-    → Always (Says (is_static done.storage) (is_static_word it)) (specifier stored first done it)
+    → Always (Says done.storage (storage_word it)) (specifier stored first done it)
 specifier_says stored first done (syntax.storage word at) =
-    looks (Says (is_static done.storage) (is_static_word (syntax.storage word at))) (λ s. with_storage stored word at done)
+    looks (Says done.storage (Some word)) (λ s. with_storage stored word at done)
     (λ s. stored_says stored word at done)
-specifier_says stored first done (syntax.dropped word at) = gives (Says (is_static done.storage) false) done (or_none (is_static done.storage))
+specifier_says stored first done (syntax.dropped word at) = gives (Says done.storage None) done (or_none done.storage)
 specifier_says stored first done (syntax.basic word at) =
-    gives (Says (is_static done.storage) false) (with_basic word done) (or_none (is_static done.storage))
+    gives (Says done.storage None) (with_basic word done) (or_none done.storage)
 specifier_says stored first done (syntax.named word) =
-    looks (Says (is_static done.storage) false) (λ s. mapped (λ id. with_type id done) (typedef_of word (find word.text s.names)))
-    (λ s. looked_mapped (Says (is_static done.storage) false) (λ id. with_type id done) (typedef_of word (find word.text s.names))
+    looks (Says done.storage None) (λ s. mapped (λ id. with_type id done) (typedef_of word (find word.text s.names)))
+    (λ s. looked_mapped (Says done.storage None) (λ id. with_type id done) (typedef_of word (find word.text s.names))
     (λ id. type_says id done))
 specifier_says stored first done (syntax.struct_tag at word) =
     next_always (tagged_struct word)
     (λ number. next_always (struct_type number)
-    (λ id. gives (Says (is_static done.storage) false) (with_type id done) (type_says id done)))
+    (λ id. gives (Says done.storage None) (with_type id done) (type_says id done)))
 specifier_says stored first done (syntax.struct_body at word brace members) =
     next_always (opened_struct word)
     (λ number. next_always (members_of at [] members)
     (λ its. next_always (completed_struct first word brace number its)
     (λ over. next_always (struct_type number)
-    (λ id. gives (Says (is_static done.storage) false) (with_type id done) (type_says id done)))))
+    (λ id. gives (Says done.storage None) (with_type id done) (type_says id done)))))
 specifier_says stored first done (syntax.enum_tag at word) =
     next_always (look (λ s. tagged_enumeration word (find word.text s.tags)))
     (λ number. next_always (enumeration_type number)
-    (λ id. gives (Says (is_static done.storage) false) (with_type id done) (type_says id done)))
+    (λ id. gives (Says done.storage None) (with_type id done) (type_says id done)))
 specifier_says stored first done (syntax.enum_body at word brace constants comma) =
     next_always (begun_enumeration word)
     (λ number. next_always (constants_of [] (Some 0) constants)
     (λ its. next_always (completed_enumeration first word brace number its)
     (λ over. next_always (enumeration_type number)
-    (λ id. gives (Says (is_static done.storage) false) (with_type id done) (type_says id done)))))
+    (λ id. gives (Says done.storage None) (with_type id done) (type_says id done)))))
 
--- three tests
-or_assoc : (a b c : Bool) → ((a || b) || c) ≡ (a || (b || c))
-or_assoc true b c = refl
-or_assoc false b c = refl
+-- three words
+or_assoc : (a b c : Option Storage) → or_storage (or_storage a b) c ≡ or_storage a (or_storage b c)
+or_assoc None b c = refl
+or_assoc (Some word) b c = refl
 
 -- what one specifier says, and then the others
-says_then : (before one others : Bool) (mid its : Specifiers) → Says before one mid → Says (is_static mid.storage) others its
-    → Says before (one || others) its
-says_then before one others mid its is after = after ∙ ap (λ b. b || others) is ∙ or_assoc before one others
+says_then : (before one others : Option Storage) (mid its : Specifiers) → Says before one mid → Says mid.storage others its
+    → Says before (or_storage one others) its
+says_then before one others mid its is after = after ∙ ap (λ o. or_storage o others) is ∙ or_assoc before one others
 
 -- a step whose answers have one fact has what follows from it
 so_given : {A : Type 0} → (P Q : A → Type 0) → ((it : A) → P it → Q it) → (given : Result (A × Typer) TypeError) → Given P given → Given Q given
@@ -166,34 +160,51 @@ so_always P Q step so is = record { given = λ s. so_given P Q so (step s) (is.g
 
 -- all of them
 specified_says : (stored : Bool) (first : Place) (done : Specifiers) (words : Specification)
-    → Always (Says (is_static done.storage) (has_static words)) (specified stored first done words)
-specified_says stored first done syntax.no_specifiers =
-    gives (Says (is_static done.storage) false) done (or_none (is_static done.storage))
+    → Always (Says done.storage (storage_of words)) (specified stored first done words)
+specified_says stored first done syntax.no_specifiers = gives (Says done.storage None) done (or_none done.storage)
 specified_says stored first done (syntax.more_specifiers it rest) =
-    then_always (Says (is_static done.storage) (is_static_word it)) (Says (is_static done.storage) (is_static_word it || has_static rest))
+    then_always (Says done.storage (storage_word it)) (Says done.storage (or_storage (storage_word it) (storage_of rest)))
     (specifier stored first done it) (λ next. specified stored first next rest) (specifier_says stored first done it)
-    (λ next is. so_always (Says (is_static next.storage) (has_static rest)) (Says (is_static done.storage) (is_static_word it || has_static rest))
-    (specified stored first next rest) (λ its after. says_then (is_static done.storage) (is_static_word it) (has_static rest) next its is after)
+    (λ next is. so_always (Says next.storage (storage_of rest)) (Says done.storage (or_storage (storage_word it) (storage_of rest)))
+    (specified stored first next rest) (λ its after. says_then done.storage (storage_word it) (storage_of rest) next its is after)
     (specified_says stored first next rest))
 
 -- ---- the front of a declaration
 
--- `static` is said where it is among the specifiers
+-- the storage word among the specifiers is said
 abbrev Fronts : Specification → Front → Type 0
-Fronts words said = is_static said.storage ≡ has_static words
+Fronts words said = said.storage ≡ storage_of words
 
 -- from every place of the text
 front_says : (at : Place) (words : Specification) → Always (Fronts words) (front at words)
 front_says at words =
-    then_always (Says false (has_static words)) (Fronts words) (specified true at no_specifiers words) _ (specified_says true at no_specifiers words)
+    then_always (Says None (storage_of words)) (Fronts words) (specified true at no_specifiers words) _ (specified_says true at no_specifiers words)
     (λ said is. next_always (look (λ s. type_from at said)) (λ id. gives (Fronts words) (record { storage = said.storage; type_id = id }) is))
 
--- What is said is `static` where `static` is among the specifiers.
+-- What is said is the storage word among the specifiers.
 pub front_storage : (at : Place) (words : Specification) (s new : Typer) (said : Front) → front at words s ≡ Ok (said, new)
-    → is_static said.storage ≡ has_static words
+    → said.storage ≡ storage_of words
 front_storage at words s new said is = subst (Given (Fronts words)) is ((front_says at words).given s)
+
+-- the words of both definitions
+static_said : (o : Option Storage) → is_static o ≡ says_static o
+static_said None = refl
+static_said (Some storage.Typedef) = refl
+static_said (Some storage.Extern) = refl
+static_said (Some storage.Static) = refl
+
+typedef_said : (o : Option Storage) → is_typedef_word o ≡ says_typedef o
+typedef_said None = refl
+typedef_said (Some storage.Typedef) = refl
+typedef_said (Some storage.Extern) = refl
+typedef_said (Some storage.Static) = refl
 
 -- If `static` is said, it is among them.
 pub front_static : (at : Place) (words : Specification) (s new : Typer) (said : Front) → front at words s ≡ Ok (said, new)
     → is_static said.storage ≡ true → has_static words ≡ true
-front_static at words s new said is static = sym (front_storage at words s new said is) ∙ static
+front_static at words s new said is static = ap says_static (sym (front_storage at words s new said is)) ∙ sym (static_said said.storage) ∙ static
+
+-- `typedef` is said where it is among them.
+pub front_typedef : (at : Place) (words : Specification) (s new : Typer) (said : Front) → front at words s ≡ Ok (said, new)
+    → is_typedef_word said.storage ≡ says_typedef (storage_of words)
+front_typedef at words s new said is = typedef_said said.storage ∙ ap says_typedef (front_storage at words s new said is)

@@ -2,8 +2,9 @@
 use Rattle.std.proofs.Common.{◌≡◌, ◌&&◌, ℕ, suc, Bool, true, false, List, [], ◌∷◌, ◌++◌, length, Option, None, Some, nat_eq, refl, sym, ap, ◌∙◌, if◌then◌else◌, inl, inr}
 use Rattle.std.specs.Cmp.Lexicographic.{pointwise}
 use Rattle.std.proofs.lemmas.Bool.Decides.{eqb_tells}
-use Rattle.hs_linkage.specs.Indexes.{has_name, own_names, or_place, PutsFirst, Holds, defined_as, externals_by, IsIndexed}
-use Rattle.hs_linkage.specs.Definitions.{later, first_place, is_definition_of, definitions_in, definition_of, text_of, is_internal}
+use Rattle.hs_linkage.proofs.Linkages.{linkage_internal}
+use Rattle.hs_linkage.specs.Indexes.{own_names, or_place, PutsFirst, Holds, defined_as, externals_by, is_static_number, linkage_of, IsIndexed}
+use Rattle.hs_linkage.specs.Definitions.{later, first_place, is_definition_of, definitions_in, definition_of, text_of}
 use Rattle.hs_linkage.specs.declared.definitions.Definition.{Definition}
 use Rattle.hs_index.specs.Index.{at}
 use Rattle.hs_syntax.specs.Trees as syntax
@@ -103,11 +104,11 @@ indexed-with internal externals externals' units units' its name unit indexed ho
       own = own-put internal units units' its name unit indexed.own puts others;
     }
 
--- The names with internal linkage tell which definitions have it.
+-- The linkage of names tells which definitions have internal linkage.
 pub definitions_by_statics : (statics : List (List ℕ × ℕ)) (number : ℕ) (unit its : List ExternalDeclaration)
-    → ((name : List ℕ) → has_name name statics ≡ is_internal unit name) → externals_by statics number its ≡ definitions_in number unit its
+    → ((name : List ℕ) → at name statics ≡ linkage_of name unit) → externals_by statics number its ≡ definitions_in number unit its
 definitions_by_statics statics number unit [] are = refl
 definitions_by_statics statics number unit (syntax.function_definition words declarator body ∷ its) are =
-    ap (λ b. defined_as (text_of (word_of declarator)) number b ∷ externals_by statics number its) (are (text_of (word_of declarator)))
+    ap (λ b. defined_as (text_of (word_of declarator)) number b ∷ externals_by statics number its) (ap is_static_number (are (text_of (word_of declarator))) ∙ linkage_internal (text_of (word_of declarator)) unit)
     ∙ ap (λ rest. definition_of number unit (text_of (word_of declarator)) ∷ rest) (definitions_by_statics statics number unit its are)
 definitions_by_statics statics number unit (syntax.declaration it ∷ its) are = definitions_by_statics statics number unit its are

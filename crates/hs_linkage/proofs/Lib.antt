@@ -1,6 +1,7 @@
 mod Chained
 mod Indexed
 mod KeptChains
+mod Linkages
 mod Marked
 mod Onward
 mod Unfit

@@ -53,25 +53,18 @@ impl Model for Definitions {
 impl Definitions {
     ghost use Rattle.hs_linkage.specs.Indexes.{defined_as};
 
-    /// No definitions. Takes no memory.
-    fn new(alloc: Global) -> Definitions
-        ensures { result ≡ [] }
-    {
-        Definitions {
-            vec: Vec::new(alloc),
-            externals: Index::new(alloc),
-            units: Vec::new(alloc),
-        }
-    }
-
-    /// The functions that these units define. A function has internal linkage if a declaration of its name at file scope of its unit has
-    /// the word `static`. Fails if memory runs out.
+    /// The functions that these units define. A function has internal linkage if the first declaration of its name at file scope of its
+    /// unit has the word `static`. Fails if memory runs out.
     ///
     /// Example: `static int f(void);` and later `int f(void) { return 1; }` define `f` with internal linkage.
     pub fn of(alloc: Global, units: &[Unit]) -> Result<Definitions, NoMemory>
         ensures { IfOk result (λ its. its ≡ all_definitions 0 (map view_unit units.now)) }
     {
-        let mut its = Definitions::new(alloc);
+        let mut its = Definitions {
+            vec: Vec::new(alloc),
+            externals: Index::new(alloc),
+            units: Vec::new(alloc),
+        };
         let mut number = 0u32;
         'units: for unit in units {
             its = its.with_unit(alloc, number, &unit.externals)?;
@@ -118,7 +111,7 @@ impl Definitions {
         self.with_externals(alloc, unit, &statics, its)
     }
 
-    /// The definitions, and those of these external declarations. The names in the index have internal linkage.
+    /// The definitions, and those of these external declarations. The index has the linkage of their names.
     fn with_externals(
         self,
         alloc: Global,
@@ -148,7 +141,7 @@ impl Definitions {
         match it {
             External::Function { declarator, .. } => {
                 let name = text_of(word_of(declarator));
-                self.with(alloc, unit, name, statics.place(name).is_some())
+                self.with(alloc, unit, name, statics.place(name) == Some(1))
             }
             External::Declaration(_) => Ok(self),
         }
@@ -201,7 +194,12 @@ fn text_of(word: Option<&Word>) -> &[u8]
 }
 
 /// Gives the name that place, if it has none. Fails if memory runs out.
-fn put_first(alloc: Global, names: &mut Index, name: &[u8], place: u32) -> Result<(), NoMemory>
+pub(crate) fn put_first(
+    alloc: Global,
+    names: &mut Index,
+    name: &[u8],
+    place: u32,
+) -> Result<(), NoMemory>
     ensures put { OnOk result (PutsFirst name.now place names.old names.new) }
 {
     if names.place(name).is_some() {

@@ -1,6 +1,6 @@
-use Rattle.std.proofs.Common.{◌≡◌, ◌||◌, ℕ, List, map, drop}
-use Rattle.hs_linkage.specs.Indexes.{has_name}
-use Rattle.hs_linkage.specs.Definitions.{is_internal}
+use Rattle.std.proofs.Common.{◌≡◌, ℕ, List, map, drop}
+use Rattle.hs_index.specs.Index.{at}
+use Rattle.hs_linkage.specs.Indexes.{or_first, linkage_of}
 use Rattle.hs_syntax.specs.Views.{view_external}
 use Rattle.hs_linkage.proofs.statics.statics_of.Given as goal
 
@@ -8,4 +8,4 @@ use Rattle.hs_linkage.proofs.statics.statics_of.Given as goal
 abbrev pub invariant-its : goal.invariant-its
 invariant-its l =
     (name : List ℕ)
-    → (has_name name l.all || is_internal (map view_external (drop l.it-index l.its)) name) ≡ is_internal (map view_external l.its) name
+    → or_first (at name l.all) (linkage_of name (map view_external (drop l.it-index l.its))) ≡ linkage_of name (map view_external l.its)
