@@ -65,17 +65,19 @@ static_kept types here static word its later m n proceeds moves may is none = ma
 
 -- ---- declarators
 
--- of the name of a declarator
+-- the linkage that `static` may give the name of a declarator
 abbrev pub MayBeItem : (List ℕ → Bool) → Bool → Option Word → Translator → Type 0
 MayBeItem here static o m = (word : Word) → o ≡ Some word → MayBeStatic here static word m
 
+-- the name has a link
 abbrev pub IsItemLinked : Option Word → Translator → Type 0
 IsItemLinked o m = (word : Word) → o ≡ Some word → HasLink word.text m
 
--- and of all declarators of a declaration
+-- and those of all declarators of a declaration
 abbrev pub MayBeItems : (List ℕ → Bool) → Bool → List Declaring → Translator → Type 0
 MayBeItems here static its m = AllByRecursion (λ item. MayBeItem here static (word_of item.declarator) m) its
 
+-- all their names have links
 abbrev pub AreItemsLinked : List Declaring → Translator → Type 0
 AreItemsLinked its m = AllByRecursion (λ item. IsItemLinked (word_of item.declarator) m) its
 

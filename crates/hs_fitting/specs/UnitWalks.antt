@@ -289,5 +289,6 @@ module _ (program : TypedProgram) (sound : IsRight program.types) (anyone : Type
       (external_right first rest it is_unit its m done scoped counts none stands linked are all number count)
       (λ p same claims scoped' counts' none' fit' stands' proceeds' links' are' definitions' unit'.
       externals_right (first ++ it ∷ []) rest (is_unit ∙ sym (append_assoc first (it ∷ []) rest)) claims p.1 (with_function done p.0) scoped' counts' none' fit'
-      stands' (links_with program.types its claims m p.1 first it proceeds' unit' linked links') are' (definitions' ∙ all) (unit' ∙ number) (with_counts first rest it done p m same count))
+      stands' (links_with program.types its claims m p.1 first it proceeds' unit' linked links') are' (definitions' ∙ all) (unit' ∙ number)
+      (with_counts first rest it done p m same count))
       counts

@@ -109,6 +109,7 @@ pub definitions_by_statics : (statics : List (List ℕ × ℕ)) (number : ℕ) (
     → ((name : List ℕ) → at name statics ≡ linkage_of name unit) → externals_by statics number its ≡ definitions_in number unit its
 definitions_by_statics statics number unit [] are = refl
 definitions_by_statics statics number unit (syntax.function_definition words declarator body ∷ its) are =
-    ap (λ b. defined_as (text_of (word_of declarator)) number b ∷ externals_by statics number its) (ap is_static_number (are (text_of (word_of declarator))) ∙ linkage_internal (text_of (word_of declarator)) unit)
+    ap (λ b. defined_as (text_of (word_of declarator)) number b ∷ externals_by statics number its)
+    (ap is_static_number (are (text_of (word_of declarator))) ∙ linkage_internal (text_of (word_of declarator)) unit)
     ∙ ap (λ rest. definition_of number unit (text_of (word_of declarator)) ∷ rest) (definitions_by_statics statics number unit its are)
 definitions_by_statics statics number unit (syntax.declaration it ∷ its) are = definitions_by_statics statics number unit its are

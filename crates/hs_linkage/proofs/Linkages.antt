@@ -1,7 +1,7 @@
 -- The first declaration of a name says its linkage.
-use Rattle.std.proofs.Common.{◌≡◌, ◌==◌, ◌||◌, not, ℕ, Bool, true, false, List, [], ◌∷◌, length, Option, None, Some, refl, sym, if◌then◌else◌}
+use Rattle.std.proofs.Common.{◌≡◌, ◌==◌, ◌||◌, not, ℕ, Bool, true, false, List, [], ◌∷◌, length, Option, None, Some, refl, if◌then◌else◌}
 use Rattle.hs_linkage.specs.Definitions.{says_typedef, storage_of, declares_with, declares, is_static, is_internal}
-use Rattle.hs_linkage.specs.Indexes.{or_place, linkage_number, or_first, number_if, linkage_of, is_static_number}
+use Rattle.hs_linkage.specs.Indexes.{linkage_number, or_first, number_if, linkage_of, is_static_number}
 use Rattle.hs_syntax.specs.Trees.{ExternalDeclaration}
 use Rattle.hs_syntax.specs.Views.{specification_of}
 use Rattle.hs_syntax.specs.declared.expr.Specifier.{Specifier}
@@ -21,13 +21,6 @@ pub number_if-either : (a b : Bool) (number : ℕ) → or_first (number_if a num
 number_if-either true b number = refl
 number_if-either false b number = refl
 
--- a name that is put, if it has none yet
-pub put_first-gives : (same : Bool) (old : Option ℕ) (number : ℕ)
-    → (if same then or_place old number else old) ≡ or_first old (number_if same number)
-put_first-gives true None number = refl
-put_first-gives true (Some place) number = refl
-put_first-gives false old number = sym (or_first-none old)
-
 -- the number says the linkage
 number_static : (b : Bool) → is_static_number (Some (linkage_number b)) ≡ b
 number_static true = refl
@@ -44,7 +37,7 @@ linkage_internal name (it ∷ rest) = by_test (declares name it) (linkage_intern
     by_test true later = number_static (is_static it)
     by_test false later = later
 
--- where there is a specifier, all but `typedef` are of objects and functions
+-- If there is a specifier, a declaration without `typedef` declares objects and functions.
 pub declares_there : (its : List Specifier) → (length its == 0) ≡ false
     → declares_with (specification_of its) ≡ not (says_typedef (storage_of (specification_of its)))
 declares_there [] there = absurd cc
