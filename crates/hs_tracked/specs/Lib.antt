@@ -1,5 +1,6 @@
 pub mod Beginning
 pub mod Bringing
+pub mod Bytes
 pub mod Calling
 pub mod Cells
 pub mod Entering
