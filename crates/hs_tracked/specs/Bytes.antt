@@ -9,6 +9,7 @@
 --     bytes_begun                in a function that begins nothing is known of bytes
 -- Only a byte that is known to be of the handle in a name is tracked: any other one is never put back as a restore. So a byte in memory needs no row.
 use Rattle.std.proofs.Common.{◌≡◌, ◌<◌, ◌⊎◌, inl, inr, ℕ, zero, suc, ◌-◌, ◌%◌, nat_le, nat_lt, ◌==◌, Bool, true, false, not, ◌&&◌, List, ◌∷◌, length, slice_get, Some, refl, sym, ap, ◌∙◌, subst, arith, true≢false}
+use Rattle.std.proofs.lemmas.Bool.{and_parts}
 use Rattle.std.proofs.lemmas.Bool.Decides.{nat_tests}
 use Rattle.std.proofs.lemmas.Option.{same_Some}
 use Rattle.hs_calls.specs.Calls.{Here, Wait, moved}
@@ -20,10 +21,10 @@ use Rattle.hs_code.specs.declared.function_code.FunctionCode.{FunctionCode}
 use Rattle.hs_code.specs.declared.function_code.Placed.{Placed}
 use Rattle.hs_code.specs.declared.op.Op.{Op}
 use Rattle.hs_code.specs.declared.op.Op.TheVariants as op
-use Rattle.hs_facts.specs.Changes.{Impact, Gives}
+use Rattle.hs_facts.specs.Changes.{Impact, Gives, SetBy}
 use Rattle.hs_facts.specs.Effects.{WholeCode, HoldsAt, impact_of}
 use Rattle.hs_facts.specs.MustFacts.{MustFact, Saved, Keeper, on_stack, in_slot, KeeperUnder}
-use Rattle.hs_facts.specs.Names.{taken, same_variable}
+use Rattle.hs_facts.specs.Names.{taken, same_variable, is_name}
 use Rattle.hs_facts.specs.Rounds.{HoldsIn}
 use Rattle.hs_flow.specs.Among.{Among}
 use Rattle.hs_flow.specs.Given.{Given}
@@ -46,6 +47,7 @@ use Rattle.hs_tree.specs.declared.head.Variable.{Variable}
 use Rattle.hs_true.specs.Setting.{one_name, itself, other_value, IsSlot, now_value}
 use Rattle.hs_truth.specs.Places.{at_place, the_top, under_top}
 use Rattle.hs_truth.specs.Truth.{kept_in}
+use Rattle.hs_types.specs.declared.integer.Integer.{Integer}
 
 -- the byte was read from a purgeable block, and makes the block on which it is put purgeable
 abbrev pub has_mark : ℕ → Bool
@@ -315,41 +317,53 @@ module _ (whole : WholeCode) (known : Knowledge) (here : Here) (machine : Machin
   kept_of U P (inl old) = old.1
   kept_of U P (inr new) = absurd new
 
+  -- ---- an operation, after which the next one goes on
+
+  module _ (form : Op) (is : its.op ≡ form) (goes : IsNext form here.function.code.cases here.at (suc here.at)) (stack : List Value) (after : Machine) where
+    -- the call after it
+    abbrev later : Here
+    later = moved here (suc here.at) stack lasting
+
+    -- a byte that was in that slot
+    abbrev CameFrom : Keeper → Keeper → Type 1
+    CameFrom = ComesFrom whole known here machine ws its is_at deep lasting form is (suc here.at) stack goes after
+
+    -- a byte that was in some slot, or of which nothing is known
+    abbrev Came : Keeper → Type 1
+    Came b = ((from : Keeper) × CameFrom b from) ⊎ IsUnknown whole known here machine ws its is_at deep lasting form is (suc here.at) stack goes after b
+
+    -- a rule of the flow carries the fact
+    carried : (of to : flow_slot.Slot) → RuleOf form of to
+        → Brings whole known here later machine after ws of to status.SavedPurgeable status.SavedPurgeable
+    carried of to rule =
+        leads whole known here machine ws its is_at form is (suc here.at) stack lasting goes after of to status.SavedPurgeable status.SavedPurgeable rule
+
+    all_came : ((b : Keeper) → Came b) → AreBytesTracked whole known here machine ws → AreBytesTracked whole known later after ws
+    all_came each are = bytes_go whole known here machine ws its is_at deep lasting form is (suc here.at) stack goes after each are
+
+  -- a slot below a place, at an operation that leaves it
+  stays_below : (form : Op) (low : ℕ) (b : Keeper) → LeavesSlots form → its.places - taken its_kinds form ≡ low → KeeperUnder low b
+      → RuleOf form (slot_of b) (slot_of b)
+  stays_below form low b leaves_slots so is_low =
+      rows.stays its_kinds (length whole.classes) facts form status.SavedPurgeable (slot_of b) leaves_slots
+      (ap (λ n. is_below (n - taken its_kinds form) (slot_of b)) places_are ∙ ap (λ n. is_below n (slot_of b)) so ∙ low_slot low b is_low)
+
   -- ---- Get: the byte of the variable is on top too
 
   module _ (v : Variable) (is : its.op ≡ op.Get v) (value : Value) (holds_value : value_of machine v ≡ Some value) where
-    -- the stack after it
-    abbrev pub got : List Value
-    got = value ∷ here.stack
-
-    -- a byte that was in that slot, or of which nothing is known
-    abbrev Comes : Keeper → Type 1
-    Comes b =
-        ((from : Keeper) × ComesFrom whole known here machine ws its is_at deep lasting (op.Get v) is (suc here.at) got refl machine b from)
-        ⊎ IsUnknown whole known here machine ws its is_at deep lasting (op.Get v) is (suc here.at) got refl machine b
-
-    carried : (of to : flow_slot.Slot) → RuleOf (op.Get v) of to
-        → Brings whole known here (moved here (suc here.at) got lasting) machine machine ws of to status.SavedPurgeable status.SavedPurgeable
-    carried of to rule =
-        leads whole known here machine ws its is_at (op.Get v) is (suc here.at) got lasting refl machine of to status.SavedPurgeable status.SavedPurgeable rule
-
-    stays : (b : Keeper) → KeeperUnder its.places b → RuleOf (op.Get v) (slot_of b) (slot_of b)
-    stays b low =
-        rows.stays its_kinds (length whole.classes) facts (op.Get v) status.SavedPurgeable (slot_of b) tt
-        (ap (λ n. is_below n (slot_of b)) (no_less facts.places ∙ places_are) ∙ low_slot its.places b low)
-
-    on_place : (i : ℕ) → (i < its.places) ⊎ (i ≡ its.places) ⊎ (its.places < i) → Comes (on_stack i)
-    on_place i (inl low) =
+    on_got : (i : ℕ) → (i < its.places) ⊎ (i ≡ its.places) ⊎ (its.places < i) → Came (op.Get v) is refl (value ∷ here.stack) machine (on_stack i)
+    on_got i (inl low) =
         inl (
           on_stack i,
           record {
             gives = λ code impact R x given.
                 old_of (i < its.places - 0) (i ≡ its.places) (R (Saved (on_stack i) x)) (R (Saved (in_slot v) x)) (not_same i its.places low) given;
             held = λ byte held. sym (under_top i value here.stack (subst (λ n. i < n) deep low)) ∙ held;
-            brings = carried (slot.Place i) (slot.Place i) (stays (on_stack i) low);
+            brings = carried (op.Get v) is refl (value ∷ here.stack) machine (slot.Place i) (slot.Place i)
+                (stays_below (op.Get v) its.places (on_stack i) tt (no_less its.places) low);
           },
         )
-    on_place i (inr (inl top)) =
+    on_got i (inr (inl top)) =
         inl (
           in_slot v,
           record {
@@ -357,27 +371,243 @@ module _ (whole : WholeCode) (known : Knowledge) (here : Here) (machine : Machin
                 new_of (i < its.places - 0) (i ≡ its.places) (R (Saved (on_stack i) x)) (R (Saved (in_slot v) x))
                 (λ low. not_same i its.places (subst (λ n. i < n) (no_less its.places) low) top) given;
             held = λ byte held. holds_value ∙ sym (the_top i value here.stack (top ∙ deep)) ∙ held;
-            brings = carried (slot.Variable v) (slot.Place i)
+            brings = carried (op.Get v) is refl (value ∷ here.stack) machine (slot.Variable v) (slot.Place i)
                 (subst (λ n. RuleOf (op.Get v) (slot.Variable v) (slot.Place n)) (places_are ∙ sym top)
                 (rows.get_also its_kinds (length whole.classes) facts v status.SavedPurgeable));
           },
         )
-    on_place i (inr (inr high)) =
+    on_got i (inr (inr high)) =
         inr (λ code impact R x given.
         never_of (i < its.places - 0) (i ≡ its.places) (R (Saved (on_stack i) x)) (R (Saved (in_slot v) x))
         (λ low. not_low i its.places high (subst (λ n. i < n) (no_less its.places) low)) (not_at i its.places high) given)
 
-    each : (b : Keeper) → Comes b
-    each (on_stack i) = on_place i (by_place i its.places)
-    each (in_slot b) =
+    each_got : (b : Keeper) → Came (op.Get v) is refl (value ∷ here.stack) machine b
+    each_got (on_stack i) = on_got i (by_place i its.places)
+    each_got (in_slot b) =
         inl (
           in_slot b,
           record {
             gives = λ code impact R x given. kept_of (Unit {0}) (R (Saved (in_slot b) x)) given;
             held = λ byte held. held;
-            brings = carried (slot.Variable b) (slot.Variable b) (stays (in_slot b) tt);
+            brings = carried (op.Get v) is refl (value ∷ here.stack) machine (slot.Variable b) (slot.Variable b)
+                (stays_below (op.Get v) its.places (in_slot b) tt (no_less its.places) tt);
           },
         )
 
-    pub bytes_get : AreBytesTracked whole known here machine ws → AreBytesTracked whole known (moved here (suc here.at) got lasting) machine ws
-    bytes_get are = bytes_go whole known here machine ws its is_at deep lasting (op.Get v) is (suc here.at) got refl machine each are
+    pub bytes_get : AreBytesTracked whole known here machine ws
+        → AreBytesTracked whole known (moved here (suc here.at) (value ∷ here.stack) lasting) machine ws
+    bytes_get are = all_came (op.Get v) is refl (value ∷ here.stack) machine each_got are
+
+  -- ---- Dup: a copy of the top
+
+  module _ (is : its.op ≡ op.Dup) (value : Value) (rest : List Value) (so : here.stack ≡ value ∷ rest) where
+    many : its.places ≡ suc (length rest)
+    many = deep ∙ ap length so
+
+    top_value : at_place (its.places - 1) here.stack ≡ Some value
+    top_value = ap (at_place (its.places - 1)) so ∙ the_top (its.places - 1) value rest (omega (arith, many))
+
+    on_dup : (i : ℕ) → (i < its.places) ⊎ (i ≡ its.places) ⊎ (its.places < i) → Came op.Dup is refl (value ∷ here.stack) machine (on_stack i)
+    on_dup i (inl low) =
+        inl (
+          on_stack i,
+          record {
+            gives = λ code impact R x given.
+                old_of ((i < its.places) × (true ≡ true)) (i ≡ its.places) (R (Saved (on_stack i) x)) (R (Saved (on_stack (its.places - 1)) x))
+                (not_same i its.places low) given;
+            held = λ byte held. sym (under_top i value here.stack (subst (λ n. i < n) deep low)) ∙ held;
+            brings = carried op.Dup is refl (value ∷ here.stack) machine (slot.Place i) (slot.Place i)
+                (stays_below op.Dup its.places (on_stack i) tt (no_less its.places) low);
+          },
+        )
+    on_dup i (inr (inl top)) =
+        inl (
+          on_stack (its.places - 1),
+          record {
+            gives = λ code impact R x given.
+                new_of ((i < its.places) × (true ≡ true)) (i ≡ its.places) (R (Saved (on_stack i) x)) (R (Saved (on_stack (its.places - 1)) x))
+                (λ low. not_same i its.places low.0 top) given;
+            held = λ byte held. top_value ∙ sym (the_top i value here.stack (top ∙ deep)) ∙ held;
+            brings = carried op.Dup is refl (value ∷ here.stack) machine (slot.Place (its.places - 1)) (slot.Place i)
+                (subst (λ n. RuleOf op.Dup (slot.Place (its.places - 1)) (slot.Place n)) (sym top)
+                (subst (λ n. RuleOf op.Dup (slot.Place (n - 1)) (slot.Place n)) places_are
+                (rows.dup_also its_kinds (length whole.classes) facts status.SavedPurgeable)));
+          },
+        )
+    on_dup i (inr (inr high)) =
+        inr (λ code impact R x given.
+        never_of ((i < its.places) × (true ≡ true)) (i ≡ its.places) (R (Saved (on_stack i) x)) (R (Saved (on_stack (its.places - 1)) x))
+        (λ low. not_low i its.places high low.0) (not_at i its.places high) given)
+
+    each_dup : (b : Keeper) → Came op.Dup is refl (value ∷ here.stack) machine b
+    each_dup (on_stack i) = on_dup i (by_place i its.places)
+    each_dup (in_slot b) =
+        inl (
+          in_slot b,
+          record {
+            gives = λ code impact R x given. kept_of (Unit {0} × (true ≡ true)) (R (Saved (in_slot b) x)) given;
+            held = λ byte held. held;
+            brings = carried op.Dup is refl (value ∷ here.stack) machine (slot.Variable b) (slot.Variable b)
+                (stays_below op.Dup its.places (in_slot b) tt (no_less its.places) tt);
+          },
+        )
+
+    pub bytes_dup : AreBytesTracked whole known here machine ws
+        → AreBytesTracked whole known (moved here (suc here.at) (value ∷ here.stack) lasting) machine ws
+    bytes_dup are = all_came op.Dup is refl (value ∷ here.stack) machine each_dup are
+
+  -- ---- Conv leaves a state byte as it is
+
+  module _ (kind : Integer) (is : its.op ≡ op.Conv kind) (value new : Value) (rest : List Value) (so : here.stack ≡ value ∷ rest)
+      (same_byte : (byte : ℕ) → new ≡ state byte → value ≡ state byte) where
+    conv_many : its.places ≡ suc (length rest)
+    conv_many = deep ∙ ap length so
+
+    conv_top : its.places - 1 ≡ length rest
+    conv_top = omega (arith, conv_many)
+
+    on_conv : (i : ℕ) → (i < its.places - 1) ⊎ (i ≡ its.places - 1) ⊎ (its.places - 1 < i)
+        → Came (op.Conv kind) is refl (new ∷ rest) machine (on_stack i)
+    on_conv i (inl low) =
+        inl (
+          on_stack i,
+          record {
+            gives = λ code impact R x given.
+                old_of (i < its.places - 1) (i ≡ its.places - 1) (R (Saved (on_stack i) x)) (R (Saved (on_stack (its.places - 1)) x))
+                (not_same i (its.places - 1) low) given;
+            held = λ byte held.
+                ap (at_place i) so ∙ under_top i value rest (subst (λ n. i < n) conv_top low) ∙ sym (under_top i new rest (subst (λ n. i < n) conv_top low)) ∙ held;
+            brings = carried (op.Conv kind) is refl (new ∷ rest) machine (slot.Place i) (slot.Place i)
+                (stays_below (op.Conv kind) (its.places - 1) (on_stack i) tt refl low);
+          },
+        )
+    on_conv i (inr (inl top)) =
+        inl (
+          on_stack i,
+          record {
+            gives = λ code impact R x given.
+                subst (λ n. R (Saved (on_stack n) x)) (sym top)
+                (new_of (i < its.places - 1) (i ≡ its.places - 1) (R (Saved (on_stack i) x)) (R (Saved (on_stack (its.places - 1)) x))
+                (λ low. not_same i (its.places - 1) low top) given);
+            held = λ byte held.
+                ap (at_place i) so ∙ the_top i value rest (top ∙ conv_top)
+                ∙ ap (λ v. Some v) (same_byte byte (same_Some new (state byte) (sym (the_top i new rest (top ∙ conv_top)) ∙ held)));
+            brings = carried (op.Conv kind) is refl (new ∷ rest) machine (slot.Place i) (slot.Place i)
+                (rows.conv_stays its_kinds (length whole.classes) facts kind status.SavedPurgeable (slot.Place i)
+                (is_below_of facts.places i (omega (arith, top, conv_many, places_are))));
+          },
+        )
+    on_conv i (inr (inr high)) =
+        inr (λ code impact R x given.
+        never_of (i < its.places - 1) (i ≡ its.places - 1) (R (Saved (on_stack i) x)) (R (Saved (on_stack (its.places - 1)) x))
+        (not_low i (its.places - 1) high) (not_at i (its.places - 1) high) given)
+
+    each_conv : (b : Keeper) → Came (op.Conv kind) is refl (new ∷ rest) machine b
+    each_conv (on_stack i) = on_conv i (by_place i (its.places - 1))
+    each_conv (in_slot b) =
+        inl (
+          in_slot b,
+          record {
+            gives = λ code impact R x given. kept_of (Unit {0}) (R (Saved (in_slot b) x)) given;
+            held = λ byte held. held;
+            brings = carried (op.Conv kind) is refl (new ∷ rest) machine (slot.Variable b) (slot.Variable b)
+                (stays_below (op.Conv kind) (its.places - 1) (in_slot b) tt refl tt);
+          },
+        )
+
+    pub bytes_conv : AreBytesTracked whole known here machine ws
+        → AreBytesTracked whole known (moved here (suc here.at) (new ∷ rest) lasting) machine ws
+    bytes_conv are = all_came (op.Conv kind) is refl (new ∷ rest) machine each_conv are
+
+  -- ---- Set: the byte on top is the variable's too
+
+  module _ (v : Variable) (is : its.op ≡ op.Set v) (value : Value) (rest : List Value) (so : here.stack ≡ value ∷ rest) (a_slot : IsSlot machine v) where
+    set_many : its.places ≡ suc (length rest)
+    set_many = deep ∙ ap length so
+
+    -- the machine after it
+    abbrev pub set_machine : Machine
+    set_machine = with_value v value machine
+
+    -- what is said of another variable, or of the top
+    fact_of_slot : (z : Bool) (S P : Type 0) (R : MustFact → Type 0) (b x : Variable) (top : ℕ)
+        → (S × P) ⊎ SetBy R z v top (Saved (in_slot b) x) → (S × P) ⊎ ((b ≡ v) × R (Saved (on_stack top) x))
+    fact_of_slot true S P R b x top (inl old) = inl old
+    fact_of_slot true S P R b x top (inr new) = absurd new
+    fact_of_slot false S P R b x top (inl old) = inl old
+    fact_of_slot false S P R b x top (inr new) = inr new
+
+    fact_of_place : (z : Bool) (S P : Type 0) (R : MustFact → Type 0) (i : ℕ) (x : Variable) (top : ℕ)
+        → (S × P) ⊎ SetBy R z v top (Saved (on_stack i) x) → S × P
+    fact_of_place true S P R i x top (inl old) = old
+    fact_of_place true S P R i x top (inr new) = absurd new
+    fact_of_place false S P R i x top (inl old) = old
+    fact_of_place false S P R i x top (inr new) = absurd new
+
+    on_set : (i : ℕ) → (i < its.places) ⊎ (i ≡ its.places) ⊎ (its.places < i) → Came (op.Set v) is refl here.stack set_machine (on_stack i)
+    on_set i (inl low) =
+        inl (
+          on_stack i,
+          record {
+            gives = λ code impact R x given.
+                (fact_of_place (is_name its_kinds code v) ((i < its.places) × ((true && not (same_variable x v)) ≡ true) × (true ≡ true))
+                (R (Saved (on_stack i) x)) R i x (its.places - 1) given).1;
+            held = λ byte held. held;
+            brings = carried (op.Set v) is refl here.stack set_machine (slot.Place i) (slot.Place i)
+                (rows.set_stays its_kinds (length whole.classes) facts v status.SavedPurgeable (slot.Place i) refl
+                (is_below_of facts.places i (subst (λ n. i < n) (sym places_are) low)));
+          },
+        )
+    on_set i (inr high) =
+        inr (λ code impact R x given.
+        too_high high
+        (fact_of_place (is_name its_kinds code v) ((i < its.places) × ((true && not (same_variable x v)) ≡ true) × (true ≡ true))
+        (R (Saved (on_stack i) x)) R i x (its.places - 1) given).0.0)
+      where
+        too_high : (i ≡ its.places) ⊎ (its.places < i) → i < its.places → ⊥
+        too_high (inl same) low = not_same i its.places low same
+        too_high (inr high) low = not_low i its.places high low
+
+    on_variable : (b : Variable) (z : Bool) → same_variable b v ≡ z → Came (op.Set v) is refl here.stack set_machine (in_slot b)
+    on_variable b true same =
+        inl (
+          on_stack (its.places - 1),
+          record {
+            gives = λ code impact R x given.
+                new_of (Unit {0} × ((not (same_variable b v) && not (same_variable x v)) ≡ true) × (true ≡ true)) (b ≡ v) (R (Saved (in_slot b) x))
+                (R (Saved (on_stack (its.places - 1)) x))
+                (λ old. true≢false (sym (and_parts (not (same_variable b v)) (not (same_variable x v)) old.1).0 ∙ ap not same))
+                (fact_of_slot (is_name its_kinds code v) (Unit {0} × ((not (same_variable b v) && not (same_variable x v)) ≡ true) × (true ≡ true))
+                (R (Saved (in_slot b) x)) R b x (its.places - 1) given);
+            held = λ byte held.
+                ap (at_place (its.places - 1)) so ∙ the_top (its.places - 1) value rest (omega (arith, set_many))
+                ∙ sym (now_value v value machine a_slot) ∙ ap (value_of set_machine) (sym (one_name b v same)) ∙ held;
+            brings = carried (op.Set v) is refl here.stack set_machine (slot.Place (its.places - 1)) (slot.Variable b)
+                (subst (λ y. RuleOf (op.Set v) (slot.Place (its.places - 1)) (slot.Variable y)) (sym (one_name b v same))
+                (subst (λ n. RuleOf (op.Set v) (slot.Place (n - 1)) (slot.Variable v)) places_are
+                (rows.set_also its_kinds (length whole.classes) facts v status.SavedPurgeable)));
+          },
+        )
+    on_variable b false other =
+        inl (
+          in_slot b,
+          record {
+            gives = λ code impact R x given.
+                old_of (Unit {0} × ((not (same_variable b v) && not (same_variable x v)) ≡ true) × (true ≡ true)) (b ≡ v) (R (Saved (in_slot b) x))
+                (R (Saved (on_stack (its.places - 1)) x))
+                (λ one. true≢false (sym (ap (λ y. same_variable y v) one ∙ itself v) ∙ other))
+                (fact_of_slot (is_name its_kinds code v) (Unit {0} × ((not (same_variable b v) && not (same_variable x v)) ≡ true) × (true ≡ true))
+                (R (Saved (in_slot b) x)) R b x (its.places - 1) given);
+            held = λ byte held. sym (other_value v b value machine other) ∙ held;
+            brings = carried (op.Set v) is refl here.stack set_machine (slot.Variable b) (slot.Variable b)
+                (rows.set_stays its_kinds (length whole.classes) facts v status.SavedPurgeable (slot.Variable b) other refl);
+          },
+        )
+
+    each_set : (b : Keeper) → Came (op.Set v) is refl here.stack set_machine b
+    each_set (on_stack i) = on_set i (by_place i its.places)
+    each_set (in_slot b) = on_variable b (same_variable b v) refl
+
+    pub bytes_set : AreBytesTracked whole known here machine ws
+        → AreBytesTracked whole known (moved here (suc here.at) here.stack lasting) set_machine ws
+    bytes_set are = all_came (op.Set v) is refl here.stack set_machine each_set are
