@@ -8,7 +8,7 @@
 --     bytes_get, bytes_set, bytes_dup, bytes_conv      the rows `get_also`; `set_stays`, `set_also`; `dup_also`; `conv_stays`
 --     bytes_begun                in a function that begins nothing is known of bytes
 -- Only a byte that is known to be of the handle in a name is tracked: any other one is never put back as a restore. So a byte in memory needs no row.
-use Rattle.std.proofs.Common.{◌≡◌, ◌<◌, ◌⊎◌, inl, inr, ℕ, zero, suc, ◌-◌, ◌%◌, nat_le, nat_lt, ◌==◌, Bool, true, false, not, ◌&&◌, List, ◌∷◌, length, slice_get, Some, refl, sym, ap, ◌∙◌, subst, arith, true≢false}
+use Rattle.std.proofs.Common.{◌≡◌, ◌<◌, ◌≤◌, ◌⊎◌, inl, inr, ℕ, zero, suc, ◌-◌, ◌%◌, nat_le, nat_lt, ◌==◌, Bool, true, false, not, ◌&&◌, List, ◌∷◌, length, slice_get, Some, refl, sym, ap, ◌∙◌, subst, arith, true≢false}
 use Rattle.std.proofs.lemmas.Bool.{and_parts}
 use Rattle.std.proofs.lemmas.Bool.Decides.{nat_tests}
 use Rattle.std.proofs.lemmas.Option.{same_Some}
@@ -201,20 +201,29 @@ module _ (whole : WholeCode) (known : Knowledge) (here : Here) (machine : Machin
   abbrev pub IsUnknown : Keeper → Type 1
   IsUnknown b = (code : FunctionCode) (impact : Impact) (R : MustFact → Type 0) (x : Variable) → GivesIn code impact R (Saved b x) → ⊥
 
-  -- All bytes stay tracked, if each came from somewhere.
-  pub bytes_go : ((b : Keeper) → ((from : Keeper) × ComesFrom b from) ⊎ IsUnknown b) → AreBytesTracked whole known here machine ws
+  -- or the operation reads it
+  abbrev pub IsRead : Keeper → Type 0
+  IsRead b = (byte : ℕ) → kept_in next after b ≡ Some (state byte) → has_mark byte ≡ true → HasChain whole known next ws (slot_of b) status.SavedPurgeable
+
+  -- one of these
+  abbrev pub IsAccounted : Keeper → Type 1
+  IsAccounted b = ((from : Keeper) × ComesFrom b from) ⊎ IsUnknown b ⊎ IsRead b
+
+  -- All bytes stay tracked, if it is so of each.
+  pub bytes_go : ((b : Keeper) → IsAccounted b) → AreBytesTracked whole known here machine ws
       → AreBytesTracked whole known next after ws
   bytes_go each are = record { each = λ b x byte held holds marked. by_case b x byte held holds marked (each b) }
     where
       by_case : (b : Keeper) (x : Variable) (byte : ℕ) → kept_in next after b ≡ Some (state byte) → HoldsAt whole here.fn at (Saved b x)
-          → has_mark byte ≡ true → ((from : Keeper) × ComesFrom b from) ⊎ IsUnknown b → HasChain whole known next ws (slot_of b) status.SavedPurgeable
+          → has_mark byte ≡ true → IsAccounted b → HasChain whole known next ws (slot_of b) status.SavedPurgeable
       by_case b x byte held holds marked (inl came) =
           goes_on whole known here next machine after ws (slot_of came.0) (slot_of b) status.SavedPurgeable status.SavedPurgeable came.1.brings
           (are.each came.0 x byte (came.1.held byte held)
           (back (Saved b x) holds (Saved came.0 x)
           (λ round. came.1.gives holds.code (impact_of whole) (Before (Saved b x) holds round) x (gives (Saved b x) holds round))) marked)
-      by_case b x byte held holds marked (inr unknown) =
+      by_case b x byte held holds marked (inr (inl unknown)) =
           absurd (unknown holds.code (impact_of whole) (Before (Saved b x) holds zero) x (gives (Saved b x) holds zero))
+      by_case b x byte held holds marked (inr (inr read)) = read byte held marked
 
   -- ---- operations that give no fact about bytes
 
@@ -236,13 +245,13 @@ module _ (whole : WholeCode) (known : Knowledge) (here : Here) (machine : Machin
 
   -- by whether it is below
   pub each_below : (low : ℕ) → ((b : Keeper) → KeeperUnder low b → ComesFrom b b) → ((b : Keeper) → (KeeperUnder low b → ⊥) → IsUnknown b)
-      → (b : Keeper) → ((from : Keeper) × ComesFrom b from) ⊎ IsUnknown b
+      → (b : Keeper) → IsAccounted b
   each_below low down up (in_slot b) = inl (in_slot b, down (in_slot b) tt)
   each_below low down up (on_stack i) = by_test (nat_lt i low) refl
     where
-      by_test : (z : Bool) → nat_lt i low ≡ z → ((from : Keeper) × ComesFrom (on_stack i) from) ⊎ IsUnknown (on_stack i)
+      by_test : (z : Bool) → nat_lt i low ≡ z → IsAccounted (on_stack i)
       by_test true so = inl (on_stack i, down (on_stack i) (grind (so, nat_tests, arith)))
-      by_test false so = inr (up (on_stack i) (λ under. absurd (grind (so, under, nat_tests, arith))))
+      by_test false so = inr (inl (up (on_stack i) (λ under. absurd (grind (so, under, nat_tests, arith)))))
 
   pub bytes_stay : BringsNoByte form → LeavesSlots form → AreKept (its.places - taken kinds form) → AreBytesTracked whole known here machine ws
       → AreBytesTracked whole known next after ws
@@ -324,13 +333,9 @@ module _ (whole : WholeCode) (known : Knowledge) (here : Here) (machine : Machin
     abbrev later : Here
     later = moved here (suc here.at) stack lasting
 
-    -- a byte that was in that slot
-    abbrev CameFrom : Keeper → Keeper → Type 1
-    CameFrom = ComesFrom whole known here machine ws its is_at deep lasting form is (suc here.at) stack goes after
-
-    -- a byte that was in some slot, or of which nothing is known
+    -- a byte that is accounted for
     abbrev Came : Keeper → Type 1
-    Came b = ((from : Keeper) × CameFrom b from) ⊎ IsUnknown whole known here machine ws its is_at deep lasting form is (suc here.at) stack goes after b
+    Came = IsAccounted whole known here machine ws its is_at deep lasting form is (suc here.at) stack goes after
 
     -- a rule of the flow carries the fact
     carried : (of to : flow_slot.Slot) → RuleOf form of to
@@ -377,9 +382,9 @@ module _ (whole : WholeCode) (known : Knowledge) (here : Here) (machine : Machin
           },
         )
     on_got i (inr (inr high)) =
-        inr (λ code impact R x given.
+        inr (inl (λ code impact R x given.
         never_of (i < its.places - 0) (i ≡ its.places) (R (Saved (on_stack i) x)) (R (Saved (in_slot v) x))
-        (λ low. not_low i its.places high (subst (λ n. i < n) (no_less its.places) low)) (not_at i its.places high) given)
+        (λ low. not_low i its.places high (subst (λ n. i < n) (no_less its.places) low)) (not_at i its.places high) given))
 
     each_got : (b : Keeper) → Came (op.Get v) is refl (value ∷ here.stack) machine b
     each_got (on_stack i) = on_got i (by_place i its.places)
@@ -435,9 +440,9 @@ module _ (whole : WholeCode) (known : Knowledge) (here : Here) (machine : Machin
           },
         )
     on_dup i (inr (inr high)) =
-        inr (λ code impact R x given.
+        inr (inl (λ code impact R x given.
         never_of ((i < its.places) × (true ≡ true)) (i ≡ its.places) (R (Saved (on_stack i) x)) (R (Saved (on_stack (its.places - 1)) x))
-        (λ low. not_low i its.places high low.0) (not_at i its.places high) given)
+        (λ low. not_low i its.places high low.0) (not_at i its.places high) given))
 
     each_dup : (b : Keeper) → Came op.Dup is refl (value ∷ here.stack) machine b
     each_dup (on_stack i) = on_dup i (by_place i its.places)
@@ -498,9 +503,9 @@ module _ (whole : WholeCode) (known : Knowledge) (here : Here) (machine : Machin
           },
         )
     on_conv i (inr (inr high)) =
-        inr (λ code impact R x given.
+        inr (inl (λ code impact R x given.
         never_of (i < its.places - 1) (i ≡ its.places - 1) (R (Saved (on_stack i) x)) (R (Saved (on_stack (its.places - 1)) x))
-        (not_low i (its.places - 1) high) (not_at i (its.places - 1) high) given)
+        (not_low i (its.places - 1) high) (not_at i (its.places - 1) high) given))
 
     each_conv : (b : Keeper) → Came (op.Conv kind) is refl (new ∷ rest) machine b
     each_conv (on_stack i) = on_conv i (by_place i (its.places - 1))
@@ -559,10 +564,10 @@ module _ (whole : WholeCode) (known : Knowledge) (here : Here) (machine : Machin
           },
         )
     on_set i (inr high) =
-        inr (λ code impact R x given.
+        inr (inl (λ code impact R x given.
         too_high high
         (fact_of_place (is_name its_kinds code v) ((i < its.places) × ((true && not (same_variable x v)) ≡ true) × (true ≡ true))
-        (R (Saved (on_stack i) x)) R i x (its.places - 1) given).0.0)
+        (R (Saved (on_stack i) x)) R i x (its.places - 1) given).0.0))
       where
         too_high : (i ≡ its.places) ⊎ (its.places < i) → i < its.places → ⊥
         too_high (inl same) low = not_same i its.places low same
@@ -611,3 +616,168 @@ module _ (whole : WholeCode) (known : Knowledge) (here : Here) (machine : Machin
     pub bytes_set : AreBytesTracked whole known here machine ws
         → AreBytesTracked whole known (moved here (suc here.at) here.stack lasting) set_machine ws
     bytes_set are = all_came (op.Set v) is refl here.stack set_machine each_set are
+
+  -- ---- Tuck: a copy of the top below the value under it
+
+  module _ (is : its.op ≡ op.Tuck) (value under : Value) (rest : List Value) (so : here.stack ≡ value ∷ under ∷ rest) where
+    -- the stack after it
+    abbrev pub tucked : List Value
+    tucked = value ∷ under ∷ value ∷ rest
+
+    tuck_many : its.places ≡ suc (suc (length rest))
+    tuck_many = deep ∙ ap length so
+
+    tuck_known : facts.places ≡ suc (suc (length rest))
+    tuck_known = is_at.deep ∙ ap length so
+
+    two : 2 ≤ facts.places
+    two = omega (arith, tuck_known)
+
+    was_top : at_place (its.places - 1) here.stack ≡ Some value
+    was_top = ap (at_place (its.places - 1)) so ∙ the_top (its.places - 1) value (under ∷ rest) (omega (arith, tuck_many))
+
+    was_under : at_place (its.places - 2) here.stack ≡ Some under
+    was_under =
+        ap (at_place (its.places - 2)) so ∙ under_top (its.places - 2) value (under ∷ rest) (omega (arith, tuck_many))
+        ∙ the_top (its.places - 2) under rest (omega (arith, tuck_many))
+
+    -- what Tuck says of a byte on the stack
+    abbrev TuckGives : (MustFact → Type 0) → Variable → ℕ → Type 0
+    TuckGives R x i =
+        ((i < its.places - 2) × R (Saved (on_stack i) x))
+        ⊎ ((i ≡ its.places - 2) × R (Saved (on_stack (its.places - 1)) x))
+        ⊎ ((i ≡ its.places - 1) × R (Saved (on_stack (its.places - 2)) x))
+        ⊎ ((i ≡ its.places) × R (Saved (on_stack (its.places - 1)) x))
+
+    at_low : (R : MustFact → Type 0) (x : Variable) (i : ℕ) → i < its.places - 2 → TuckGives R x i → R (Saved (on_stack i) x)
+    at_low R x i low (inl old) = old.1
+    at_low R x i low (inr (inl new)) = absurd (omega (low, new.0, tuck_many, arith))
+    at_low R x i low (inr (inr (inl new))) = absurd (omega (low, new.0, tuck_many, arith))
+    at_low R x i low (inr (inr (inr new))) = absurd (omega (low, new.0, tuck_many, arith))
+
+    at_copy : (R : MustFact → Type 0) (x : Variable) (i : ℕ) → i ≡ its.places - 2 → TuckGives R x i → R (Saved (on_stack (its.places - 1)) x)
+    at_copy R x i at (inl old) = absurd (omega (at, old.0, tuck_many, arith))
+    at_copy R x i at (inr (inl new)) = new.1
+    at_copy R x i at (inr (inr (inl new))) = absurd (omega (at, new.0, tuck_many, arith))
+    at_copy R x i at (inr (inr (inr new))) = absurd (omega (at, new.0, tuck_many, arith))
+
+    at_moved : (R : MustFact → Type 0) (x : Variable) (i : ℕ) → i ≡ its.places - 1 → TuckGives R x i → R (Saved (on_stack (its.places - 2)) x)
+    at_moved R x i at (inl old) = absurd (omega (at, old.0, tuck_many, arith))
+    at_moved R x i at (inr (inl new)) = absurd (omega (at, new.0, tuck_many, arith))
+    at_moved R x i at (inr (inr (inl new))) = new.1
+    at_moved R x i at (inr (inr (inr new))) = absurd (omega (at, new.0, tuck_many, arith))
+
+    at_top : (R : MustFact → Type 0) (x : Variable) (i : ℕ) → i ≡ its.places → TuckGives R x i → R (Saved (on_stack (its.places - 1)) x)
+    at_top R x i at (inl old) = absurd (omega (at, old.0, tuck_many, arith))
+    at_top R x i at (inr (inl new)) = absurd (omega (at, new.0, tuck_many, arith))
+    at_top R x i at (inr (inr (inl new))) = absurd (omega (at, new.0, tuck_many, arith))
+    at_top R x i at (inr (inr (inr new))) = new.1
+
+    at_none : (R : MustFact → Type 0) (x : Variable) (i : ℕ) → its.places < i → TuckGives R x i → ⊥
+    at_none R x i high (inl old) = omega (high, old.0, tuck_many, arith)
+    at_none R x i high (inr (inl new)) = omega (high, new.0, tuck_many, arith)
+    at_none R x i high (inr (inr (inl new))) = omega (high, new.0, tuck_many, arith)
+    at_none R x i high (inr (inr (inr new))) = omega (high, new.0, tuck_many, arith)
+
+    -- where a place is
+    data InTuck (i : ℕ) : Type 0 where
+      is_low : i < its.places - 2 → InTuck i
+      is_copy : i ≡ its.places - 2 → InTuck i
+      is_moved : i ≡ its.places - 1 → InTuck i
+      is_top : i ≡ its.places → InTuck i
+      is_high : its.places < i → InTuck i
+
+    in_tuck : (i : ℕ) → InTuck i
+    in_tuck i = by_top (by_place i its.places)
+      where
+        by_low : (i < its.places - 2) ⊎ (i ≡ its.places - 2) ⊎ (its.places - 2 < i) → i < its.places - 1 → InTuck i
+        by_low (inl low) less = is_low low
+        by_low (inr (inl at)) less = is_copy at
+        by_low (inr (inr high)) less = absurd (omega (high, less, tuck_many, arith))
+
+        by_under : (i < its.places - 1) ⊎ (i ≡ its.places - 1) ⊎ (its.places - 1 < i) → i < its.places → InTuck i
+        by_under (inl low) less = by_low (by_place i (its.places - 2)) low
+        by_under (inr (inl at)) less = is_moved at
+        by_under (inr (inr high)) less = absurd (omega (high, less, tuck_many, arith))
+
+        by_top : (i < its.places) ⊎ (i ≡ its.places) ⊎ (its.places < i) → InTuck i
+        by_top (inl low) = by_under (by_place i (its.places - 1)) low
+        by_top (inr (inl at)) = is_top at
+        by_top (inr (inr high)) = is_high high
+
+    on_tuck : (i : ℕ) → InTuck i → Came op.Tuck is refl tucked machine (on_stack i)
+    on_tuck i (is_low low) =
+        inl (
+          on_stack i,
+          record {
+            gives = λ code impact R x given. at_low R x i low given;
+            held = λ byte held.
+                ap (at_place i) so ∙ under_top i value (under ∷ rest) (omega (low, tuck_many, arith)) ∙ under_top i under rest (omega (low, tuck_many, arith))
+                ∙ sym (under_top i value (under ∷ value ∷ rest) (omega (low, tuck_many, arith))
+                ∙ under_top i under (value ∷ rest) (omega (low, tuck_many, arith)) ∙ under_top i value rest (omega (low, tuck_many, arith))) ∙ held;
+            brings = carried op.Tuck is refl tucked machine (slot.Place i) (slot.Place i) (stays_below op.Tuck (its.places - 2) (on_stack i) tt refl low);
+          },
+        )
+    on_tuck i (is_copy at) =
+        inl (
+          on_stack (its.places - 1),
+          record {
+            gives = λ code impact R x given. at_copy R x i at given;
+            held = λ byte held.
+                was_top ∙ sym (under_top i value (under ∷ value ∷ rest) (omega (at, tuck_many, arith))
+                ∙ under_top i under (value ∷ rest) (omega (at, tuck_many, arith)) ∙ the_top i value rest (omega (at, tuck_many, arith))) ∙ held;
+            brings = carried op.Tuck is refl tucked machine (slot.Place (its.places - 1)) (slot.Place i)
+                (subst (λ n. RuleOf op.Tuck (slot.Place (its.places - 1)) (slot.Place n)) (sym at)
+                (subst (λ n. RuleOf op.Tuck (slot.Place (n - 1)) (slot.Place (n - 2))) places_are
+                (rows.tuck_low its_kinds (length whole.classes) facts status.SavedPurgeable two)));
+          },
+        )
+    on_tuck i (is_moved at) =
+        inl (
+          on_stack (its.places - 2),
+          record {
+            gives = λ code impact R x given. at_moved R x i at given;
+            held = λ byte held.
+                was_under ∙ sym (under_top i value (under ∷ value ∷ rest) (omega (at, tuck_many, arith))
+                ∙ the_top i under (value ∷ rest) (omega (at, tuck_many, arith))) ∙ held;
+            brings = carried op.Tuck is refl tucked machine (slot.Place (its.places - 2)) (slot.Place i)
+                (subst (λ n. RuleOf op.Tuck (slot.Place (its.places - 2)) (slot.Place n)) (sym at)
+                (subst (λ n. RuleOf op.Tuck (slot.Place (n - 2)) (slot.Place (n - 1))) places_are
+                (rows.tuck_moved its_kinds (length whole.classes) facts status.SavedPurgeable)));
+          },
+        )
+    on_tuck i (is_top at) =
+        inl (
+          on_stack (its.places - 1),
+          record {
+            gives = λ code impact R x given. at_top R x i at given;
+            held = λ byte held. was_top ∙ sym (the_top i value (under ∷ value ∷ rest) (omega (at, tuck_many, arith))) ∙ held;
+            brings = carried op.Tuck is refl tucked machine (slot.Place (its.places - 1)) (slot.Place i)
+                (subst (λ n. RuleOf op.Tuck (slot.Place (its.places - 1)) (slot.Place n)) (sym at)
+                (subst (λ n. RuleOf op.Tuck (slot.Place (n - 1)) (slot.Place n)) places_are
+                (rows.tuck_top its_kinds (length whole.classes) facts status.SavedPurgeable two)));
+          },
+        )
+    on_tuck i (is_high high) = inr (inl (λ code impact R x given. at_none R x i high given))
+
+    each_tuck : (b : Keeper) → Came op.Tuck is refl tucked machine b
+    each_tuck (on_stack i) = on_tuck i (in_tuck i)
+    each_tuck (in_slot b) =
+        inl (
+          in_slot b,
+          record {
+            gives = λ code impact R x given. by_tuck R x given;
+            held = λ byte held. held;
+            brings = carried op.Tuck is refl tucked machine (slot.Variable b) (slot.Variable b)
+                (stays_below op.Tuck (its.places - 2) (in_slot b) tt refl tt);
+          },
+        )
+      where
+        by_tuck : (R : MustFact → Type 0) (x : Variable) → (Unit {0} × R (Saved (in_slot b) x)) ⊎ (⊥ ⊎ ⊥ ⊎ ⊥) → R (Saved (in_slot b) x)
+        by_tuck R x (inl old) = old.1
+        by_tuck R x (inr (inl new)) = absurd new
+        by_tuck R x (inr (inr (inl new))) = absurd new
+        by_tuck R x (inr (inr (inr new))) = absurd new
+
+    pub bytes_tuck : AreBytesTracked whole known here machine ws → AreBytesTracked whole known (moved here (suc here.at) tucked lasting) machine ws
+    bytes_tuck are = all_came op.Tuck is refl tucked machine each_tuck are
