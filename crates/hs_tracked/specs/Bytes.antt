@@ -163,8 +163,8 @@ module _ (whole : WholeCode) (known : Knowledge) (here : Here) (machine : Machin
   known_deep = is_at.deep ∙ sym deep
 
   -- the operation gives the fact from the facts R
-  abbrev pub GivesIn : FunctionCode → Impact → (MustFact → Type 0) → MustFact → Type 0
-  GivesIn code impact R fact = Gives kinds code impact R form its.places fact
+  abbrev pub GivesIn : FunctionCode → (MustFact → Type 0) → MustFact → Type 0
+  GivesIn code R fact = Gives kinds code (impact_of whole) R form its.places fact
 
   module _ (fact : MustFact) (holds : HoldsAt whole here.fn at fact) where
     -- the must facts before it, in a round
@@ -175,7 +175,7 @@ module _ (whole : WholeCode) (known : Knowledge) (here : Here) (machine : Machin
     same_code = same_Some here.function.code holds.code (sym is_at.found ∙ holds.its_code)
 
     -- the operation gives the fact that holds after it, in each round
-    pub gives : (round : ℕ) → GivesIn holds.code (impact_of whole) (Before round) fact
+    pub gives : (round : ℕ) → GivesIn holds.code (Before round) fact
     gives round =
         subst (λ scope. Gives scope holds.code (impact_of whole) (Before round) form its.places fact)
         (sym (scope_there whole here.fn holds.function holds.of_function))
@@ -193,13 +193,13 @@ module _ (whole : WholeCode) (known : Knowledge) (here : Here) (machine : Machin
 
   -- What is known of a byte after the operation was known of it before, in that slot, and goes from there to where it is now.
   pub record ComesFrom (b from : Keeper) : Type 1 where
-    pub gives : (code : FunctionCode) (impact : Impact) (R : MustFact → Type 0) (x : Variable) → GivesIn code impact R (Saved b x) → R (Saved from x)
+    pub gives : (code : FunctionCode) (R : MustFact → Type 0) (x : Variable) → GivesIn code R (Saved b x) → R (Saved from x)
     pub held : (byte : ℕ) → kept_in next after b ≡ Some (state byte) → kept_in here machine from ≡ Some (state byte)
     pub brings : Brings whole known here next machine after ws (slot_of from) (slot_of b) status.SavedPurgeable status.SavedPurgeable
 
   -- or nothing is known of it
   abbrev pub IsUnknown : Keeper → Type 1
-  IsUnknown b = (code : FunctionCode) (impact : Impact) (R : MustFact → Type 0) (x : Variable) → GivesIn code impact R (Saved b x) → ⊥
+  IsUnknown b = (code : FunctionCode) (R : MustFact → Type 0) (x : Variable) → GivesIn code R (Saved b x) → ⊥
 
   -- or the operation reads it
   abbrev pub IsRead : Keeper → Type 0
@@ -220,9 +220,9 @@ module _ (whole : WholeCode) (known : Knowledge) (here : Here) (machine : Machin
           goes_on whole known here next machine after ws (slot_of came.0) (slot_of b) status.SavedPurgeable status.SavedPurgeable came.1.brings
           (are.each came.0 x byte (came.1.held byte held)
           (back (Saved b x) holds (Saved came.0 x)
-          (λ round. came.1.gives holds.code (impact_of whole) (Before (Saved b x) holds round) x (gives (Saved b x) holds round))) marked)
+          (λ round. came.1.gives holds.code (Before (Saved b x) holds round) x (gives (Saved b x) holds round))) marked)
       by_case b x byte held holds marked (inr (inl unknown)) =
-          absurd (unknown holds.code (impact_of whole) (Before (Saved b x) holds zero) x (gives (Saved b x) holds zero))
+          absurd (unknown holds.code (Before (Saved b x) holds zero) x (gives (Saved b x) holds zero))
       by_case b x byte held holds marked (inr (inr read)) = read byte held marked
 
   -- ---- operations that give no fact about bytes
@@ -234,7 +234,7 @@ module _ (whole : WholeCode) (known : Knowledge) (here : Here) (machine : Machin
 
   -- a slot below that place
   pub comes_below : (low : ℕ) → AreKept low → (b : Keeper) → KeeperUnder low b
-      → ((code : FunctionCode) (impact : Impact) (R : MustFact → Type 0) (x : Variable) → GivesIn code impact R (Saved b x) → R (Saved b x))
+      → ((code : FunctionCode) (R : MustFact → Type 0) (x : Variable) → GivesIn code R (Saved b x) → R (Saved b x))
       → Brings whole known here next machine after ws (slot_of b) (slot_of b) status.SavedPurgeable status.SavedPurgeable → ComesFrom b b
   comes_below low are b is_low facts brings =
       record { gives = facts; held = λ byte held. sym (kept_below b is_low) ∙ held; brings = brings }
@@ -260,10 +260,10 @@ module _ (whole : WholeCode) (known : Knowledge) (here : Here) (machine : Machin
       (each_below (its.places - taken kinds form)
       (λ b low.
       comes_below (its.places - taken kinds form) kept b low
-      (λ code impact R x given. (was_there kinds code impact R its.places b x form bare given).1)
+      (λ code R x given. (was_there kinds code (impact_of whole) R its.places b x form bare given).1)
       (stays_at whole known here machine ws its is_at form is at stack lasting goes after leaves_slots (slot_of b)
       (ap (λ n. is_below (n - taken kinds form) (slot_of b)) known_deep ∙ low_slot (its.places - taken kinds form) b low) status.SavedPurgeable))
-      (λ b high code impact R x given. high (was_there kinds code impact R its.places b x form bare given).0)) are
+      (λ b high code R x given. high (was_there kinds code (impact_of whole) R its.places b x form bare given).0)) are
 
 -- ---- values that are copied
 
@@ -361,7 +361,7 @@ module _ (whole : WholeCode) (known : Knowledge) (here : Here) (machine : Machin
         inl (
           on_stack i,
           record {
-            gives = λ code impact R x given.
+            gives = λ code R x given.
                 old_of (i < its.places - 0) (i ≡ its.places) (R (Saved (on_stack i) x)) (R (Saved (in_slot v) x)) (not_same i its.places low) given;
             held = λ byte held. sym (under_top i value here.stack (subst (λ n. i < n) deep low)) ∙ held;
             brings = carried (op.Get v) is refl (value ∷ here.stack) machine (slot.Place i) (slot.Place i)
@@ -372,7 +372,7 @@ module _ (whole : WholeCode) (known : Knowledge) (here : Here) (machine : Machin
         inl (
           in_slot v,
           record {
-            gives = λ code impact R x given.
+            gives = λ code R x given.
                 new_of (i < its.places - 0) (i ≡ its.places) (R (Saved (on_stack i) x)) (R (Saved (in_slot v) x))
                 (λ low. not_same i its.places (subst (λ n. i < n) (no_less its.places) low) top) given;
             held = λ byte held. holds_value ∙ sym (the_top i value here.stack (top ∙ deep)) ∙ held;
@@ -382,7 +382,7 @@ module _ (whole : WholeCode) (known : Knowledge) (here : Here) (machine : Machin
           },
         )
     on_got i (inr (inr high)) =
-        inr (inl (λ code impact R x given.
+        inr (inl (λ code R x given.
         never_of (i < its.places - 0) (i ≡ its.places) (R (Saved (on_stack i) x)) (R (Saved (in_slot v) x))
         (λ low. not_low i its.places high (subst (λ n. i < n) (no_less its.places) low)) (not_at i its.places high) given))
 
@@ -392,7 +392,7 @@ module _ (whole : WholeCode) (known : Knowledge) (here : Here) (machine : Machin
         inl (
           in_slot b,
           record {
-            gives = λ code impact R x given. kept_of (Unit {0}) (R (Saved (in_slot b) x)) given;
+            gives = λ code R x given. kept_of (Unit {0}) (R (Saved (in_slot b) x)) given;
             held = λ byte held. held;
             brings = carried (op.Get v) is refl (value ∷ here.stack) machine (slot.Variable b) (slot.Variable b)
                 (stays_below (op.Get v) its.places (in_slot b) tt (no_less its.places) tt);
@@ -417,7 +417,7 @@ module _ (whole : WholeCode) (known : Knowledge) (here : Here) (machine : Machin
         inl (
           on_stack i,
           record {
-            gives = λ code impact R x given.
+            gives = λ code R x given.
                 old_of ((i < its.places) × (true ≡ true)) (i ≡ its.places) (R (Saved (on_stack i) x)) (R (Saved (on_stack (its.places - 1)) x))
                 (not_same i its.places low) given;
             held = λ byte held. sym (under_top i value here.stack (subst (λ n. i < n) deep low)) ∙ held;
@@ -429,7 +429,7 @@ module _ (whole : WholeCode) (known : Knowledge) (here : Here) (machine : Machin
         inl (
           on_stack (its.places - 1),
           record {
-            gives = λ code impact R x given.
+            gives = λ code R x given.
                 new_of ((i < its.places) × (true ≡ true)) (i ≡ its.places) (R (Saved (on_stack i) x)) (R (Saved (on_stack (its.places - 1)) x))
                 (λ low. not_same i its.places low.0 top) given;
             held = λ byte held. top_value ∙ sym (the_top i value here.stack (top ∙ deep)) ∙ held;
@@ -440,7 +440,7 @@ module _ (whole : WholeCode) (known : Knowledge) (here : Here) (machine : Machin
           },
         )
     on_dup i (inr (inr high)) =
-        inr (inl (λ code impact R x given.
+        inr (inl (λ code R x given.
         never_of ((i < its.places) × (true ≡ true)) (i ≡ its.places) (R (Saved (on_stack i) x)) (R (Saved (on_stack (its.places - 1)) x))
         (λ low. not_low i its.places high low.0) (not_at i its.places high) given))
 
@@ -450,7 +450,7 @@ module _ (whole : WholeCode) (known : Knowledge) (here : Here) (machine : Machin
         inl (
           in_slot b,
           record {
-            gives = λ code impact R x given. kept_of (Unit {0} × (true ≡ true)) (R (Saved (in_slot b) x)) given;
+            gives = λ code R x given. kept_of (Unit {0} × (true ≡ true)) (R (Saved (in_slot b) x)) given;
             held = λ byte held. held;
             brings = carried op.Dup is refl (value ∷ here.stack) machine (slot.Variable b) (slot.Variable b)
                 (stays_below op.Dup its.places (in_slot b) tt (no_less its.places) tt);
@@ -477,7 +477,7 @@ module _ (whole : WholeCode) (known : Knowledge) (here : Here) (machine : Machin
         inl (
           on_stack i,
           record {
-            gives = λ code impact R x given.
+            gives = λ code R x given.
                 old_of (i < its.places - 1) (i ≡ its.places - 1) (R (Saved (on_stack i) x)) (R (Saved (on_stack (its.places - 1)) x))
                 (not_same i (its.places - 1) low) given;
             held = λ byte held.
@@ -490,7 +490,7 @@ module _ (whole : WholeCode) (known : Knowledge) (here : Here) (machine : Machin
         inl (
           on_stack i,
           record {
-            gives = λ code impact R x given.
+            gives = λ code R x given.
                 subst (λ n. R (Saved (on_stack n) x)) (sym top)
                 (new_of (i < its.places - 1) (i ≡ its.places - 1) (R (Saved (on_stack i) x)) (R (Saved (on_stack (its.places - 1)) x))
                 (λ low. not_same i (its.places - 1) low top) given);
@@ -503,7 +503,7 @@ module _ (whole : WholeCode) (known : Knowledge) (here : Here) (machine : Machin
           },
         )
     on_conv i (inr (inr high)) =
-        inr (inl (λ code impact R x given.
+        inr (inl (λ code R x given.
         never_of (i < its.places - 1) (i ≡ its.places - 1) (R (Saved (on_stack i) x)) (R (Saved (on_stack (its.places - 1)) x))
         (not_low i (its.places - 1) high) (not_at i (its.places - 1) high) given))
 
@@ -513,7 +513,7 @@ module _ (whole : WholeCode) (known : Knowledge) (here : Here) (machine : Machin
         inl (
           in_slot b,
           record {
-            gives = λ code impact R x given. kept_of (Unit {0}) (R (Saved (in_slot b) x)) given;
+            gives = λ code R x given. kept_of (Unit {0}) (R (Saved (in_slot b) x)) given;
             held = λ byte held. held;
             brings = carried (op.Conv kind) is refl (new ∷ rest) machine (slot.Variable b) (slot.Variable b)
                 (stays_below (op.Conv kind) (its.places - 1) (in_slot b) tt refl tt);
@@ -554,7 +554,7 @@ module _ (whole : WholeCode) (known : Knowledge) (here : Here) (machine : Machin
         inl (
           on_stack i,
           record {
-            gives = λ code impact R x given.
+            gives = λ code R x given.
                 (fact_of_place (is_name its_kinds code v) ((i < its.places) × ((true && not (same_variable x v)) ≡ true) × (true ≡ true))
                 (R (Saved (on_stack i) x)) R i x (its.places - 1) given).1;
             held = λ byte held. held;
@@ -564,7 +564,7 @@ module _ (whole : WholeCode) (known : Knowledge) (here : Here) (machine : Machin
           },
         )
     on_set i (inr high) =
-        inr (inl (λ code impact R x given.
+        inr (inl (λ code R x given.
         too_high high
         (fact_of_place (is_name its_kinds code v) ((i < its.places) × ((true && not (same_variable x v)) ≡ true) × (true ≡ true))
         (R (Saved (on_stack i) x)) R i x (its.places - 1) given).0.0))
@@ -578,7 +578,7 @@ module _ (whole : WholeCode) (known : Knowledge) (here : Here) (machine : Machin
         inl (
           on_stack (its.places - 1),
           record {
-            gives = λ code impact R x given.
+            gives = λ code R x given.
                 new_of (Unit {0} × ((not (same_variable b v) && not (same_variable x v)) ≡ true) × (true ≡ true)) (b ≡ v) (R (Saved (in_slot b) x))
                 (R (Saved (on_stack (its.places - 1)) x))
                 (λ old. true≢false (sym (and_parts (not (same_variable b v)) (not (same_variable x v)) old.1).0 ∙ ap not same))
@@ -597,7 +597,7 @@ module _ (whole : WholeCode) (known : Knowledge) (here : Here) (machine : Machin
         inl (
           in_slot b,
           record {
-            gives = λ code impact R x given.
+            gives = λ code R x given.
                 old_of (Unit {0} × ((not (same_variable b v) && not (same_variable x v)) ≡ true) × (true ≡ true)) (b ≡ v) (R (Saved (in_slot b) x))
                 (R (Saved (on_stack (its.places - 1)) x))
                 (λ one. true≢false (sym (ap (λ y. same_variable y v) one ∙ itself v) ∙ other))
@@ -710,7 +710,7 @@ module _ (whole : WholeCode) (known : Knowledge) (here : Here) (machine : Machin
         inl (
           on_stack i,
           record {
-            gives = λ code impact R x given. at_low R x i low given;
+            gives = λ code R x given. at_low R x i low given;
             held = λ byte held.
                 ap (at_place i) so ∙ under_top i value (under ∷ rest) (omega (low, tuck_many, arith)) ∙ under_top i under rest (omega (low, tuck_many, arith))
                 ∙ sym (under_top i value (under ∷ value ∷ rest) (omega (low, tuck_many, arith))
@@ -722,7 +722,7 @@ module _ (whole : WholeCode) (known : Knowledge) (here : Here) (machine : Machin
         inl (
           on_stack (its.places - 1),
           record {
-            gives = λ code impact R x given. at_copy R x i at given;
+            gives = λ code R x given. at_copy R x i at given;
             held = λ byte held.
                 was_top ∙ sym (under_top i value (under ∷ value ∷ rest) (omega (at, tuck_many, arith))
                 ∙ under_top i under (value ∷ rest) (omega (at, tuck_many, arith)) ∙ the_top i value rest (omega (at, tuck_many, arith))) ∙ held;
@@ -736,7 +736,7 @@ module _ (whole : WholeCode) (known : Knowledge) (here : Here) (machine : Machin
         inl (
           on_stack (its.places - 2),
           record {
-            gives = λ code impact R x given. at_moved R x i at given;
+            gives = λ code R x given. at_moved R x i at given;
             held = λ byte held.
                 was_under ∙ sym (under_top i value (under ∷ value ∷ rest) (omega (at, tuck_many, arith))
                 ∙ the_top i under (value ∷ rest) (omega (at, tuck_many, arith))) ∙ held;
@@ -750,7 +750,7 @@ module _ (whole : WholeCode) (known : Knowledge) (here : Here) (machine : Machin
         inl (
           on_stack (its.places - 1),
           record {
-            gives = λ code impact R x given. at_top R x i at given;
+            gives = λ code R x given. at_top R x i at given;
             held = λ byte held. was_top ∙ sym (the_top i value (under ∷ value ∷ rest) (omega (at, tuck_many, arith))) ∙ held;
             brings = carried op.Tuck is refl tucked machine (slot.Place (its.places - 1)) (slot.Place i)
                 (subst (λ n. RuleOf op.Tuck (slot.Place (its.places - 1)) (slot.Place n)) (sym at)
@@ -758,7 +758,7 @@ module _ (whole : WholeCode) (known : Knowledge) (here : Here) (machine : Machin
                 (rows.tuck_top its_kinds (length whole.classes) facts status.SavedPurgeable two)));
           },
         )
-    on_tuck i (is_high high) = inr (inl (λ code impact R x given. at_none R x i high given))
+    on_tuck i (is_high high) = inr (inl (λ code R x given. at_none R x i high given))
 
     each_tuck : (b : Keeper) → Came op.Tuck is refl tucked machine b
     each_tuck (on_stack i) = on_tuck i (in_tuck i)
@@ -766,7 +766,7 @@ module _ (whole : WholeCode) (known : Knowledge) (here : Here) (machine : Machin
         inl (
           in_slot b,
           record {
-            gives = λ code impact R x given. by_tuck R x given;
+            gives = λ code R x given. by_tuck R x given;
             held = λ byte held. held;
             brings = carried op.Tuck is refl tucked machine (slot.Variable b) (slot.Variable b)
                 (stays_below op.Tuck (its.places - 2) (in_slot b) tt refl tt);

@@ -10,6 +10,7 @@ pub mod Loading
 pub mod Moving
 pub mod Over
 pub mod Passing
+pub mod Reading
 pub mod Returning
 pub mod Right
 pub mod Setting

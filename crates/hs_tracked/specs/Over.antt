@@ -90,7 +90,7 @@ module _ (whole : WholeCode) (known : Knowledge) (w : Wait) (ws : List Wait) (af
   there_after (suc i) block there = since i block there
 
   -- a fact that goes over the call carries each chain on
-  leads_over : (of : flow_slot.Slot) (old new : FactStatus) → Among (over_of callee facts (at_slot old of)) (at_slot new of)
+  pub leads_over : (of : flow_slot.Slot) (old new : FactStatus) → Among (over_of callee facts (at_slot old of)) (at_slot new of)
       → Brings whole known w.here next w.machine after ws of of old new
   leads_over of old new has n inside chain =
       chain_over n _ _ inside chain
