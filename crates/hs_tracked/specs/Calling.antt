@@ -89,26 +89,45 @@ module _ (whole : WholeCode) (known : Knowledge) (here : Here) (machine after : 
     pub values : (x : Variable) → value_of after x ≡ value_of machine x
     pub lasts : unlocks_by facts.restores its_role ≡ false → (n : ℕ) → here.lasting n ≡ true → lasting n ≡ true
 
-  module _ (acts : Acts) (of : flow_slot.Slot) (low : is_below base of ≡ true) where
+  -- Of that, what pointers ask.
+  pub record StaysAt (n : ℕ) (old : Block) : Type 0 where
+    pub block : Block
+    pub there : block_at after.blocks n ≡ Some block
+    pub epoch : block.epoch ≡ old.epoch
+    pub gone : is_purged block.presence ≡ true → is_purged old.presence ≡ true
+
+  pub record Stays : Type 0 where
+    pub blocks : (n : ℕ) (block : Block) → block_at machine.blocks n ≡ Some block → StaysAt n block
+    pub values : (x : Variable) → value_of after x ≡ value_of machine x
+    pub lasts : unlocks_by facts.restores its_role ≡ false → (n : ℕ) → here.lasting n ≡ true → lasting n ≡ true
+
+  acting_stays : Acts → Stays
+  acting_stays acts = record { blocks = λ n block there. on n block (acts.blocks n block there); values = acts.values; lasts = acts.lasts }
+    where
+      on : (n : ℕ) (block : Block) → ActsAt n block → StaysAt n block
+      on n block its = record { block = its.block; there = its.there; epoch = its.epoch; gone = its.gone }
+
+  module _ (of : flow_slot.Slot) (low : is_below base of ≡ true) where
     -- a fact of the slot carries each chain on
-    brings : (old new : FactStatus)
+    pub brings : (old new : FactStatus)
         → Among (next_of kinds (length whole.classes) facts (op.Routine number) (at_slot old of)) (at_slot new of)
         → Brings whole known here next machine after ws of of old new
     brings old new has =
         leads whole known here machine ws its is_at (op.Routine number) is (suc here.at) stack lasting refl after of of old new has
 
-    stays : (old : FactStatus) → rows.Lasts kinds (length whole.classes) facts old → Brings whole known here next machine after ws of of old old
+    pub stays : (old : FactStatus) → rows.Lasts kinds (length whole.classes) facts old → Brings whole known here next machine after ws of of old old
     stays old lasts = brings old old (rows.routine_stays kinds (length whole.classes) facts number old of lasts low)
 
-    -- ---- pointers
+  -- ---- pointers
 
+  module _ (kept : Stays) (of : flow_slot.Slot) (low : is_below base of ≡ true) where
     current_by : (old new : FactStatus) (n : ℕ) (block : Block) → block_at machine.blocks n ≡ Some block
         → Brings whole known here next machine after ws of of old new → MeansHere whole new next after n
         → ((inside : List Mark) → Backed whole old inside ws n → Backed whole new inside ws n)
         → StaysCurrent whole known here next machine after ws of of old n block
-    current_by old new n block there goes means backed = on (acts.blocks n block there)
+    current_by old new n block there goes means backed = on (kept.blocks n block there)
       where
-        on : ActsAt n block → StaysCurrent whole known here next machine after ws of of old n block
+        on : StaysAt n block → StaysCurrent whole known here next machine after ws of of old n block
         on its =
             record {
               block = its.block;
@@ -125,36 +144,38 @@ module _ (whole : WholeCode) (known : Knowledge) (here : Here) (machine after : 
         → unlocks_by facts.restores its_role ≡ z → StaysCurrent whole known here next machine after ws of of status.Held n block
     by_held n block there lasted true unlocks =
         current_by status.Held status.Outer n block there
-        (brings status.Held status.Outer (rows.routine_unlocks kinds (length whole.classes) facts number of unlocks low)) tt
+        (brings of low status.Held status.Outer (rows.routine_unlocks kinds (length whole.classes) facts number of unlocks low)) tt
         (λ inside backed. outer_backed whole inside ws n backed)
     by_held n block there lasted false unlocks =
         current_by status.Held status.Held n block there
-        (brings status.Held status.Held (rows.routine_holds kinds (length whole.classes) facts number of unlocks low)) (acts.lasts unlocks n lasted)
+        (brings of low status.Held status.Held (rows.routine_holds kinds (length whole.classes) facts number of unlocks low)) (kept.lasts unlocks n lasted)
         (λ inside backed. backed)
 
     by_status : (old : FactStatus) (n : ℕ) (block : Block) → block_at machine.blocks n ≡ Some block → MeansHere whole old here machine n
         → StaysCurrent whole known here next machine after ws of of old n block
     by_status (status.Fresh h) n block there means =
-        current_by (status.Fresh h) (status.Fresh h) n block there (stays (status.Fresh h) tt) (means.0, means.1, acts.values means.0 ∙ means.2)
+        current_by (status.Fresh h) (status.Fresh h) n block there (stays of low (status.Fresh h) tt) (means.0, means.1, kept.values means.0 ∙ means.2)
         (λ inside backed. backed)
     by_status status.Held n block there means = by_held n block there means (unlocks_by facts.restores its_role) refl
     by_status status.Outer n block there means =
-        current_by status.Outer status.Outer n block there (stays status.Outer tt) tt (λ inside backed. backed)
+        current_by status.Outer status.Outer n block there (stays of low status.Outer tt) tt (λ inside backed. backed)
     by_status status.Loose n block there means =
-        current_by status.Loose status.Loose n block there (stays status.Loose tt) tt (λ inside backed. backed)
+        current_by status.Loose status.Loose n block there (stays of low status.Loose tt) tt (λ inside backed. backed)
     by_status other n block there means = absurd means
 
-    pointers : PointersPass whole known here next machine after ws of of
-    pointers = record { stale = stays status.Stale tt; current = λ old n block there means. inr (by_status old n block there means) }
+    pub pointers : PointersPass whole known here next machine after ws of of
+    pointers = record { stale = stays of low status.Stale tt; current = λ old n block there means. inr (by_status old n block there means) }
 
-    -- ---- handles
+  -- ---- handles
 
+  module _ (acts : Acts) (of : flow_slot.Slot) (low : is_below base of ≡ true) where
     module _ (n : ℕ) (has : IsIn here machine of (pointer (Handle n))) (block : Block) (new : ActsAt n block) (marked : is_marked new.block ≡ true) where
       -- a chain brings Purgeable
       abbrev MarkedBy : Type 0
       MarkedBy =
           Brings whole known here next machine after ws of of status.IsHandle status.Purgeable
           ⊎ ((is_marked block ≡ true) × Brings whole known here next machine after ws of of status.Purgeable status.Purgeable)
+          ⊎ HasChain whole known next ws of status.Purgeable
 
       -- it was: and the role does not unmark the block of a name of the slot
       was_marked : is_marked block ≡ true → (z : Bool) → (unmarks_by its_role && share_name facts of (slot.Place base)) ≡ z → MarkedBy
@@ -162,7 +183,7 @@ module _ (whole : WholeCode) (known : Knowledge) (here : Here) (machine after : 
           let parts = and_parts (unmarks_by its_role) (share_name facts of (slot.Place base)) both in
           absurd (new.unmarked marked parts.0 (shared_there whole known here machine right is_at.names of base n has parts.1))
       was_marked old false none =
-          inr (old, brings status.Purgeable status.Purgeable (rows.routine_purgeable kinds (length whole.classes) facts number of none low))
+          inr (inl (old, brings of low status.Purgeable status.Purgeable (rows.routine_purgeable kinds (length whole.classes) facts number of none low)))
 
       -- it is the block of the argument, which the role marks: so the slot is not apart
       now_marked : marks_by facts.restores its_role ≡ true → at_place base here.stack ≡ Some (pointer (Handle n)) → (z : Bool)
@@ -170,7 +191,7 @@ module _ (whole : WholeCode) (known : Knowledge) (here : Here) (machine after : 
       now_marked marks there true is_apart =
           absurd (apart_blocks whole known here machine right is_at.names of (slot.Place base) n n has there is_apart refl)
       now_marked marks there false not_apart =
-          inl (brings status.IsHandle status.Purgeable (rows.routine_marks kinds (length whole.classes) facts number of marks not_apart low))
+          inl (brings of low status.IsHandle status.Purgeable (rows.routine_marks kinds (length whole.classes) facts number of marks not_apart low))
 
       marked_by : (is_marked block ≡ true) ⊎ ((marks_by facts.restores its_role ≡ true) × (at_place base here.stack ≡ Some (pointer (Handle n)))) → MarkedBy
       marked_by (inl old) = was_marked old (unmarks_by its_role && share_name facts of (slot.Place base)) refl
@@ -178,7 +199,7 @@ module _ (whole : WholeCode) (known : Knowledge) (here : Here) (machine after : 
 
     handle_passes : (n : ℕ) → IsIn here machine of (pointer (Handle n)) → HandlePasses whole known here next machine after ws of of n
     handle_passes n has =
-        record { is = stays status.IsHandle tt; stays = λ block there. on block (acts.blocks n block there) }
+        record { is = stays of low status.IsHandle tt; stays = λ block there. on block (acts.blocks n block there) }
       where
         on : (block : Block) → ActsAt n block → HandleStays whole known here next machine after ws of of n block
         on block new =
@@ -186,12 +207,12 @@ module _ (whole : WholeCode) (known : Knowledge) (here : Here) (machine after : 
               block = new.block;
               there = new.there;
               marked = λ so. marked_by n has block new so (new.marked so);
-              gone = λ so. inr (inr (new.gone so, stays status.Hollow tt));
+              gone = λ so. inr (inr (new.gone so, stays of low status.Hollow tt));
             }
 
     passes : (v : Value) → IsIn here machine of v → Passes whole known here next machine after ws of of v
     passes v has =
-        record { pointers = pointers; handle = λ n handle. handle_passes n (subst (IsIn here machine of) handle has) }
+        record { pointers = pointers (acting_stays acts) of low; handle = λ n handle. handle_passes n (subst (IsIn here machine of) handle has) }
 
   module _ (acts : Acts) where
     classes : ClassesPass whole known here next machine after ws
@@ -210,7 +231,7 @@ module _ (whole : WholeCode) (known : Knowledge) (here : Here) (machine after : 
     pub routine_reached : HasChain whole known here ws slot.Nothing status.Reached → HasChain whole known next ws slot.Nothing status.Reached
     routine_reached has =
         goes_on whole known here next machine after ws slot.Nothing slot.Nothing status.Reached status.Reached
-        (stays acts slot.Nothing refl status.Reached tt) has
+        (stays slot.Nothing refl status.Reached tt) has
 
   -- A handle that the routine makes: its block is new.
   pub made_value : makes_handle kinds number ≡ true → HasChain whole known here ws slot.Nothing status.Reached → (n : ℕ) (block : Block)
