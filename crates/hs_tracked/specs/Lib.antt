@@ -11,6 +11,7 @@ pub mod Moving
 pub mod Over
 pub mod Passing
 pub mod Reading
+pub mod Restorable
 pub mod Returning
 pub mod Right
 pub mod Setting
