@@ -12,6 +12,7 @@ pub mod Over
 pub mod Passing
 pub mod Reading
 pub mod Restorable
+pub mod Restoring
 pub mod Returning
 pub mod Right
 pub mod Setting
