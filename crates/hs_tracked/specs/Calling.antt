@@ -4,7 +4,7 @@
 --     made_value         a handle that is made: the row `routine_makes`
 --     routine, copies    all that a call has; BlockMove
 --     acts_since         roles that mark and unmark nothing act so
---     acts_put           and so do those that act on the block of their argument
+--     acts_one, acts_nil and so do those that act on the block of their argument, or on NIL
 use Rattle.std.proofs.Common.{ap, ◌≡◌, ◌⊎◌, inl, inr, ℕ, suc, ◌-◌, Bool, true, false, ◌&&◌, List, length, Option, Some, refl, sym, ◌∙◌, subst, true≢false, ◌<◌, zero, [], ◌∷◌, ◌==◌, slice_get, slice_set, arith}
 use Rattle.std.proofs.lemmas.Bool.{and_parts}
 use Rattle.std.proofs.lemmas.Bool.Decides.{nat_tests}
@@ -34,11 +34,12 @@ use Rattle.hs_heap.specs.Blocks.{Block}
 use Rattle.hs_heap.specs.Memory.{block_at, put_block}
 use Rattle.hs_heap.specs.declared.cell.Cell.{Cell}
 use Rattle.hs_heap.specs.declared.cell.Pointer.{Pointer}
-use Rattle.hs_heap.specs.declared.cell.Pointer.TheVariants.{Handle}
+use Rattle.hs_heap.specs.declared.cell.Pointer.TheVariants.{Nil, Handle}
 use Rattle.hs_hiding.specs.Holding.{value_of}
 use Rattle.hs_meaning.specs.Accesses.{cells_at, with_cells_at}
 use Rattle.hs_meaning.specs.Machine.{Machine}
 use Rattle.hs_meaning.specs.Values.{Value, pointer}
+use Rattle.hs_role_truth.specs.Handled.{OneBlock}
 use Rattle.hs_sound_heap.specs.Since.{BlockSince, May, Since, IsThere, is_marked, is_purged}
 use Rattle.hs_table.specs.declared.role.Role.{Role}
 use Rattle.hs_tracked.specs.Cells.{InBlocks, InObjects, cells_read, blocks_written, objects_written}
@@ -325,63 +326,68 @@ module _ (whole : WholeCode) (known : Knowledge) (here : Here) (machine after : 
   -- ---- roles that act on the block of their argument
 
   -- HPurge, HNoPurge, and HSetState that is no restore: the block of the argument is another one, and all others stay.
-  pub acts_put : (may : May) (m : ℕ) (old new : Block) → at_place base here.stack ≡ Some (pointer (Handle m)) → block_at machine.blocks m ≡ Some old
-      → after.blocks ≡ put_block machine.blocks m new → BlockSince may old new → may.moves ≡ false
-      → (may.marks ≡ true → marks_by facts.restores its_role ≡ true) → (unmarks_by its_role ≡ true → is_marked new ≡ false)
-      → ((x : Variable) → value_of after x ≡ value_of machine x)
+  pub acts_one : (may : May) (m : ℕ) (old new : Block) → at_place base here.stack ≡ Some (pointer (Handle m)) → OneBlock machine after m old new
+      → BlockSince may old new → may.moves ≡ false → (may.marks ≡ true → marks_by facts.restores its_role ≡ true)
+      → (unmarks_by its_role ≡ true → is_marked new ≡ false)
       → (unlocks_by facts.restores its_role ≡ false → (n : ℕ) → here.lasting n ≡ true → lasting n ≡ true) → Acts
-  acts_put may zero old new argument found put since moves marks unmarks values lasts = absurd (none-some old found)
-  acts_put may (suc i) old new argument found put since moves marks unmarks values lasts =
-      record { blocks = by_number; values = values; lasts = lasts }
+  acts_one may m old new argument one since moves marks unmarks lasts =
+      record { blocks = λ n block there. by_test n block there (n == m) refl; values = one.values; lasts = lasts }
     where
       before : (b : Bool) → (b ≡ true → marks_by facts.restores its_role ≡ true) → may.marks ≡ b → is_marked new ≡ true
-          → (is_marked old ≡ true) ⊎ ((marks_by facts.restores its_role ≡ true) × (at_place base here.stack ≡ Some (pointer (Handle (suc i)))))
+          → (is_marked old ≡ true) ⊎ ((marks_by facts.restores its_role ≡ true) × (at_place base here.stack ≡ Some (pointer (Handle m))))
       before true role_marks same so = inr (role_marks refl, argument)
       before false role_marks same so = inl (since.purgeable same so)
 
-      set : after.blocks ≡ slice_set machine.blocks i new
-      set = put ∙ ap (λ k. slice_set machine.blocks k new) (one_less i)
-        where
-          one_less : (a : ℕ) → suc a - 1 ≡ a
-          one_less a = omega arith
-
-      of_argument : ActsAt (suc i) old
+      of_argument : ActsAt m old
       of_argument =
           record {
             block = new;
-            there = ap (λ blocks. slice_get blocks i) set ∙ set_there machine.blocks i old new found;
+            there = one.now;
             epoch = since.epoch moves;
             gone = λ so. since.unpurged moves so;
             marked = λ so. before may.marks marks refl so;
             unmarked = λ so unmarked argument'. true≢false (sym so ∙ unmarks unmarked);
           }
 
-      same_block : (k : ℕ) (block : Block) → (k ≡ i → ⊥) → slice_get machine.blocks k ≡ Some block → ActsAt (suc k) block
-      same_block k block other there =
-          record {
-            block = block;
-            there = ap (λ blocks. slice_get blocks k) set ∙ set_other machine.blocks i new k other ∙ there;
-            epoch = refl;
-            gone = λ so. so;
-            marked = λ so. inl so;
-            unmarked = λ so unmarked argument'. other (same_number k i (sym argument' ∙ argument));
-          }
-        where
-          same_number : (a b : ℕ) → ◌≡◌ {A = Option Value} (Some (pointer (Handle (suc a)))) (Some (pointer (Handle (suc b)))) → a ≡ b
-          same_number a b so = cc
-
-      by_test : (k : ℕ) (block : Block) → slice_get machine.blocks k ≡ Some block → (z : Bool) → (k == i) ≡ z → ActsAt (suc k) block
-      by_test k block there true same =
-          subst (λ j. ActsAt (suc j) block) (sym (are_one k i same))
-          (subst (ActsAt (suc i)) (same_Some old block (sym found ∙ ap (slice_get machine.blocks) (sym (are_one k i same)) ∙ there)) of_argument)
+      by_test : (n : ℕ) (block : Block) → block_at machine.blocks n ≡ Some block → (z : Bool) → (n == m) ≡ z → ActsAt n block
+      by_test n block there true same =
+          subst (λ j. ActsAt j block) (sym (are_one n m same))
+          (subst (ActsAt m) (same_Some old block (sym one.there ∙ ap (block_at machine.blocks) (sym (are_one n m same)) ∙ there)) of_argument)
         where
           are_one : (a b : ℕ) → (a == b) ≡ true → a ≡ b
           are_one a b is = grind (is, nat_tests, arith)
-      by_test k block there false same = same_block k block (are_apart k i same) there
+      by_test n block there false same =
+          record {
+            block = block;
+            there = one.others n (are_apart n m same) ∙ there;
+            epoch = refl;
+            gone = λ so. so;
+            marked = λ so. inl so;
+            unmarked = λ so unmarked argument'. are_apart n m same (same_number n m (sym argument' ∙ argument));
+          }
         where
           are_apart : (a b : ℕ) → (a == b) ≡ false → a ≡ b → ⊥
           are_apart a b is so = grind (is, so, nat_tests, arith)
 
-      by_number : (n : ℕ) (block : Block) → block_at machine.blocks n ≡ Some block → ActsAt n block
-      by_number zero block there = absurd (none-some block there)
-      by_number (suc k) block there = by_test k block there (k == i) refl
+          same_number : (a b : ℕ) → ◌≡◌ {A = Option Value} (Some (pointer (Handle a))) (Some (pointer (Handle b))) → a ≡ b
+          same_number a b so = cc
+
+  -- NIL: nothing is done.
+  pub acts_nil : at_place base here.stack ≡ Some (pointer Nil) → machine ≡ after
+      → (unlocks_by facts.restores its_role ≡ false → (n : ℕ) → here.lasting n ≡ true → lasting n ≡ true) → Acts
+  acts_nil argument same lasts =
+      record { blocks = λ n block there. stays_so n block there; values = λ x. ap (λ m. value_of m x) (sym same); lasts = lasts }
+    where
+      no_handle : (n : ℕ) → ◌≡◌ {A = Option Value} (Some (pointer Nil)) (Some (pointer (Handle n))) → ⊥
+      no_handle n so = cc
+
+      stays_so : (n : ℕ) (block : Block) → block_at machine.blocks n ≡ Some block → ActsAt n block
+      stays_so n block there =
+          record {
+            block = block;
+            there = ap (λ (m : Machine). block_at m.blocks n) (sym same) ∙ there;
+            epoch = refl;
+            gone = λ so. so;
+            marked = λ so. inl so;
+            unmarked = λ so unmarked argument'. no_handle n (sym argument ∙ argument');
+          }
