@@ -1,4 +1,5 @@
 pub mod Acting
+pub mod Arguments
 pub mod Beginning
 pub mod Bringing
 pub mod Bytes
