@@ -2,7 +2,7 @@
 --     Acts               what the role leaves of blocks and variables
 --     routine_value      the rows `routine_stays`; `routine_holds`, `routine_unlocks`; `routine_marks`, `routine_purgeable`
 --     made_value         a handle that is made: the row `routine_makes`
---     routine, copies    all that a call has; BlockMove
+--     routine            all that a call has
 --     acts_since         roles that mark and unmark nothing act so
 --     acts_one, acts_nil and so do those that act on the block of their argument, or on NIL
 use Rattle.std.proofs.Common.{ap, ◌≡◌, ◌⊎◌, inl, inr, ℕ, suc, ◌-◌, Bool, true, false, ◌&&◌, List, length, Option, Some, refl, sym, ◌∙◌, subst, true≢false, ◌<◌, zero, [], ◌∷◌, ◌==◌, slice_get, slice_set, arith}
@@ -36,14 +36,13 @@ use Rattle.hs_heap.specs.declared.cell.Cell.{Cell}
 use Rattle.hs_heap.specs.declared.cell.Pointer.{Pointer}
 use Rattle.hs_heap.specs.declared.cell.Pointer.TheVariants.{Nil, Handle}
 use Rattle.hs_hiding.specs.Holding.{value_of}
-use Rattle.hs_meaning.specs.Accesses.{cells_at, with_cells_at}
 use Rattle.hs_meaning.specs.Machine.{Machine}
 use Rattle.hs_meaning.specs.Values.{Value, pointer}
 use Rattle.hs_role_truth.specs.Handled.{OneBlock}
 use Rattle.hs_sound_heap.specs.Since.{BlockSince, May, Since, IsThere, is_marked, is_purged}
 use Rattle.hs_table.specs.declared.role.Role.{Role}
-use Rattle.hs_tracked.specs.Cells.{InBlocks, InObjects, cells_read, blocks_written, objects_written}
 use Rattle.hs_tracked.specs.Going.{IsAt, leads}
+use Rattle.hs_tracked.specs.Making.{HasAll}
 use Rattle.hs_tracked.specs.Over.{outer_backed}
 use Rattle.hs_tracked.specs.Passing.{Brings, Passes, PointersPass, HandlePasses, HandleStays, StaysCurrent, ClassesPass, PlacesPass, goes_on, pass_value, pass_cells, pass_places, pass_blocks, pass_objects}
 use Rattle.hs_tracked.specs.Right.{AreRight, IsIn, shared_there, apart_blocks}
@@ -267,38 +266,25 @@ module _ (whole : WholeCode) (known : Knowledge) (here : Here) (machine after : 
     -- The values below the arguments, variables and cells stay tracked; the result and new cells are as they are given.
     pub routine : (v : Value) → stack ≡ v ∷ rest → Tracked whole known next after ws (slot.Place (length rest)) v
         → TrackedPlaces whole known here machine ws rest
-        → (AllByRecursion (λ block. TrackedCells whole known next after ws block.cells) machine.blocks
-        → AllByRecursion (λ block. TrackedCells whole known next after ws block.cells) after.blocks)
-        → (AllByRecursion (λ object. TrackedCells whole known next after ws object.cells) machine.objects
-        → AllByRecursion (λ object. TrackedCells whole known next after ws object.cells) after.objects)
+        → (HasAll (TrackedCell whole known next after ws) tt (λ b. tt) machine → HasAll (TrackedCell whole known next after ws) tt (λ b. tt) after)
         → AreTracked whole known here machine ws → AreTracked whole known next after ws
-    routine v so result places blocks objects are =
+    routine v so result places cells are =
         record {
           reached = routine_reached acts are.reached;
           places = subst (TrackedPlaces whole known next after ws) (sym so)
               (result, pass_places whole known here next machine after ws (classes acts) rest (places_pass rest (λ i u has. has)) places);
           variables = λ x u holds.
               routine_value acts (slot.Variable x) refl u (sym (acts.values x) ∙ holds) (are.variables x u (sym (acts.values x) ∙ holds));
-          blocks = blocks (pass_blocks whole known here next machine after ws (classes acts) machine.blocks are.blocks);
-          objects = objects (pass_objects whole known here next machine after ws (classes acts) machine.objects are.objects);
+          blocks = (cells memory).blocks;
+          objects = (cells memory).objects;
         }
-
-    -- BlockMove: cells that are copied are of the classes of which they were.
-    pub copies : (v : Value) → stack ≡ v ∷ rest → Tracked whole known next after ws (slot.Place (length rest)) v
-        → TrackedPlaces whole known here machine ws rest → (from to : Pointer) (count : ℕ)
-        → after ≡ with_cells_at to (cells_at from count machine) machine → AreTracked whole known here machine ws
-        → AreTracked whole known next after ws
-    copies v so result places from to count copied are =
-        routine v so result places
-        (λ cells. subst (λ m. InBlocks (TrackedCell whole known next after ws) m.blocks) (sym copied)
-        (blocks_written (TrackedCell whole known next after ws) to (cells_at from count machine) machine new cells))
-        (λ cells. subst (λ m. InObjects (TrackedCell whole known next after ws) m.objects) (sym copied)
-        (objects_written (TrackedCell whole known next after ws) to (cells_at from count machine) machine new cells)) are
       where
-        new : TrackedCells whole known next after ws (cells_at from count machine)
-        new =
-            routine_cells acts (cells_at from count machine)
-            (cells_read (TrackedCell whole known here machine ws) from count machine are.blocks are.objects)
+        memory : HasAll (TrackedCell whole known next after ws) tt (λ b. tt) machine
+        memory =
+            record {
+              blocks = pass_blocks whole known here next machine after ws (classes acts) machine.blocks are.blocks;
+              objects = pass_objects whole known here next machine after ws (classes acts) machine.objects are.objects;
+            }
 
   -- ---- roles that mark and unmark nothing
 

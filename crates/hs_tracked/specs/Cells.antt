@@ -26,7 +26,8 @@ module _ (P : Cell → Type 0) where
   abbrev pub InObjects : List Object → Type 0
   InObjects objects = AllByRecursion (λ its. AllByRecursion P its.cells) objects
 
-  of_block : (blocks : List Block) (n : ℕ) (block : Block) → InBlocks blocks → block_at blocks n ≡ Some block → AllByRecursion P block.cells
+  -- of one block
+  pub of_block : (blocks : List Block) (n : ℕ) (block : Block) → InBlocks blocks → block_at blocks n ≡ Some block → AllByRecursion P block.cells
   of_block blocks zero block are at = absurd (none-some block at)
   of_block blocks (suc i) block are at = all_at (λ b. AllByRecursion P b.cells) blocks i block are at
 

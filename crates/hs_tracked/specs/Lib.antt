@@ -9,6 +9,7 @@ pub mod Entering
 pub mod Going
 pub mod Leaving
 pub mod Loading
+pub mod Making
 pub mod Moving
 pub mod Over
 pub mod Passing
