@@ -59,9 +59,9 @@ pub record IsFresh (v : Value) (after : Machine) : Type 0 where
   pub unmarked : is_marked block ≡ false
   pub alive : is_purged block.presence ≡ false
 
--- what a routine gives
-abbrev pub IsGiven : Value → Machine → Type 0
-IsGiven v after = HasNoFacts v ⊎ IsFresh v after
+-- what a routine gives: the handle of a block only if it is one that makes them
+abbrev pub IsGiven : Type 0 → Value → Machine → Type 0
+IsGiven Makes v after = HasNoFacts v ⊎ (Makes × IsFresh v after)
 
 module _ (P : Cell → Type 0) (undefined : P Undefined) (byte : (b : ℕ) → P (Byte b)) where
   -- each cell of the machine is such
@@ -70,8 +70,8 @@ module _ (P : Cell → Type 0) (undefined : P Undefined) (byte : (b : ℕ) → P
     pub objects : InObjects P machine.objects
 
   -- the machine after it has them, and the value is one that a routine gives
-  abbrev pub Gets : Value → Machine → Type 0
-  Gets v after = IsGiven v after × HasAll after
+  abbrev pub Gets : Type 0 → Value → Machine → Type 0
+  Gets Makes v after = IsGiven Makes v after × HasAll after
 
   -- ---- blocks that roles change
 
@@ -199,13 +199,13 @@ module _ (P : Cell → Type 0) (undefined : P Undefined) (byte : (b : ℕ) → P
         alive = alive;
       }
 
-  new_gives : (z : Bool) (size : ℕ) (machine : Machine) → HasAll machine
-      → Gets (handle_if z machine) (with_block z size (asked machine))
-  new_gives true size machine are = (
-    inr (made_now machine.blocks (new_block size) (with_block true size (asked machine)) refl refl refl),
+  new_gives : (Makes : Type 0) → Makes → (z : Bool) (size : ℕ) (machine : Machine) → HasAll machine
+      → Gets Makes (handle_if z machine) (with_block z size (asked machine))
+  new_gives Makes makes true size machine are = (
+    inr (makes, made_now machine.blocks (new_block size) (with_block true size (asked machine)) refl refl refl),
     block_added (asked machine) (new_block size) (all_same P size Undefined undefined) (asked_has machine are),
   )
-  new_gives false size machine are = (inl tt, asked_has machine are)
+  new_gives Makes makes false size machine are = (inl tt, asked_has machine are)
 
   object_value : (z : Bool) (machine : Machine) → HasNoFacts (object_if z machine)
   object_value true machine = tt
@@ -230,12 +230,13 @@ module _ (P : Cell → Type 0) (undefined : P Undefined) (byte : (b : ℕ) → P
   -- ---- roles
 
   -- a number of the type with which the routine is declared
-  pub kind_given : (kind : Option Integer) (v : Value) (after : Machine) → IsGiven v after → IsGiven (as_kind kind v) after
-  kind_given None (number bits) after is = inl tt
-  kind_given (Some kind) (number bits) after is = inl tt
-  kind_given kind (pointer its) after is = is
-  kind_given kind (state bits) after is = inl tt
-  kind_given kind (structure cells) after is = is
+  pub kind_given : (Makes : Type 0) (kind : Option Integer) (v : Value) (after : Machine) → IsGiven Makes v after
+      → IsGiven Makes (as_kind kind v) after
+  kind_given Makes None (number bits) after is = inl tt
+  kind_given Makes (Some kind) (number bits) after is = inl tt
+  kind_given Makes kind (pointer its) after is = is
+  kind_given Makes kind (state bits) after is = inl tt
+  kind_given Makes kind (structure cells) after is = is
 
   -- other cells where a pointer reaches
   written : (its : Pointer) (new : List Cell) (machine : Machine) → AllByRecursion P new → HasAll machine → HasAll (with_cells_at its new machine)
@@ -243,8 +244,8 @@ module _ (P : Cell → Type 0) (undefined : P Undefined) (byte : (b : ℕ) → P
       record { blocks = blocks_written P its new machine is are.blocks; objects = objects_written P its new machine is are.objects }
 
   pub role_gives : (its : Role) (values : List Value) (machine : Machine) → HasAll machine
-      → Gets (role_value its values machine) (role_machine its values machine)
-  role_gives NewHandle (size ∷ []) machine are = new_gives (makes_block size machine) (size_for size) machine are
+      → Gets (its ≡ NewHandle) (role_value its values machine) (role_machine its values machine)
+  role_gives NewHandle (size ∷ []) machine are = new_gives (NewHandle ≡ NewHandle) refl (makes_block size machine) (size_for size) machine are
   role_gives DisposeHandle (its ∷ []) machine are =
       (inl tt, changed_has disposed (pointer_in its) machine (λ b is. standing_leaves (ended b) (ended b) (standing b.presence) tt tt) are)
   role_gives GetSize (its ∷ []) machine are = (inl tt, are)
@@ -308,12 +309,12 @@ module _ (P : Cell → Type 0) (undefined : P Undefined) (byte : (b : ℕ) → P
           → HasAll (filled (Some v) size machine)
       on its = record { blocks = its.blocks; objects = its.objects }
 
-  made_gives : (z : Bool) (size : ℕ) (machine : Machine) → HasAll machine → Gets (handle_if z machine) (made_block z size machine)
-  made_gives true size machine are = (
-    inr (made_now machine.blocks (record (new_block size) { cells = replicate size (Byte 0) }) (made_block true size machine) refl refl refl),
+  made_gives : (Makes : Type 0) → Makes → (z : Bool) (size : ℕ) (machine : Machine) → HasAll machine → Gets Makes (handle_if z machine) (made_block z size machine)
+  made_gives Makes makes true size machine are = (
+    inr (makes, made_now machine.blocks (record (new_block size) { cells = replicate size (Byte 0) }) (made_block true size machine) refl refl refl),
     block_added machine (record (new_block size) { cells = replicate size (Byte 0) }) (all_same P size (Byte 0) (byte 0)) are,
   )
-  made_gives false size machine are = (inl tt, are)
+  made_gives Makes makes false size machine are = (inl tt, are)
 
   made_object_has : (z : Bool) (size : ℕ) (machine : Machine) → HasAll machine → HasAll (made_object z size machine)
   made_object_has true size machine are =
@@ -321,52 +322,60 @@ module _ (P : Cell → Type 0) (undefined : P Undefined) (byte : (b : ℕ) → P
       (all_same P size (Byte 0) (byte 0)) are
   made_object_has false size machine are = are
 
-  value_gives : (handles : Bool) (size : ℕ) (is_zero : Bool) (machine : Machine) → HasAll machine → OnDone Gets (new_value handles size is_zero machine)
-  value_gives handles size true machine are = (inl tt, are)
-  value_gives true size false machine are = made_gives (has_room machine.blocks size) size machine are
-  value_gives false size false machine are =
+  value_gives : (Makes : Type 0) (handles : Bool) → (handles ≡ true → Makes) → (size : ℕ) (is_zero : Bool) (machine : Machine) → HasAll machine
+      → OnDone (Gets Makes) (new_value handles size is_zero machine)
+  value_gives Makes handles makes size true machine are = (inl tt, are)
+  value_gives Makes true makes size false machine are = made_gives Makes (makes refl) (has_room machine.blocks size) size machine are
+  value_gives Makes false makes size false machine are =
       (inl (object_value (has_room_for size machine) machine), made_object_has (has_room_for size machine) size machine are)
 
+  -- a plain routine makes a handle if its result is a pointer to a pointer
+  abbrev pub MakesHandle : TypeTable → Option TypeId → Type 0
+  MakesHandle types target = points_to_pointer types target ≡ true
+
   pointer_gives : (types : TypeTable) (size : ℕ) (target : Option TypeId) (is_zero : Bool) (machine : Machine) → HasAll machine
-      → OnDone Gets (pointer_result types size target is_zero machine)
-  pointer_gives types size target is_zero machine are = by_test (points_to_pointer types target)
+      → OnDone (Gets (MakesHandle types target)) (pointer_result types size target is_zero machine)
+  pointer_gives types size target is_zero machine are = by_test (points_to_pointer types target) refl
     where
-      by_test : (z : Bool)
-          → OnDone Gets (if z then new_value true (made_size size (pointed_size types target)) is_zero machine
+      by_test : (z : Bool) → points_to_pointer types target ≡ z
+          → OnDone (Gets (MakesHandle types target)) (if z then new_value true (made_size size (pointed_size types target)) is_zero machine
           else new_value false (made_size size (size_at types target)) is_zero machine)
-      by_test true = value_gives true (made_size size (pointed_size types target)) is_zero machine are
-      by_test false = value_gives false (made_size size (size_at types target)) is_zero machine are
+      by_test true so =
+          value_gives (MakesHandle types target) true (λ handles. so) (made_size size (pointed_size types target)) is_zero machine are
+      by_test false so =
+          value_gives (MakesHandle types target) false (λ handles. so ∙ handles) (made_size size (size_at types target)) is_zero machine are
 
   less_has : (machine : Machine) → HasAll machine → HasAll (one_word_less machine)
   less_has machine are = record { blocks = are.blocks; objects = are.objects }
 
   result_gives : (types : TypeTable) (size : ℕ) (kind : Option Integer) (target : Option TypeId) (machine : Machine) → HasAll machine
-      → OnDone Gets (result_by types size kind target machine)
+      → OnDone (Gets (MakesHandle types target)) (result_by types size kind target machine)
   result_gives types size (Some kind) target machine are = (inl tt, less_has machine are)
   result_gives types size None (Some target) machine are =
       pointer_gives types size (Some target) (next_word machine.words == 0) (one_word_less machine) (less_has machine are)
   result_gives types size None None machine are = (inl tt, are)
 
-  then_gives : (why : Option Stop) (machine : Machine) (rest : Done Value) → OnDone Gets rest → OnDone Gets (then_unless why machine rest)
-  then_gives None machine rest is = is
-  then_gives (Some why) machine rest is = tt
+  then_gives : (Makes : Type 0) (why : Option Stop) (machine : Machine) (rest : Done Value) → OnDone (Gets Makes) rest
+      → OnDone (Gets Makes) (then_unless why machine rest)
+  then_gives Makes None machine rest is = is
+  then_gives Makes (Some why) machine rest is = tt
 
   line_gives : (types : TypeTable) (its : Routine) (prototype : Prototype) (values : List Value) (machine : Machine) → HasAll machine
-      → OnDone Gets (after_line types its prototype values machine)
+      → OnDone (Gets (MakesHandle types (pointed types prototype.result))) (after_line types its prototype values machine)
   line_gives types its prototype values machine are = by_size (fill_size types its.fills prototype.parameters)
     where
-      by_size : (size : ℕ) → OnDone Gets (then_unless (first_stop (fill_stops (argument its.fills values) size machine)) machine
+      by_size : (size : ℕ) → OnDone (Gets (MakesHandle types (pointed types prototype.result))) (then_unless (first_stop (fill_stops (argument its.fills values) size machine)) machine
           (result_of types its.size prototype.result (filled (argument its.fills values) size machine)))
       by_size size =
-          then_gives (first_stop (fill_stops (argument its.fills values) size machine)) machine
+          then_gives (MakesHandle types (pointed types prototype.result)) (first_stop (fill_stops (argument its.fills values) size machine)) machine
           (result_of types its.size prototype.result (filled (argument its.fills values) size machine))
           (result_gives types its.size (number_kind types prototype.result) (pointed types prototype.result) (filled (argument its.fills values) size machine)
           (filled_has (argument its.fills values) size machine are))
 
   pub plain_gives : (types : TypeTable) (its : Routine) (prototype : Prototype) (values : List Value) (machine : Machine) → HasAll machine
-      → OnDone Gets (plain types its prototype values machine)
+      → OnDone (Gets (MakesHandle types (pointed types prototype.result))) (plain types its prototype values machine)
   plain_gives types its prototype values machine are =
-      then_gives (first_stop (argument_stops its.fills values machine)) machine
+      then_gives (MakesHandle types (pointed types prototype.result)) (first_stop (argument_stops its.fills values machine)) machine
       (after_line types its prototype values (with_line (line_of its.name types prototype.parameters values) machine))
       (line_gives types its prototype values (with_line (line_of its.name types prototype.parameters values) machine)
       (record { blocks = are.blocks; objects = are.objects }))

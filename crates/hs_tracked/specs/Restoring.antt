@@ -51,6 +51,7 @@ use Rattle.hs_table.specs.declared.role.Role.TheVariants as role
 use Rattle.hs_tracked.specs.Bytes.{AreBytesTracked, has_mark}
 use Rattle.hs_tracked.specs.Calling.{StaysAt, Stays, brings, pointers, stays}
 use Rattle.hs_tracked.specs.Going.{IsAt, leads}
+use Rattle.hs_tracked.specs.Making.{HasAll}
 use Rattle.hs_tracked.specs.Passing.{Passes, HandlePasses, HandleStays, goes_on, pass_pointer}
 use Rattle.hs_tracked.specs.Restorable.{AreListed, FitKinds, IsListed, IsValueListed, restorable_class, restorable_place, restorable_variable}
 use Rattle.hs_tracked.specs.Right.{AreRight, IsIn, apart_blocks}
@@ -314,21 +315,26 @@ module _ (whole : WholeCode) (known : Knowledge) (here : Here) (machine after : 
       pub restored : (rest : List Value) → ((i : ℕ) (u : Value) → at_place i rest ≡ Some u → (i < base) × (at_place i here.stack ≡ Some u))
           → AllByRecursion (IsValueListed (length whole.classes)) rest → (v : Value) → stack ≡ v ∷ rest
           → Tracked whole known next after ws (slot.Place (length rest)) v → TrackedPlaces whole known here machine ws rest
-          → (AllByRecursion (λ block. TrackedCells whole known next after ws block.cells) machine.blocks
-          → AllByRecursion (λ block. TrackedCells whole known next after ws block.cells) after.blocks)
-          → after.objects ≡ machine.objects → FitKinds kinds (length whole.classes) base machine → AreListed (length whole.classes) here machine
+          → (HasAll (TrackedCell whole known next after ws) tt (λ b. tt) machine → HasAll (TrackedCell whole known next after ws) tt (λ b. tt) after)
+          → FitKinds kinds (length whole.classes) base machine → AreListed (length whole.classes) here machine
           → AreTracked whole known here machine ws → AreTracked whole known next after ws
-      restored rest there rest_listed v so result places blocks objects fit listed are =
+      restored rest there rest_listed v so result places cells fit listed are =
           record {
             reached = goes_on whole known here next machine after ws slot.Nothing slot.Nothing status.Reached status.Reached
                 (stays whole known here machine after ws its is_at right lasting stack number_of is slot.Nothing refl status.Reached tt) are.reached;
             places = subst (TrackedPlaces whole known next after ws) (sym so) (result, restored_places rest there rest_listed places);
             variables = λ x u holds. by_variable x u (sym (it.one.values x) ∙ holds);
-            blocks = blocks (restored_blocks machine.blocks listed.blocks are.blocks);
-            objects = subst (AllByRecursion (λ its. TrackedCells whole known next after ws its.cells)) (sym objects)
-                (restored_objects machine.objects listed.objects are.objects);
+            blocks = (cells memory).blocks;
+            objects = (cells memory).objects;
           }
         where
+          memory : HasAll (TrackedCell whole known next after ws) tt (λ b. tt) machine
+          memory =
+              record {
+                blocks = restored_blocks machine.blocks listed.blocks are.blocks;
+                objects = restored_objects machine.objects listed.objects are.objects;
+              }
+
           by_variable : (x : Variable) (u : Value) → value_of machine x ≡ Some u → Tracked whole known next after ws (slot.Variable x) u
           by_variable x u holds =
               restored_value (slot.Variable x) refl u holds
