@@ -115,7 +115,7 @@ module _ (whole : WholeCode) (known : Knowledge) (may : ℕ → May) (sets : ℕ
       ap (λ n. n - taken_by kinds (op.Routine p)) (is_at.deep ∙ sym deep)
       ∙ first_is program may sets impact E ends here ws choices its s good is_at.there deep p is it found prototype proto held
 
-  role_is : (r : Role) → it.routine.role ≡ r → role_at kinds p ≡ Some r
+  pub role_is : (r : Role) → it.routine.role ≡ r → role_at kinds p ≡ Some r
   role_is r so = ap role_in found ∙ ap (λ r. Some r) so
 
   since_of_role : (r : Role) → it.routine.role ≡ r → Since (effects_of r) s.machine.blocks after.blocks
@@ -123,7 +123,7 @@ module _ (whole : WholeCode) (known : Knowledge) (may : ℕ → May) (sets : ℕ
       subst (λ r. Since (effects_of r) s.machine.blocks after.blocks) so
       (role_since program may sets impact E ends here ws choices its s good is_at.there deep p is it found prototype proto held v after ran)
 
-  values : (x : Variable) → value_of after x ≡ value_of s.machine x
+  pub values : (x : Variable) → value_of after x ≡ value_of s.machine x
   values = values_after program may sets impact here ws its (operation.routine p) count s.machine good v after ran refl
 
   -- what lasted still does, if nothing is unlocked
@@ -179,7 +179,7 @@ module _ (whole : WholeCode) (known : Knowledge) (may : ℕ → May) (sets : ℕ
         (effects t.before t.new t.acts) moves (λ m. ap (marks_by facts.restores) (role_is r so) ∙ marks m)
         (λ u. unmarks t.before t.new t.acts (ap unmarks_by (sym (role_is r so)) ∙ u)) lasts
 
-  done_as : (r : Role) → it.routine.role ≡ r → is_plain r ≡ false
+  pub done_as : (r : Role) → it.routine.role ≡ r → is_plain r ≡ false
       → (first_stop (role_stops r (taken count here.stack) s.machine) ≡ None)
       × (as_kind (number_kind program.setting.types prototype.result) (role_value r (taken count here.stack) s.machine) ≡ v)
       × (role_machine r (taken count here.stack) s.machine ≡ after)
@@ -264,7 +264,7 @@ module _ (whole : WholeCode) (known : Knowledge) (may : ℕ → May) (sets : ℕ
   -- ---- HSetState that is a restore
 
   -- the must facts before it, in the round from which they are true
-  abbrev Before : MustFact → Type 0
+  abbrev pub Before : MustFact → Type 0
   Before = HoldsIn (scope_of program here.function) here.function.code impact good.round here.at
 
   are : AllTrue Before here s.machine (since_of may sets here.fn ws)

@@ -264,7 +264,8 @@ module _ (whole : WholeCode) (known : Knowledge) (here : Here) (machine after : 
     )
 
     -- The values below the arguments, variables and cells stay tracked; the result and new cells are as they are given.
-    pub routine : (v : Value) → stack ≡ v ∷ rest → Tracked whole known next after ws (slot.Place (length rest)) v
+    pub routine : (v : Value) → stack ≡ v ∷ rest
+        → (HasAll (TrackedCell whole known next after ws) tt (λ b. tt) machine → Tracked whole known next after ws (slot.Place (length rest)) v)
         → TrackedPlaces whole known here machine ws rest
         → (HasAll (TrackedCell whole known next after ws) tt (λ b. tt) machine → HasAll (TrackedCell whole known next after ws) tt (λ b. tt) after)
         → AreTracked whole known here machine ws → AreTracked whole known next after ws
@@ -272,7 +273,7 @@ module _ (whole : WholeCode) (known : Knowledge) (here : Here) (machine after : 
         record {
           reached = routine_reached acts are.reached;
           places = subst (TrackedPlaces whole known next after ws) (sym so)
-              (result, pass_places whole known here next machine after ws (classes acts) rest (places_pass rest (λ i u has. has)) places);
+              (result memory, pass_places whole known here next machine after ws (classes acts) rest (places_pass rest (λ i u has. has)) places);
           variables = λ x u holds.
               routine_value acts (slot.Variable x) refl u (sym (acts.values x) ∙ holds) (are.variables x u (sym (acts.values x) ∙ holds));
           blocks = (cells memory).blocks;

@@ -18,6 +18,7 @@ pub mod Restorable
 pub mod Restoring
 pub mod Returning
 pub mod Right
+pub mod Routines
 pub mod Setting
 pub mod Shifting
 pub mod Storing

@@ -314,7 +314,8 @@ module _ (whole : WholeCode) (known : Knowledge) (here : Here) (machine after : 
       -- The values below the arguments, variables and cells. The result is as it is given.
       pub restored : (rest : List Value) → ((i : ℕ) (u : Value) → at_place i rest ≡ Some u → (i < base) × (at_place i here.stack ≡ Some u))
           → AllByRecursion (IsValueListed (length whole.classes)) rest → (v : Value) → stack ≡ v ∷ rest
-          → Tracked whole known next after ws (slot.Place (length rest)) v → TrackedPlaces whole known here machine ws rest
+          → (HasAll (TrackedCell whole known next after ws) tt (λ b. tt) machine → Tracked whole known next after ws (slot.Place (length rest)) v)
+          → TrackedPlaces whole known here machine ws rest
           → (HasAll (TrackedCell whole known next after ws) tt (λ b. tt) machine → HasAll (TrackedCell whole known next after ws) tt (λ b. tt) after)
           → FitKinds kinds (length whole.classes) base machine → AreListed (length whole.classes) here machine
           → AreTracked whole known here machine ws → AreTracked whole known next after ws
@@ -322,7 +323,7 @@ module _ (whole : WholeCode) (known : Knowledge) (here : Here) (machine after : 
           record {
             reached = goes_on whole known here next machine after ws slot.Nothing slot.Nothing status.Reached status.Reached
                 (stays whole known here machine after ws its is_at right lasting stack number_of is slot.Nothing refl status.Reached tt) are.reached;
-            places = subst (TrackedPlaces whole known next after ws) (sym so) (result, restored_places rest there rest_listed places);
+            places = subst (TrackedPlaces whole known next after ws) (sym so) (result memory, restored_places rest there rest_listed places);
             variables = λ x u holds. by_variable x u (sym (it.one.values x) ∙ holds);
             blocks = (cells memory).blocks;
             objects = (cells memory).objects;
