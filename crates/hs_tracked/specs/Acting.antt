@@ -2,7 +2,7 @@
 --     acts             a routine that is no restore
 --     restores         one that is: NIL, or the byte is put on the block of the handle
 --     reads            the byte that HGetState gives
-use Rattle.std.proofs.Common.{◌≡◌, ◌⊎◌, inl, inr, ℕ, suc, ◌-◌, ◌+◌, ◌%◌, nat_le, Bool, true, false, not, ◌&&◌, ◌||◌, ◌==◌, List, [], ◌∷◌, length, slice_get, Option, Some, None, Result, Ok, refl, sym, ap, ◌∙◌, subst, arith, true≢false}
+use Rattle.std.proofs.Common.{◌≡◌, ◌⊎◌, inl, inr, ℕ, suc, ◌-◌, ◌+◌, ◌%◌, nat_le, Bool, true, false, not, ◌&&◌, ◌||◌, ◌==◌, List, ◌∷◌, length, slice_get, Option, Some, None, Result, Ok, refl, sym, ap, ◌∙◌, subst, arith, true≢false}
 use Rattle.std.proofs.lemmas.Bool.{and_right, not_from_true}
 use Rattle.std.proofs.lemmas.Bool.Decides.{nat_tests}
 use Rattle.std.proofs.lemmas.Option.{same_Some}
@@ -21,7 +21,7 @@ use Rattle.hs_facts.specs.Rounds.{HoldsIn}
 use Rattle.hs_flow.specs.Given.{Given}
 use Rattle.hs_flow.specs.Next.{marks_by, sets_state, unlocks_by, unmarks_by}
 use Rattle.hs_flow.specs.Programs.{scope_at}
-use Rattle.hs_heap.specs.Blocks.{Block, bit, by_standing, changed, standing, state_of, with_purge_bit}
+use Rattle.hs_heap.specs.Blocks.{Block, bit, by_standing, standing, state_of, with_purge_bit}
 use Rattle.hs_heap.specs.Memory.{block_at}
 use Rattle.hs_heap.specs.Shift.{is_loose, is_present}
 use Rattle.hs_heap.specs.declared.cell.Pointer.TheVariants.{Nil, Handle}

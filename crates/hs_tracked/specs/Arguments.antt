@@ -3,27 +3,25 @@
 --     all_go            so it is of all parameters of a function
 -- The classes of a program begin with those of its objects, and have those of each function's parameters (`classes_of` of `hs_meaning`). So the class of a
 -- parameter that is an object and has a pointer is among them by that definition.
-use Rattle.std.proofs.Common.{◌≡◌, ◌<◌, ◌⊎◌, inl, inr, ℕ, zero, suc, ◌+◌, ◌==◌, nat_lt, Bool, true, false, not, cond, ◌&&◌, ◌||◌, List, [], ◌∷◌, ◌++◌, length, take, slice_get, Option, Some, None, refl, sym, ap, ◌∙◌, subst, arith, if◌then◌else◌}
+use Rattle.std.proofs.Common.{◌≡◌, ◌<◌, ◌⊎◌, inl, inr, ℕ, zero, suc, ◌+◌, nat_lt, Bool, true, false, not, cond, ◌&&◌, List, [], ◌∷◌, ◌++◌, length, take, slice_get, Option, Some, None, refl, sym, ap, ◌∙◌, subst, arith, if◌then◌else◌}
 use Rattle.std.proofs.lemmas.Bool.Decides.{nat_tests}
 use Rattle.std.proofs.lemmas.Option.{none-some, same_Some}
-use Rattle.std.specs.List.{AllByRecursion, list_any, position, position_or_len}
+use Rattle.std.specs.List.{list_any, position, position_or_len}
 use Rattle.hs_calls.specs.Calls.{Here, Wait}
 use Rattle.hs_chains.specs.Knowledge.{Knowledge}
 use Rattle.hs_code.specs.declared.function_code.Placed.{Placed}
 use Rattle.hs_code.specs.declared.op.Op.TheVariants as op
 use Rattle.hs_code_run.specs.Codes.{CodeFunction}
 use Rattle.hs_facts.specs.Effects.{WholeCode}
-use Rattle.hs_flow.specs.Calls.{to_parameter}
 use Rattle.hs_flow.specs.Laws.Parameters.{parameter_there, some_parameter}
-use Rattle.hs_flow.specs.Programs.{class_slot, object_slot, parameter_slot, parameters_in, parameters_of}
+use Rattle.hs_flow.specs.Programs.{class_slot, object_slot, parameter_slot, parameters_in}
 use Rattle.hs_flow.specs.declared.fact.Slot.{Slot}
 use Rattle.hs_flow.specs.declared.fact.Slot.TheVariants as flow_slot
-use Rattle.hs_heap.specs.Blocks.{Block}
 use Rattle.hs_lowering.specs.Laws.Listing.{AllAmong, Among, all_back, all_front, listed_all, placed_in}
 use Rattle.hs_meaning.specs.Classes.{class_if, class_of_type, classes_of, named_block, named_functions, named_globals, named_object, named_variables, same_class}
 use Rattle.hs_meaning.specs.Machine.{Machine, Binding, slot, object_at}
 use Rattle.hs_meaning.specs.Objects.{bindings}
-use Rattle.hs_meaning.specs.Settings.{Setting, access_by, access_of_type, class_number, setting_of}
+use Rattle.hs_meaning.specs.Settings.{Setting, access_by, class_number, setting_of}
 use Rattle.hs_tracked.specs.Beginning.{AllGo, GetsArgument, Goes, GoesToClass}
 use Rattle.hs_tracked.specs.Entering.{argument_gets}
 use Rattle.hs_tracked.specs.Going.{IsAt}
@@ -36,7 +34,6 @@ use Rattle.hs_tree.specs.declared.head.Variable.TheVariants as name
 use Rattle.hs_tree.specs.declared.head.VariableDecl.{VariableDecl}
 use Rattle.hs_types.specs.TypeTables.{TypeTable}
 use Rattle.hs_types.specs.declared.integer.Integer.{Integer}
-use Rattle.hs_types.specs.declared.row.TypeId.{TypeId}
 
 -- ---- classes
 

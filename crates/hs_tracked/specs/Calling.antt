@@ -5,12 +5,10 @@
 --     routine            all that a call has
 --     acts_since         roles that mark and unmark nothing act so
 --     acts_one, acts_nil and so do those that act on the block of their argument, or on NIL
-use Rattle.std.proofs.Common.{ap, ◌≡◌, ◌⊎◌, inl, inr, ℕ, suc, ◌-◌, Bool, true, false, ◌&&◌, List, length, Option, Some, refl, sym, ◌∙◌, subst, true≢false, ◌<◌, zero, [], ◌∷◌, ◌==◌, slice_get, slice_set, arith}
+use Rattle.std.proofs.Common.{ap, ◌≡◌, ◌⊎◌, inl, inr, ℕ, suc, ◌-◌, Bool, true, false, ◌&&◌, List, length, Option, Some, refl, sym, ◌∙◌, subst, true≢false, ◌<◌, zero, [], ◌∷◌, ◌==◌, arith}
 use Rattle.std.proofs.lemmas.Bool.{and_parts}
 use Rattle.std.proofs.lemmas.Bool.Decides.{nat_tests}
 use Rattle.std.proofs.lemmas.Option.{none-some, same_Some}
-use Rattle.std.specs.List.{AllByRecursion}
-use Rattle.hs_base.specs.Entries.{set_there, set_other}
 use Rattle.hs_calls.specs.Calls.{Here, Wait, moved}
 use Rattle.hs_chains.specs.Chains.{Spot as Mark}
 use Rattle.hs_chains.specs.Knowledge.{Knowledge}
@@ -31,9 +29,8 @@ use Rattle.hs_flow.specs.declared.fact.FactStatus.TheVariants as status
 use Rattle.hs_flow.specs.declared.fact.Slot as flow_slot
 use Rattle.hs_flow.specs.declared.fact.Slot.TheVariants as slot
 use Rattle.hs_heap.specs.Blocks.{Block}
-use Rattle.hs_heap.specs.Memory.{block_at, put_block}
+use Rattle.hs_heap.specs.Memory.{block_at}
 use Rattle.hs_heap.specs.declared.cell.Cell.{Cell}
-use Rattle.hs_heap.specs.declared.cell.Pointer.{Pointer}
 use Rattle.hs_heap.specs.declared.cell.Pointer.TheVariants.{Nil, Handle}
 use Rattle.hs_hiding.specs.Holding.{value_of}
 use Rattle.hs_meaning.specs.Machine.{Machine}
@@ -96,6 +93,7 @@ module _ (whole : WholeCode) (known : Knowledge) (here : Here) (machine after : 
     pub epoch : block.epoch ≡ old.epoch
     pub gone : is_purged block.presence ≡ true → is_purged old.presence ≡ true
 
+  -- of all blocks, and of variables and what lasted
   pub record Stays : Type 0 where
     pub blocks : (n : ℕ) (block : Block) → block_at machine.blocks n ≡ Some block → StaysAt n block
     pub values : (x : Variable) → value_of after x ≡ value_of machine x

@@ -5,6 +5,7 @@ pub mod Bringing
 pub mod Bytes
 pub mod Calling
 pub mod Cells
+pub mod Copies
 pub mod Entering
 pub mod Going
 pub mod Leaving

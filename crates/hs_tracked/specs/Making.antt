@@ -4,7 +4,7 @@
 --     role_gives             every role
 --     plain_gives            a plain routine, with the bytes that it fills
 -- A cell without a value is such, and so is a byte.
-use Rattle.std.proofs.Common.{◌≡◌, ◌⊎◌, inl, inr, ℕ, suc, ◌+◌, ◌-◌, ◌==◌, ◌&&◌, Bool, true, false, List, [], ◌∷◌, ◌++◌, length, map, take, replicate, slice_get, Option, Some, None, Result, Ok, Err, refl, sym, ap, ◌∙◌, arith, if◌then◌else◌}
+use Rattle.std.proofs.Common.{◌≡◌, ◌⊎◌, inl, inr, ℕ, ◌+◌, ◌-◌, ◌==◌, ◌&&◌, Bool, true, false, List, [], ◌∷◌, ◌++◌, length, map, take, replicate, Option, Some, None, Result, Ok, Err, refl, ap, ◌∙◌, if◌then◌else◌}
 use Rattle.std.specs.List.{AllByRecursion}
 use Rattle.hs_base.specs.Entries.{all_appended}
 use Rattle.hs_heap.specs.Blocks.{last_life, Block, new_block, standing, by_standing, changed, with_lock, with_purge_bit, with_state, emptied, without_cells, disposed, ended, resized, renewed, reallocated, has_life}
@@ -20,7 +20,7 @@ use Rattle.hs_hiding.specs.Lists.{all_set, all_same, all_take}
 use Rattle.hs_hiding.specs.Roles.{next_there}
 use Rattle.hs_meaning.specs.Accesses.{cells_at, with_cells_at}
 use Rattle.hs_meaning.specs.Handles.{with_result, changed_in, changed_by, is_granted, asked, has_room_after, reshaped_in, reshaped_by, if_granted, any_life, makes_block, makes_object, handle_if, object_if, with_block, with_object_if, disposed_object, size_for}
-use Rattle.hs_meaning.specs.Machine.{Machine, Object, Done, done, stopped, allocated, has_room_for, with_blocks, ended_object}
+use Rattle.hs_meaning.specs.Machine.{Machine, Object, Done, allocated, has_room_for, with_blocks, ended_object}
 use Rattle.hs_meaning.specs.Operations.{as_kind}
 use Rattle.hs_meaning.specs.Plain.{argument, answers, words_for, bytes_of_words, fill_size, fill_stops, filled, one_word_less, made_size, made_block, made_object, points_to_pointer, new_value, pointer_result, result_by, result_of, next_word, pointed_size, then_unless, with_line, line_of, after_line, argument_stops, plain}
 use Rattle.hs_meaning.specs.Roles.{state_in, role_value, role_machine}

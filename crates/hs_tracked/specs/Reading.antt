@@ -3,7 +3,7 @@
 --     bytes_routine         the rows `routine_stays`; and a byte that is read
 --     read_tracked          the row `routine_reads`: the state of a purgeable block is read
 --     bytes_over            the row `over_stays`
-use Rattle.std.proofs.Common.{◌≡◌, ◌<◌, ◌⊎◌, inl, inr, ℕ, zero, suc, ◌-◌, nat_lt, ◌==◌, Bool, true, false, not, ◌&&◌, List, [], ◌∷◌, length, slice_get, Option, Some, None, refl, sym, ap, ◌∙◌, subst, arith, true≢false, if◌then◌else◌}
+use Rattle.std.proofs.Common.{◌≡◌, ◌<◌, ◌⊎◌, inl, inr, ℕ, suc, ◌-◌, nat_lt, ◌==◌, Bool, true, false, not, ◌&&◌, List, [], ◌∷◌, length, Option, Some, refl, sym, ap, ◌∙◌, subst, arith, true≢false, if◌then◌else◌}
 use Rattle.std.proofs.lemmas.Bool.{and_parts}
 use Rattle.std.proofs.lemmas.Bool.Decides.{nat_tests}
 use Rattle.std.proofs.lemmas.Option.{none-some, same_Some}
@@ -14,7 +14,7 @@ use Rattle.hs_code.specs.declared.function_code.FunctionCode.{FunctionCode}
 use Rattle.hs_code.specs.declared.function_code.Placed.{Placed}
 use Rattle.hs_code.specs.declared.op.Op.TheVariants as op
 use Rattle.hs_code_run.specs.Steps.{below}
-use Rattle.hs_facts.specs.Changes.{Impact, UsedIf, MadeIf, BroughtByRole, StaysInRole}
+use Rattle.hs_facts.specs.Changes.{UsedIf, MadeIf, BroughtByRole}
 use Rattle.hs_facts.specs.Effects.{WholeCode, Assigns}
 use Rattle.hs_facts.specs.MustFacts.{MustFact, Saved, Keeper, on_stack, in_slot, KeeperUnder, free_of}
 use Rattle.hs_facts.specs.Names.{same_variable, taken, role_at, uses_handle, makes_handle}

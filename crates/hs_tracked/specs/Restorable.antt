@@ -3,7 +3,7 @@
 --     FitKinds here machine                   variables have values of their kinds
 --     restorable_variable                     a variable that has a pointer
 --     IsListed count cell, AreListed          each pointer in memory is of a class of the program
-use Rattle.std.proofs.Common.{◌≡◌, ◌<◌, ◌+◌, ◌⊎◌, inl, inr, ℕ, zero, suc, nat_lt, ◌&&◌, Bool, true, false, List, [], ◌∷◌, ◌++◌, length, slice_get, Option, Some, None, refl, sym, ap, ◌∙◌, subst, arith}
+use Rattle.std.proofs.Common.{◌≡◌, ◌<◌, ◌+◌, ◌⊎◌, inl, inr, ℕ, zero, suc, nat_lt, ◌&&◌, Bool, true, false, List, [], ◌∷◌, ◌++◌, slice_get, Option, Some, None, refl, ap, ◌∙◌, subst, arith}
 use Rattle.std.proofs.lemmas.Bool.Decides.{nat_tests}
 use Rattle.std.proofs.lemmas.Option.{none-some, same_Some}
 use Rattle.std.specs.List.{AllByRecursion}
@@ -23,7 +23,6 @@ use Rattle.hs_meaning.specs.Machine as machines
 use Rattle.hs_meaning.specs.Machine.{Machine, Binding, object_at, value_of_slot}
 use Rattle.hs_meaning.specs.Objects.{variables_of}
 use Rattle.hs_meaning.specs.Values.{Value, number, pointer, state, structure}
-use Rattle.hs_tree.specs.Classes.{is_slot}
 use Rattle.hs_tree.specs.Kinds.{is_pointer, is_struct_row}
 use Rattle.hs_tree.specs.declared.globals.Global.{Global}
 use Rattle.hs_tree.specs.declared.head.Variable.{Variable}

@@ -5,7 +5,7 @@
 --                          `routine_purgeable`
 --     restored             all that a call has
 -- A slot that is apart from the argument has no handle of that block. Any other slot with a handle is among the restorable ones.
-use Rattle.std.proofs.Common.{◌≡◌, ◌<◌, ◌⊎◌, inl, inr, ℕ, suc, ◌-◌, ◌%◌, ◌==◌, nat_le, Bool, true, false, ◌&&◌, List, [], ◌∷◌, length, slice_get, Option, Some, None, Ok, refl, sym, ap, ◌∙◌, subst, arith, true≢false}
+use Rattle.std.proofs.Common.{◌≡◌, ◌<◌, ◌⊎◌, inl, inr, ℕ, suc, ◌-◌, ◌%◌, ◌==◌, nat_le, Bool, true, false, ◌&&◌, List, [], ◌∷◌, length, slice_get, Option, Some, Ok, refl, sym, ap, ◌∙◌, subst, arith, true≢false}
 use Rattle.std.proofs.lemmas.Bool.{and_parts}
 use Rattle.std.proofs.lemmas.Bool.Decides.{nat_tests}
 use Rattle.std.proofs.lemmas.Option.{same_Some}
@@ -25,7 +25,7 @@ use Rattle.hs_flow.specs.Given.{Given, apart, share_name}
 use Rattle.hs_flow.specs.Laws.Coming as rows
 use Rattle.hs_flow.specs.Laws.Programs.{scope_there}
 use Rattle.hs_flow.specs.Laws.Staying.{is_below_of}
-use Rattle.hs_flow.specs.Next.{sets_state, unlocks_by, unmarks_by}
+use Rattle.hs_flow.specs.Next.{sets_state, unmarks_by}
 use Rattle.hs_flow.specs.Programs.{scope_at}
 use Rattle.hs_flow.specs.Restorable.{restorable}
 use Rattle.hs_flow.specs.Slots.{is_below}
@@ -52,7 +52,7 @@ use Rattle.hs_tracked.specs.Bytes.{AreBytesTracked, has_mark}
 use Rattle.hs_tracked.specs.Calling.{StaysAt, Stays, brings, pointers, stays}
 use Rattle.hs_tracked.specs.Going.{IsAt, leads}
 use Rattle.hs_tracked.specs.Making.{HasAll}
-use Rattle.hs_tracked.specs.Passing.{Passes, HandlePasses, HandleStays, goes_on, pass_pointer}
+use Rattle.hs_tracked.specs.Passing.{Passes, HandleStays, goes_on, pass_pointer}
 use Rattle.hs_tracked.specs.Restorable.{AreListed, FitKinds, IsListed, IsValueListed, restorable_class, restorable_place, restorable_variable}
 use Rattle.hs_tracked.specs.Right.{AreRight, IsIn, apart_blocks}
 use Rattle.hs_tracked.specs.Tracking.{HasChain, TrackedCell, TrackedCells, Tracked, TrackedPlaces, AreTracked}
@@ -235,8 +235,11 @@ module _ (whole : WholeCode) (known : Knowledge) (here : Here) (machine after : 
             block = block;
             there = it.one.others k other ∙ there;
             marked = λ so.
-                inr (inl (so, brings whole known here machine after ws its is_at right lasting stack number_of is of low status.Purgeable status.Purgeable
-                (rows.routine_purgeable kinds (length whole.classes) facts number_of of unmarks low)));
+                inr (inl (
+                  so,
+                  brings whole known here machine after ws its is_at right lasting stack number_of is of low status.Purgeable status.Purgeable
+                      (rows.routine_purgeable kinds (length whole.classes) facts number_of of unmarks low),
+                ));
             gone = λ so. inr (inr (so, stays whole known here machine after ws its is_at right lasting stack number_of is of low status.Hollow tt));
           }
         where

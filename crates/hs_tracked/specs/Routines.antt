@@ -1,9 +1,11 @@
 -- The step of a routine: all that the call has stays tracked, and so do its state bytes (own).
+--     tracked_below       the values below some
+--     points_same         a pointer to a pointer
 --     gives               what the routine leaves in memory, and what it gives
 --     routine_tracked     the law
-use Rattle.std.proofs.Common.{◌≡◌, ◌<◌, ◌⊎◌, inl, inr, ℕ, zero, suc, ◌-◌, Bool, true, false, ◌&&◌, List, [], ◌∷◌, length, slice_get, Option, Some, None, refl, sym, ap, ◌∙◌, subst, arith, true≢false}
+-- The words below are those of `Acting`, over the same operation.
+use Rattle.std.proofs.Common.{◌≡◌, ◌<◌, ◌⊎◌, inl, inr, ℕ, zero, suc, ◌-◌, Bool, true, false, ◌&&◌, List, [], ◌∷◌, length, slice_get, Option, Some, None, refl, sym, ap, ◌∙◌, subst, true≢false}
 use Rattle.std.proofs.lemmas.Option.{same_Some}
-use Rattle.std.specs.List.{AllByRecursion}
 use Rattle.hs_calls.specs.Calls.{Here, Wait, moved, steady_in}
 use Rattle.hs_chains.specs.Knowledge.{Knowledge, IsGiven as IsKnown}
 use Rattle.hs_code.specs.Stacks.{Scope, routine_signature, signature_of}
@@ -22,9 +24,8 @@ use Rattle.hs_flow.specs.declared.fact.Slot.TheVariants as slot
 use Rattle.hs_heap.specs.declared.cell.Cell.{Cell}
 use Rattle.hs_heap.specs.declared.cell.Cell.TheVariants.{Undefined, Byte}
 use Rattle.hs_heap.specs.declared.cell.Pointer.TheVariants.{Nil, Fixed, Handle, Spot}
-use Rattle.hs_hiding.specs.Holding.{OnDone, value_of}
+use Rattle.hs_hiding.specs.Holding.{OnDone}
 use Rattle.hs_meaning.specs.Machine.{Machine, done}
-use Rattle.hs_meaning.specs.Operations as operation
 use Rattle.hs_meaning.specs.Operations.{as_kind, called_by, is_plain}
 use Rattle.hs_meaning.specs.Plain as filling
 use Rattle.hs_meaning.specs.Plain.{plain}
@@ -37,7 +38,7 @@ use Rattle.hs_role_truth.specs.RoleFacts.{Runs, called_runs}
 use Rattle.hs_sound_heap.specs.Since.{May}
 use Rattle.hs_table.specs.declared.role.Role.{Role}
 use Rattle.hs_table.specs.declared.role.Role.TheVariants as role
-use Rattle.hs_tracked.specs.Acting.{Before, ItActs, ItRestores, acts, base_is, done_as, new_stack, reads, restores, role_is, still_lasting, values}
+use Rattle.hs_tracked.specs.Acting.{Before, ItActs, ItRestores, acts, base_is, done_as, reads, restores, role_is, values}
 use Rattle.hs_tracked.specs.Bytes.{AreBytesTracked, AreKept, IsRead}
 use Rattle.hs_tracked.specs.Calling.{made_value, routine}
 use Rattle.hs_tracked.specs.Going.{IsAt}
@@ -47,10 +48,9 @@ use Rattle.hs_tracked.specs.Restorable.{AreListed, FitKinds, IsValueListed}
 use Rattle.hs_tracked.specs.Restoring.{restored}
 use Rattle.hs_tracked.specs.Right.{AreRight}
 use Rattle.hs_tracked.specs.Tracking.{TrackedCell, Tracked, TrackedPlaces, AreTracked}
-use Rattle.hs_tree.specs.Kinds.{is_pointer, number_kind, pointed}
+use Rattle.hs_tree.specs.Kinds.{number_kind, pointed}
 use Rattle.hs_tree.specs.declared.function.BoundRoutine.{BoundRoutine}
 use Rattle.hs_tree.specs.declared.function.Prototype.{Prototype}
-use Rattle.hs_tree.specs.declared.head.Variable.{Variable}
 use Rattle.hs_truth.specs.Good.{Good}
 use Rattle.hs_truth.specs.Places.{all_below, at_place, below_place, place_low, the_top, under_top}
 use Rattle.hs_types.specs.TypeTables.{TypeTable}
@@ -115,7 +115,8 @@ module _ (whole : WholeCode) (known : Knowledge) (may : ℕ → May) (sets : ℕ
   first_of : its.places - taken_by kinds (op.Routine p) ≡ length rest
   first_of = ap (λ n. n - taken_by kinds (op.Routine p)) (deep ∙ sym is_at.deep) ∙ first_is_base
 
-  its_role : (r : Role) → it.routine.role ≡ r → role_at kinds p ≡ Some r
+  -- its role, as the analysis knows it
+  abbrev its_role : (r : Role) → it.routine.role ≡ r → role_at kinds p ≡ Some r
   its_role = role_is whole known may sets impact E ends here ws choices its s good deep is_at right p is it found prototype proto held v after ran
 
   -- ---- what it gives
