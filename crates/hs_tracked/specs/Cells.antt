@@ -54,7 +54,8 @@ module _ (P : Cell → Type 0) where
 
   -- ---- writing
 
-  from_written : (at : ℤ) (new cells : List Cell) → AllByRecursion P new → AllByRecursion P cells → AllByRecursion P (with_cells_from at new cells)
+  -- the cells of one object with others from a place on
+  pub from_written : (at : ℤ) (new cells : List Cell) → AllByRecursion P new → AllByRecursion P cells → AllByRecursion P (with_cells_from at new cells)
   from_written at new cells is are =
       all_appended P (take (start_at at) cells ++ new) (drop (start_at at + length new) cells)
       (all_appended P (take (start_at at) cells) new (all_take P (start_at at) cells are) is) (all_drop P (start_at at + length new) cells are)
