@@ -1,31 +1,39 @@
 -- Each argument goes where its parameter is (own).
 --     class_there       a pointer in a parameter that is an object is of a class of the program
 --     all_go            so it is of all parameters of a function
+--     are_arguments     the arguments are tracked in the caller
+--     call_begun        so all that the function has is tracked
 -- The classes of a program begin with those of its objects, and have those of each function's parameters (`classes_of` of `hs_meaning`). So the class of a
 -- parameter that is an object and has a pointer is among them by that definition.
 use Rattle.std.proofs.Common.{◌≡◌, ◌<◌, ◌⊎◌, inl, inr, ℕ, zero, suc, ◌+◌, nat_lt, Bool, true, false, not, cond, ◌&&◌, List, [], ◌∷◌, ◌++◌, length, take, slice_get, Option, Some, None, refl, sym, ap, ◌∙◌, subst, arith, if◌then◌else◌}
 use Rattle.std.proofs.lemmas.Bool.Decides.{nat_tests}
 use Rattle.std.proofs.lemmas.Option.{none-some, same_Some}
 use Rattle.std.specs.List.{list_any, position, position_or_len}
-use Rattle.hs_calls.specs.Calls.{Here, Wait}
+use Rattle.hs_calls.specs.Calls.{Here, Wait, beginning}
 use Rattle.hs_chains.specs.Knowledge.{Knowledge}
 use Rattle.hs_code.specs.declared.function_code.Placed.{Placed}
 use Rattle.hs_code.specs.declared.op.Op.TheVariants as op
 use Rattle.hs_code_run.specs.Codes.{CodeFunction}
 use Rattle.hs_facts.specs.Effects.{WholeCode}
+use Rattle.hs_code_run.specs.Steps.{below, taken, taken_onto}
+use Rattle.hs_flow.specs.Calls.{base_of}
 use Rattle.hs_flow.specs.Laws.Parameters.{parameter_there, some_parameter}
-use Rattle.hs_flow.specs.Programs.{class_slot, object_slot, parameter_slot, parameters_in}
+use Rattle.hs_flow.specs.Programs.{class_slot, object_slot, parameter_slot, parameters_in, parameters_of}
 use Rattle.hs_flow.specs.declared.fact.Slot.{Slot}
 use Rattle.hs_flow.specs.declared.fact.Slot.TheVariants as flow_slot
+use Rattle.hs_hiding.specs.Calls.{SameOutside}
 use Rattle.hs_lowering.specs.Laws.Listing.{AllAmong, Among, all_back, all_front, listed_all, placed_in}
 use Rattle.hs_meaning.specs.Classes.{class_if, class_of_type, classes_of, named_block, named_functions, named_globals, named_object, named_variables, same_class}
-use Rattle.hs_meaning.specs.Machine.{Machine, Binding, slot, object_at}
+use Rattle.hs_meaning.specs.Machine.{Machine, Binding, done, slot, object_at}
+use Rattle.hs_meaning.specs.Frames.{opened}
 use Rattle.hs_meaning.specs.Objects.{bindings}
 use Rattle.hs_meaning.specs.Settings.{Setting, access_by, class_number, setting_of}
-use Rattle.hs_tracked.specs.Beginning.{AllGo, GetsArgument, Goes, GoesToClass}
+use Rattle.hs_meaning.specs.Values.{Value}
+use Rattle.hs_tracked.specs.Beginning.{AllGo, AreArguments, GetsArgument, Goes, GoesToClass, begun, same}
 use Rattle.hs_tracked.specs.Entering.{argument_gets}
 use Rattle.hs_tracked.specs.Going.{IsAt}
 use Rattle.hs_tracked.specs.Right.{AreRight}
+use Rattle.hs_tracked.specs.Tracking.{Tracked, TrackedPlaces, AreTracked}
 use Rattle.hs_tree.specs.Classes.{is_slot}
 use Rattle.hs_tree.specs.Kinds.{is_pointer, number_kind}
 use Rattle.hs_tree.specs.Trees.{TypedFunction, TypedProgram}
@@ -228,3 +236,63 @@ module _ (whole : WholeCode) (known : Knowledge) (here : Here) (machine : Machin
     where
       from_zero : (n : ℕ) → n ≡ 0 + n
       from_zero n = omega arith
+
+  -- ---- the arguments
+
+  -- the values from a place of the caller's stack on
+  abbrev FromPlace : ℕ → List Value → Type 0
+  FromPlace place [] = Unit {0}
+  FromPlace place (v ∷ values) = Tracked whole known here machine ws (flow_slot.Place place) v × FromPlace (suc place) values
+
+  taken_tracked : (k : ℕ) (stack onto : List Value) → TrackedPlaces whole known here machine ws stack → FromPlace (length stack) onto
+      → FromPlace (length (below k stack)) (taken_onto k stack onto)
+  taken_tracked zero stack onto are above = above
+  taken_tracked (suc k) [] onto are above = above
+  taken_tracked (suc k) (v ∷ stack) onto are above = taken_tracked k stack (v ∷ onto) are.1 (are.0, above)
+
+  as_arguments : (place : ℕ) (values : List Value) → FromPlace (base_of (parameters_of whole fn) (known.at here.fn here.at) + place) values
+      → AreArguments whole known here machine ws its is_at fn function calls of_function right setting place values
+  as_arguments place [] are = tt
+  as_arguments place (v ∷ values) are = (
+    are.0,
+    as_arguments (suc place) values
+        (subst (λ n. FromPlace n values) (one_on (base_of (parameters_of whole fn) (known.at here.fn here.at)) place) are.1),
+  )
+    where
+      one_on : (a b : ℕ) → suc (a + b) ≡ a + suc b
+      one_on a b = omega arith
+
+  -- The arguments of the call are tracked in the caller, if the values below them are as many as the analysis knows.
+  pub are_arguments : (k : ℕ) → base_of (parameters_of whole fn) (known.at here.fn here.at) ≡ length (below k here.stack)
+      → TrackedPlaces whole known here machine ws here.stack
+      → AreArguments whole known here machine ws its is_at fn function calls of_function right setting 0 (taken k here.stack)
+  are_arguments k low are =
+      as_arguments 0 (taken k here.stack)
+      (subst (λ n. FromPlace n (taken k here.stack)) (sym low ∙ no_more (base_of (parameters_of whole fn) (known.at here.fn here.at)))
+      (taken_tracked k here.stack [] are tt))
+    where
+      no_more : (n : ℕ) → n ≡ n + 0
+      no_more n = omega arith
+
+-- ---- the begin of a call
+
+module _ (whole : WholeCode) (known : Knowledge) (here : Here) (machine : Machine) (ws : List Wait) (its : Placed) (is_at : IsAt whole known here its)
+    (fn : ℕ) (function : CodeFunction) (calls : its.op ≡ op.Call fn) (of_function : fn < length whole.functions)
+    (right : AreRight whole known here machine) (typed : TypedFunction) (found : slice_get whole.program.functions fn ≡ Some typed)
+    (classes : whole.classes ≡ classes_of whole.program) (after : Machine) (k : ℕ)
+    (opens : opened (setting_of whole.program) typed.parameters typed.variables (taken k here.stack) machine ≡ done tt after) where
+  -- blocks and variables of the program are as they were
+  outside : SameOutside machine after
+  outside =
+      same whole known here machine ws its is_at fn function calls of_function right (setting_of whole.program) typed.parameters typed.variables
+      (taken k here.stack) after opens
+
+  -- The function that is called begins with all tracked.
+  pub call_begun : base_of (parameters_of whole fn) (known.at here.fn here.at) ≡ length (below k here.stack) → AreTracked whole known here machine ws
+      → AreTracked whole known (beginning fn function machine) after (record { here = here; machine = machine; called = fn; callee = function } ∷ ws)
+  call_begun low are =
+      begun whole known here machine ws its is_at fn function calls of_function right (setting_of whole.program) typed.parameters typed.variables
+      (taken k here.stack) after opens
+      (all_go whole known here machine ws its is_at fn function calls of_function right after outside.blocks typed found classes)
+      (are_arguments whole known here machine ws its is_at fn function calls of_function right after outside.blocks typed found classes k low are.places)
+      are

@@ -22,5 +22,6 @@ pub mod Right
 pub mod Routines
 pub mod Setting
 pub mod Shifting
+pub mod Starting
 pub mod Storing
 pub mod Tracking

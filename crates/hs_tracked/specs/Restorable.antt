@@ -9,7 +9,7 @@ use Rattle.std.proofs.lemmas.Option.{none-some, same_Some}
 use Rattle.std.specs.List.{AllByRecursion}
 use Rattle.hs_calls.specs.Calls.{Here}
 use Rattle.hs_code.specs.Stacks as kind
-use Rattle.hs_code.specs.Stacks.{Kind, Scope, kind_of}
+use Rattle.hs_code.specs.Stacks.{Scope}
 use Rattle.hs_flow.specs.Among.{Among, among_left, among_right, among_slot}
 use Rattle.hs_flow.specs.Restorable.{classes_below, is_pointer_slot, places_below, pointer_globals, pointer_locals, restorable}
 use Rattle.hs_flow.specs.Slots.{slot_if}
