@@ -244,8 +244,7 @@ module _ (whole : WholeCode) (known : Knowledge) (here : Here) (machine : Machin
         (one_given start place variable.type_id v m (slice_get m.locals place)
         (subst (Goes whole known here fn setting place variable.type_id) (sym (filled.later place (omega arith))) go.0) are.0 filled)
         (λ it after filled'. all_given start (suc place) rest values after go.1 are.1 filled')
-
-      -- ---- what is in memory
+        -- ---- what is in memory
 
     old_objects : (objects : List Object) → AllByRecursion (λ object. TrackedCells whole known here machine ws object.cells) objects → InObjects CellIs objects
     old_objects [] are = tt

@@ -265,7 +265,7 @@ module _ (whole : WholeCode) (known : Knowledge) (classes : whole.classes ≡ cl
           variables = λ x v is. plain_tracked framed (places.Variable x) v (plain_values x v is);
           blocks = tt;
           objects = each_object (IsStarting (length (classes_of whole.program))) (TrackedCell whole known main_call framed []) (cell_tracked framed) framed.objects
-                all_cells;
+              all_cells;
         }),
     bytes_begun whole known main_call after [] refl,
     subst (λ m. AreListed (length whole.classes) main_call m) begun_is
