@@ -25,3 +25,4 @@ pub mod Shifting
 pub mod Starting
 pub mod Storing
 pub mod Tracking
+pub mod Within
