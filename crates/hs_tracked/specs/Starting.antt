@@ -3,9 +3,9 @@
 --     starting_cells              all cells before `main` is called
 --     starting_globals            the values of the variables of the program
 --     main_begun                  all that the call of `main` has is tracked, and so are its state bytes; each pointer in memory is of a class of the program
-use Rattle.std.proofs.Common.{◌≡◌, ◌<◌, ◌&&◌, ◌++◌, ℕ, zero, suc, pos, Bool, true, false, List, [], ◌∷◌, length, map, replicate, take, slice_get, Option, Some, None, refl, sym, ap, ◌∙◌, subst, if◌then◌else◌}
+use Rattle.std.proofs.Common.{◌≡◌, ◌<◌, ◌++◌, ℕ, zero, suc, pos, Bool, true, false, List, [], ◌∷◌, length, map, replicate, take, slice_get, Option, Some, None, refl, sym, subst, if◌then◌else◌}
 use Rattle.std.proofs.lemmas.Option.{none-some, same_Some}
-use Rattle.std.specs.List.{AllByRecursion, position_or_len}
+use Rattle.std.specs.List.{AllByRecursion}
 use Rattle.hs_base.specs.Entries.{all_appended}
 use Rattle.hs_calls.specs.Calls.{Here, beginning}
 use Rattle.hs_chains.specs.Chains.{begins}
@@ -20,11 +20,11 @@ use Rattle.hs_heap.specs.declared.cell.Pointer.{Pointer}
 use Rattle.hs_heap.specs.declared.cell.Pointer.TheVariants.{Nil, Fixed, Handle, Spot}
 use Rattle.hs_hiding.specs.Holding.{value_of}
 use Rattle.hs_hiding.specs.Lists.{all_same}
-use Rattle.hs_lowering.specs.Laws.Listing.{AllAmong, Among, all_back, all_front, listed_all, placed_in}
+use Rattle.hs_lowering.specs.Laws.Listing.{AllAmong, all_back, all_front, listed_all, placed_in}
 use Rattle.hs_meaning.specs.Accesses.{with_cells_from}
 use Rattle.hs_meaning.specs.Classes.{class_if, class_of_scalar, classes_of, named_functions, named_globals, named_parts, same_class}
 use Rattle.hs_meaning.specs.Frames.{given_all, has_frame, in_frame, opened, opened_if}
-use Rattle.hs_meaning.specs.Machine.{Machine, Binding, Done, done, slot, object_at, value_of_slot}
+use Rattle.hs_meaning.specs.Machine.{Machine, Done, done, slot, object_at, value_of_slot}
 use Rattle.hs_meaning.specs.Objects.{access_of_part, bindings, constant_value, literal_object, objects_for, starting_bindings, starting_machine, starting_object, starting_objects, starting_value, with_parts}
 use Rattle.hs_meaning.specs.Settings.{Setting, access_by, setting_of}
 use Rattle.hs_meaning.specs.Values.{Access, Value, number, pointer, state, structure, of_number, of_pointer, of_struct, bytes_of, cells_for}
@@ -34,7 +34,7 @@ use Rattle.hs_tracked.specs.Bytes.{AreBytesTracked, bytes_begun}
 use Rattle.hs_tracked.specs.Cells.{InObjects, each_object, from_written}
 use Rattle.hs_tracked.specs.Making.{HasNoFacts}
 use Rattle.hs_tracked.specs.Restorable.{AreListed, IsListed, IsValueListed}
-use Rattle.hs_tracked.specs.Tracking.{TrackedCell, TrackedCells, Tracked, AreTracked}
+use Rattle.hs_tracked.specs.Tracking.{TrackedCell, Tracked, AreTracked}
 use Rattle.hs_tree.specs.Classes.{is_slot}
 use Rattle.hs_tree.specs.Kinds.{is_pointer, number_kind}
 use Rattle.hs_tree.specs.Trees.{TypedProgram}

@@ -1,52 +1,48 @@
--- A step of the machine inside a call is one of these operations, and keeps all tracked (own).
+-- A step of the machine inside a call, at an operation of numbers, of the stack, of control or of variables, keeps all tracked (own).
 --     Goes             the call goes on, and all that it has is tracked
---     within_tracked   each operation, but for Shift and Bring
+--     IsOrdinary       such an operation: no load or store, no step of a pointer, no Shift, no routine, no call
+--     within_tracked   the step
 -- What lasted still does, if the block could not move after the step and got no new cells by it.
-use Rattle.std.proofs.Common.{◌≡◌, ◌<◌, ◌⊎◌, inl, inr, ℤ, ℕ, zero, suc, pos, ◌-◌, ◌==◌, Bool, true, false, ◌&&◌, List, [], ◌∷◌, length, map, slice_get, Option, Some, None, Ok, Err, Result, refl, sym, ap, ◌∙◌, subst, arith, if◌then◌else◌}
-use Rattle.std.proofs.lemmas.Option.{same_Some}
+use Rattle.std.proofs.Common.{◌≡◌, ◌<◌, ◌⊎◌, inl, inr, ℕ, zero, suc, pos, ◌-◌, ◌==◌, Bool, true, false, ◌&&◌, List, [], ◌∷◌, length, map, Option, Some, None, refl, sym, ap, ◌∙◌, subst, arith}
 use Rattle.hs_calls.specs.Calls.{Here, Wait, moved, point_of, steady_in, waiting_of}
-use Rattle.hs_calls.specs.Stacks.{RanTo, is_inside}
+use Rattle.hs_calls.specs.Stacks.{RanTo}
 use Rattle.hs_chains.specs.Knowledge.{Knowledge}
 use Rattle.hs_code.specs.Following.{IsNext}
 use Rattle.hs_code.specs.Stacks.{Scope}
 use Rattle.hs_code.specs.declared.function_code.Placed.{Placed}
-use Rattle.hs_code.specs.declared.op.Access as code_access
-use Rattle.hs_code.specs.declared.op.Access.TheVariants as access
+use Rattle.hs_code.specs.declared.op.Binary.{Binary}
 use Rattle.hs_code.specs.declared.op.Binary.TheVariants as binary
+use Rattle.hs_code.specs.declared.op.Goal.{Goal}
 use Rattle.hs_code.specs.declared.op.Object.{Object}
 use Rattle.hs_code.specs.declared.op.Object.TheVariants as object
 use Rattle.hs_code.specs.declared.op.Op.{Op}
 use Rattle.hs_code.specs.declared.op.Op.TheVariants as op
+use Rattle.hs_code.specs.declared.op.Unary.{Unary}
 use Rattle.hs_code.specs.declared.op.Unary.TheVariants as unary
 use Rattle.hs_code_run.specs.Codes.{CodeProgram, Point}
 use Rattle.hs_code_run.specs.Laws.Depths.Control.{case_follows}
-use Rattle.hs_code_run.specs.Steps.{access_of, address_at, by_stack, case_for, later_choices, next_choice, onto, onto_if, onward}
+use Rattle.hs_code_run.specs.Steps.{by_stack, case_for, later_choices, next_choice, onto, onto_if, onward}
 use Rattle.hs_facts.specs.Effects.{WholeCode}
 use Rattle.hs_facts.specs.Names.{taken as taken_by}
 use Rattle.hs_flow.specs.Laws.Staying.{LeavesSlots}
 use Rattle.hs_flow.specs.Programs.{scope_at}
 use Rattle.hs_flow.specs.declared.fact.Slot.TheVariants as slot
-use Rattle.hs_heap.specs.declared.cell.Pointer.{Pointer}
-use Rattle.hs_heap.specs.declared.cell.Pointer.TheVariants.{Nil, Fixed, Handle, Spot}
-use Rattle.hs_heap.specs.Blocks.{Block, master_of}
-use Rattle.hs_heap.specs.Memory.{block_at}
+use Rattle.hs_heap.specs.declared.cell.Pointer.TheVariants.{Nil, Fixed}
 use Rattle.hs_hiding.specs.Holding.{value_of}
-use Rattle.hs_meaning.specs.Accesses.{by_stop, cells_at, loaded, master_in, master_pointer, stored, use_stops, with_cells_at}
+use Rattle.hs_meaning.specs.Accesses.{by_stop}
 use Rattle.hs_meaning.specs.Evaluation.{address_of, located}
 use Rattle.hs_meaning.specs.Machine as machines
 use Rattle.hs_meaning.specs.Machine.{Machine, Binding, Done, done, stopped, binding_of, with_value}
 use Rattle.hs_meaning.specs.Objects.{object_of_base}
-use Rattle.hs_meaning.specs.Operations as operation
-use Rattle.hs_meaning.specs.Operations.{converted_value, convert_stop, slot_stop}
-use Rattle.hs_meaning.specs.Pointers.{moved_by, moved_stop}
+use Rattle.hs_meaning.specs.Operations.{converted_value, slot_stop}
 use Rattle.hs_meaning.specs.Steps.{State, Step, give, ran_at, then_with, turn_from, used}
-use Rattle.hs_meaning.specs.Stops.{Stops, first_stop, heap_stop}
-use Rattle.hs_meaning.specs.Values.{Value, number, pointer, state, structure, bits_in, length_of, number_stop, of_number, of_pointer, of_struct, or_nothing, store_stop, value_in}
+use Rattle.hs_meaning.specs.Stops.{first_stop}
+use Rattle.hs_meaning.specs.Values.{Value, number, pointer, state, structure, bits_in, number_stop, or_nothing}
 use Rattle.hs_meaning.specs.declared.outcome.Outcome.{Outcome}
 use Rattle.hs_meaning.specs.declared.outcome.Stop.{Stop}
 use Rattle.hs_sound_heap.specs.Roles.{nothing}
 use Rattle.hs_sound_heap.specs.Since.{Since, since_refl}
-use Rattle.hs_tracked.specs.Bytes.{AreBytesTracked, AreKept, BringsNoByte, bytes_stay}
+use Rattle.hs_tracked.specs.Bytes.{AreBytesTracked, BringsNoByte, bytes_stay}
 use Rattle.hs_tracked.specs.Copies.{bytes_conv, bytes_dup, bytes_get, bytes_set, bytes_tuck}
 use Rattle.hs_tracked.specs.Going.{IsAt}
 use Rattle.hs_tracked.specs.Moving.{drops, dup, get, pushes, tuck}
@@ -55,6 +51,7 @@ use Rattle.hs_tracked.specs.Setting.{set}
 use Rattle.hs_tracked.specs.Tracking.{Tracked, TrackedPlaces, AreTracked}
 use Rattle.hs_tree.specs.declared.constant.Base.TheVariants as base
 use Rattle.hs_tree.specs.declared.head.Variable.{Variable}
+use Rattle.hs_tree.specs.declared.operators.Comparison.{Comparison}
 use Rattle.hs_true.specs.Setting.{IsSlot, blocks_stay}
 use Rattle.hs_truth.specs.Owing.{steady_since}
 use Rattle.hs_truth.specs.Places.{at_place, under_top}
@@ -321,3 +318,119 @@ module _ (whole : WholeCode) (known : Knowledge) (program : CodeProgram) (E : Ou
       by_bit : (b : Bool) → Goes (onto_if b (point_on (v ∷ rest)) target rest) s
       by_bit true = to target (inr refl)
       by_bit false = to (suc here.at) (inl refl)
+
+  choose_goes : (goal : Goal) → its.op ≡ op.Choose goal → (stack : List Value) → here.stack ≡ stack → StepOn (op.Choose goal) stack
+  choose_goes goal is [] so = ends _ _
+  choose_goes goal is (v ∷ rest) so =
+      used_goes v (λ bits. give (onto (point_on (v ∷ rest)) (case_for bits goal here.function.code.cases) rest))
+      (λ bits.
+      drop_goes (op.Choose goal) is tt tt rest (takes_one (op.Choose goal) refl v rest so) (case_for bits goal here.function.code.cases)
+      (case_follows bits goal here.function.code.cases) choices s.turns)
+
+  drop_one : its.op ≡ op.Drop → (stack : List Value) → here.stack ≡ stack → StepOn op.Drop stack
+  drop_one is [] so = ends _ _
+  drop_one is (v ∷ rest) so = drop_goes op.Drop is tt tt rest (takes_one op.Drop refl v rest so) (suc here.at) refl choices s.turns
+
+  turn_goes : its.op ≡ op.Turn → (stack : List Value) → here.stack ≡ stack → (turns : ℕ)
+      → RanTo E Goes (then_with (λ it. give (onward (point_on stack) stack)) (turn_from turns s))
+  turn_goes is stack so zero = ends _ _
+  turn_goes is stack so (suc left) = drop_goes op.Turn is tt tt stack (takes_none op.Turn refl stack so) (suc here.at) refl choices left
+
+  pick_goes : (target : ℕ) → its.op ≡ op.Pick target → (stack : List Value) → here.stack ≡ stack → (b : Bool)
+      → Goes (record (onto_if b (point_on stack) target stack) { choices = later_choices choices }) s
+  pick_goes target is stack so true =
+      drop_goes (op.Pick target) is tt tt stack (takes_none (op.Pick target) refl stack so) target (inr refl) (later_choices choices) s.turns
+  pick_goes target is stack so false =
+      drop_goes (op.Pick target) is tt tt stack (takes_none (op.Pick target) refl stack so) (suc here.at) (inl refl) (later_choices choices) s.turns
+
+  -- ---- numbers
+
+  sign_goes : (u : Unary) → its.op ≡ op.Unary u → (stack : List Value) → here.stack ≡ stack → StepOn (op.Unary u) stack
+  sign_goes (unary.Sign o) is [] so = ends _ _
+  sign_goes (unary.Sign o) is (v ∷ rest) so =
+      number_goes (op.Unary (unary.Sign o)) is tt tt rest (takes_one (op.Unary (unary.Sign o)) refl v rest so) refl _ _ (v ∷ rest)
+  sign_goes unary.Not is [] so = ends _ _
+  sign_goes unary.Not is (v ∷ rest) so =
+      number_goes (op.Unary unary.Not) is tt tt rest (takes_one (op.Unary unary.Not) refl v rest so) refl _ _ (v ∷ rest)
+
+  binary_goes : (b : Binary) (kind : Integer) → its.op ≡ op.Binary b kind → (stack : List Value) → here.stack ≡ stack → StepOn (op.Binary b kind) stack
+  binary_goes (binary.Arithmetic o) kind is [] so = ends _ _
+  binary_goes (binary.Arithmetic o) kind is (v ∷ []) so = ends _ _
+  binary_goes (binary.Arithmetic o) kind is (v ∷ under ∷ rest) so =
+      number_goes (op.Binary (binary.Arithmetic o) kind) is tt tt rest (takes_two (op.Binary (binary.Arithmetic o) kind) refl v under rest so) refl _ _
+      (v ∷ under ∷ rest)
+  binary_goes (binary.Comparison o) kind is [] so = ends _ _
+  binary_goes (binary.Comparison o) kind is (v ∷ []) so = ends _ _
+  binary_goes (binary.Comparison o) kind is (v ∷ under ∷ rest) so =
+      number_goes (op.Binary (binary.Comparison o) kind) is tt tt rest (takes_two (op.Binary (binary.Comparison o) kind) refl v under rest so) refl _ _
+      (v ∷ under ∷ rest)
+
+  is_nil_goes : its.op ≡ op.IsNil → (stack : List Value) → here.stack ≡ stack → StepOn op.IsNil stack
+  is_nil_goes is [] so = ends _ _
+  is_nil_goes is (v ∷ rest) so = number_goes op.IsNil is tt tt rest (takes_one op.IsNil refl v rest so) refl _ _ (v ∷ rest)
+
+  compare_goes : (c : Comparison) → its.op ≡ op.Compare c → (stack : List Value) → here.stack ≡ stack → StepOn (op.Compare c) stack
+  compare_goes c is [] so = ends _ _
+  compare_goes c is (v ∷ []) so = ends _ _
+  compare_goes c is (v ∷ under ∷ rest) so =
+      number_goes (op.Compare c) is tt tt rest (takes_two (op.Compare c) refl v under rest so) refl _ _ (v ∷ under ∷ rest)
+
+  difference_goes : (size : ℕ) → its.op ≡ op.Difference size → (stack : List Value) → here.stack ≡ stack → StepOn (op.Difference size) stack
+  difference_goes size is [] so = ends _ _
+  difference_goes size is (v ∷ []) so = ends _ _
+  difference_goes size is (v ∷ under ∷ rest) so =
+      number_goes (op.Difference size) is tt tt rest (takes_two (op.Difference size) refl v under rest so) refl _ _ (v ∷ under ∷ rest)
+
+  -- ---- all of them
+
+  -- an operation of numbers, of the stack, of control and of variables
+  abbrev pub IsOrdinary : Op → Type 0
+  IsOrdinary (op.Load reached) = ⊥
+  IsOrdinary (op.Store reached) = ⊥
+  IsOrdinary (op.Offset by) = ⊥
+  IsOrdinary (op.Step stride pointer_first) = ⊥
+  IsOrdinary (op.Shift place) = ⊥
+  IsOrdinary (op.Routine place) = ⊥
+  IsOrdinary (op.Call fn) = ⊥
+  IsOrdinary op.Return = ⊥
+  IsOrdinary (op.Bring place) = ⊥
+  IsOrdinary _ = Unit {0}
+
+  on_stack_so : (a_slot : (x : Variable) → its.op ≡ op.Set x → IsSlot s.machine x) (o : Op) → its.op ≡ o → IsOrdinary o → (stack : List Value)
+      → here.stack ≡ stack → StepOn o stack
+  on_stack_so a_slot (op.Num bits) is plain stack so =
+      push_goes (op.Num bits) is tt tt stack (takes_none (op.Num bits) refl stack so) refl (number bits) tt stack
+  on_stack_so a_slot op.Nil is plain stack so = push_goes op.Nil is tt tt stack (takes_none op.Nil refl stack so) refl (pointer Nil) tt stack
+  on_stack_so a_slot (op.Address o) is plain stack so = address_goes o is stack so
+  on_stack_so a_slot (op.Get x) is plain stack so = get_goes x is stack so
+  on_stack_so a_slot (op.Set x) is plain stack so = set_goes x is (a_slot x is) stack so
+  on_stack_so a_slot op.Drop is plain stack so = drop_one is stack so
+  on_stack_so a_slot op.Dup is plain stack so = dup_goes is stack so
+  on_stack_so a_slot op.Tuck is plain stack so = tuck_goes is stack so
+  on_stack_so a_slot (op.Conv kind) is plain stack so = conv_goes kind is stack so
+  on_stack_so a_slot (op.Unary u) is plain stack so = sign_goes u is stack so
+  on_stack_so a_slot (op.Binary b kind) is plain stack so = binary_goes b kind is stack so
+  on_stack_so a_slot op.IsNil is plain stack so = is_nil_goes is stack so
+  on_stack_so a_slot (op.Compare c) is plain stack so = compare_goes c is stack so
+  on_stack_so a_slot (op.Difference size) is plain stack so = difference_goes size is stack so
+  on_stack_so a_slot (op.Jump target) is plain stack so =
+      drop_goes (op.Jump target) is tt tt stack (takes_none (op.Jump target) refl stack so) target refl choices s.turns
+  on_stack_so a_slot (op.Zero target) is plain stack so = zero_goes target is stack so
+  on_stack_so a_slot (op.Choose goal) is plain stack so = choose_goes goal is stack so
+  on_stack_so a_slot op.Turn is plain stack so = turn_goes is stack so s.turns
+  on_stack_so a_slot op.Mark is plain stack so = drop_goes op.Mark is tt tt stack (takes_none op.Mark refl stack so) (suc here.at) refl choices s.turns
+  on_stack_so a_slot (op.Pick target) is plain stack so = pick_goes target is stack so (next_choice choices)
+  on_stack_so a_slot (op.Load reached) is plain stack so = absurd plain
+  on_stack_so a_slot (op.Store reached) is plain stack so = absurd plain
+  on_stack_so a_slot (op.Offset by) is plain stack so = absurd plain
+  on_stack_so a_slot (op.Step stride pointer_first) is plain stack so = absurd plain
+  on_stack_so a_slot (op.Shift place) is plain stack so = absurd plain
+  on_stack_so a_slot (op.Routine place) is plain stack so = absurd plain
+  on_stack_so a_slot (op.Call fn) is plain stack so = absurd plain
+  on_stack_so a_slot op.Return is plain stack so = absurd plain
+  on_stack_so a_slot (op.Bring place) is plain stack so = absurd plain
+
+  -- The step of such an operation, as the machine does it.
+  pub within_tracked : ((x : Variable) → its.op ≡ op.Set x → IsSlot s.machine x) → (o : Op) → its.op ≡ o → IsOrdinary o
+      → RanTo E Goes (by_stack program its.at (point_of here ws choices) o here.stack s)
+  within_tracked a_slot o is plain = on_stack_so a_slot o is plain here.stack refl
