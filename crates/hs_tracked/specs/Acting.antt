@@ -75,8 +75,8 @@ module _ (whole : WholeCode) (known : Knowledge) (may : ℕ → May) (sets : ℕ
     (is_at : IsAt whole known here its) (right : AreRight whole known here s.machine) (p : ℕ) (is : its.op ≡ op.Routine p) (it : BoundRoutine)
     (found : slice_get whole.program.routines p ≡ Some it) (prototype : Prototype) (proto : it.prototype ≡ Some prototype)
     (held : holds (length prototype.parameters) here.stack ≡ true) (v : Value) (after : Machine)
-    (ran : Runs (code_program whole.program whole.functions) may sets impact E ends here ws choices its s good is_at.there deep p is it found prototype proto held v
-    after) where
+    (ran : Runs (code_program whole.program whole.functions) may sets impact E ends here ws choices its s good is_at.there deep p is it found prototype proto
+    held v after) where
   -- the program with its code
   abbrev program : CodeProgram
   program = code_program whole.program whole.functions

@@ -232,7 +232,9 @@ module _ (whole : WholeCode) (known : Knowledge) (here : Here) (machine : Machin
 
   -- All arguments of a call go where the parameters are.
   pub all_go : AllGo whole known here machine ws its is_at fn function calls of_function right setting final blocks begin_with 0 its_parameters
-  all_go = all_from 0 its_parameters (λ i it there. subst (λ n. Goes whole known here fn setting n it.type_id (slice_get begin_with n)) (from_zero i) (goes_one i it there))
+  all_go =
+      all_from 0 its_parameters
+      (λ i it there. subst (λ n. Goes whole known here fn setting n it.type_id (slice_get begin_with n)) (from_zero i) (goes_one i it there))
     where
       from_zero : (n : ℕ) → n ≡ 0 + n
       from_zero n = omega arith

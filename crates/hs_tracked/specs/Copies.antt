@@ -253,7 +253,8 @@ module _ (whole : WholeCode) (known : Knowledge) (here : Here) (machine : Machin
                 old_of (i < its.places - 1) (i ≡ its.places - 1) (R (Saved (on_stack i) x)) (R (Saved (on_stack (its.places - 1)) x))
                 (not_same i (its.places - 1) low) given;
             held = λ byte held.
-                ap (at_place i) so ∙ under_top i value rest (subst (λ n. i < n) conv_top low) ∙ sym (under_top i new rest (subst (λ n. i < n) conv_top low)) ∙ held;
+                ap (at_place i) so ∙ under_top i value rest (subst (λ n. i < n) conv_top low)
+                ∙ sym (under_top i new rest (subst (λ n. i < n) conv_top low)) ∙ held;
             brings = carried (op.Conv kind) is refl (new ∷ rest) machine (slot.Place i) (slot.Place i)
                 (stays_below (op.Conv kind) (its.places - 1) (on_stack i) tt refl low);
           },

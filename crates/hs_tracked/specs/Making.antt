@@ -86,7 +86,8 @@ module _ (P : Cell → Type 0) (undefined : P Undefined) (byte : (b : ℕ) → P
   standing_leaves here gone (Ok false) first second = second
   standing_leaves here gone (Err why) first second = tt
 
-  changed_leaves : (change : Block → Block) (block : Block) → AllByRecursion P (change block).cells → AllByRecursion P block.cells → LeavesCells (changed change block)
+  changed_leaves : (change : Block → Block) (block : Block) → AllByRecursion P (change block).cells → AllByRecursion P block.cells
+      → LeavesCells (changed change block)
   changed_leaves change block first second = standing_leaves (change block) block (standing block.presence) first second
 
   emptied_leaves : (block : Block) → AllByRecursion P block.cells → LeavesCells (emptied block)
@@ -309,7 +310,8 @@ module _ (P : Cell → Type 0) (undefined : P Undefined) (byte : (b : ℕ) → P
           → HasAll (filled (Some v) size machine)
       on its = record { blocks = its.blocks; objects = its.objects }
 
-  made_gives : (Makes : Type 0) → Makes → (z : Bool) (size : ℕ) (machine : Machine) → HasAll machine → Gets Makes (handle_if z machine) (made_block z size machine)
+  made_gives : (Makes : Type 0) → Makes → (z : Bool) (size : ℕ) (machine : Machine) → HasAll machine
+      → Gets Makes (handle_if z machine) (made_block z size machine)
   made_gives Makes makes true size machine are = (
     inr (makes, made_now machine.blocks (record (new_block size) { cells = replicate size (Byte 0) }) (made_block true size machine) refl refl refl),
     block_added machine (record (new_block size) { cells = replicate size (Byte 0) }) (all_same P size (Byte 0) (byte 0)) are,
@@ -364,7 +366,8 @@ module _ (P : Cell → Type 0) (undefined : P Undefined) (byte : (b : ℕ) → P
       → OnDone (Gets (MakesHandle types (pointed types prototype.result))) (after_line types its prototype values machine)
   line_gives types its prototype values machine are = by_size (fill_size types its.fills prototype.parameters)
     where
-      by_size : (size : ℕ) → OnDone (Gets (MakesHandle types (pointed types prototype.result))) (then_unless (first_stop (fill_stops (argument its.fills values) size machine)) machine
+      by_size : (size : ℕ) → OnDone (Gets (MakesHandle types (pointed types prototype.result)))
+          (then_unless (first_stop (fill_stops (argument its.fills values) size machine)) machine
           (result_of types its.size prototype.result (filled (argument its.fills values) size machine)))
       by_size size =
           then_gives (MakesHandle types (pointed types prototype.result)) (first_stop (fill_stops (argument its.fills values) size machine)) machine

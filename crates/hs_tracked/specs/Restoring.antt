@@ -219,7 +219,8 @@ module _ (whole : WholeCode) (known : Knowledge) (here : Here) (machine after : 
             block = it.new;
             there = ap (block_at after.blocks) same ∙ it.one.now;
             marked = λ so.
-                inr (inr (marked_now can (subst (λ j. IsIn here machine of (pointer (Handle j))) same has) (marked_is so) (apart facts of (slot.Place base)) refl));
+                inr (inr (marked_now can (subst (λ j. IsIn here machine of (pointer (Handle j))) same has) (marked_is so)
+                (apart facts of (slot.Place base)) refl));
             gone = λ so. inr (inr (was_gone so, stays whole known here machine after ws its is_at right lasting stack number_of is of low status.Hollow tt));
           }
         where

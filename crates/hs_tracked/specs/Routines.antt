@@ -74,8 +74,8 @@ module _ (whole : WholeCode) (known : Knowledge) (may : ℕ → May) (sets : ℕ
     (is_at : IsAt whole known here its) (right : AreRight whole known here s.machine) (p : ℕ) (is : its.op ≡ op.Routine p) (it : BoundRoutine)
     (found : slice_get whole.program.routines p ≡ Some it) (prototype : Prototype) (proto : it.prototype ≡ Some prototype)
     (held : holds (length prototype.parameters) here.stack ≡ true) (v : Value) (after : Machine)
-    (ran : Runs (code_program whole.program whole.functions) may sets impact E ends here ws choices its s good is_at.there deep p is it found prototype proto held v
-    after) where
+    (ran : Runs (code_program whole.program whole.functions) may sets impact E ends here ws choices its s good is_at.there deep p is it found prototype proto
+    held v after) where
   -- the program with its code
   abbrev program : CodeProgram
   program = code_program whole.program whole.functions
@@ -163,7 +163,8 @@ module _ (whole : WholeCode) (known : Knowledge) (may : ℕ → May) (sets : ℕ
         ran_so =
             done_as whole known may sets impact E ends here ws choices its s good deep is_at right p is it found prototype proto held v after ran r so other
 
-        gives_so : Gets P undefined byte (r ≡ role.NewHandle) (role_value r (taken count here.stack) s.machine) (role_machine r (taken count here.stack) s.machine)
+        gives_so : Gets P undefined byte (r ≡ role.NewHandle) (role_value r (taken count here.stack) s.machine)
+            (role_machine r (taken count here.stack) s.machine)
         gives_so = role_gives P undefined byte r (taken count here.stack) s.machine all
 
         as_declared : Gets P undefined byte (r ≡ role.NewHandle) (as_kind (number_kind program.setting.types prototype.result)

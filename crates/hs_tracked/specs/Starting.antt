@@ -110,7 +110,8 @@ module _ (program : TypedProgram) where
   parts_start (part ∷ parts) cells listed are =
       parts_start parts (with_cells_from (pos part.offset) (cells_for (access_of_part setting part) (constant_value setting part.value)) cells)
       (all_back (classes_of program)
-      (class_if (is_pointer program.types part.type_id) (class_of_scalar program.same program.taken part.type_id part.field)) (named_parts program parts) listed)
+      (class_if (is_pointer program.types part.type_id) (class_of_scalar program.same program.taken part.type_id part.field))
+      (named_parts program parts) listed)
       (from_written (IsStarting count) (pos part.offset) (cells_for (access_of_part setting part) (constant_value setting part.value)) cells
       (cells_start count (access_of_part setting part) (constant_value setting part.value) (constant_plain part.value)
       (access_listed part.type_id (class_of_scalar program.same program.taken part.type_id part.field) (number_kind program.types part.type_id)
@@ -192,12 +193,14 @@ opened_none setting parameters variables machine after is =
     by_room : (z : Bool) → opened_if z setting parameters variables [] machine ≡ done tt after
         → in_frame (bindings setting.types (length machine.objects) variables) (objects_for setting.types variables) machine ≡ after
     by_room true so =
-        by_given (take parameters variables) (in_frame (bindings setting.types (length machine.objects) variables) (objects_for setting.types variables) machine) so
+        by_given (take parameters variables)
+        (in_frame (bindings setting.types (length machine.objects) variables) (objects_for setting.types variables) machine) so
     by_room false so = absurd cc
 
 module _ (whole : WholeCode) (known : Knowledge) (classes : whole.classes ≡ classes_of whole.program) (input : Input) (function : CodeFunction)
     (after : Machine)
-    (opens : opened (setting_of whole.program) function.parameters function.variables [] (starting_machine (setting_of whole.program) input) ≡ done tt after) where
+    (opens : opened (setting_of whole.program) function.parameters function.variables []
+    (starting_machine (setting_of whole.program) input) ≡ done tt after) where
   -- before `main` is called
   abbrev start : Machine
   start = starting_machine (setting_of whole.program) input
@@ -215,7 +218,8 @@ module _ (whole : WholeCode) (known : Knowledge) (classes : whole.classes ≡ cl
 
   all_cells : InObjects (IsStarting (length (classes_of whole.program))) framed.objects
   all_cells =
-      all_appended (λ o. AllByRecursion (IsStarting (length (classes_of whole.program))) o.cells) start.objects (objects_for whole.program.types function.variables)
+      all_appended (λ o. AllByRecursion (IsStarting (length (classes_of whole.program))) o.cells) start.objects
+      (objects_for whole.program.types function.variables)
       (starting_cells whole.program input)
       (objects_free (IsStarting (length (classes_of whole.program))) tt whole.program.types function.variables)
 
@@ -264,7 +268,8 @@ module _ (whole : WholeCode) (known : Knowledge) (classes : whole.classes ≡ cl
           places = tt;
           variables = λ x v is. plain_tracked framed (places.Variable x) v (plain_values x v is);
           blocks = tt;
-          objects = each_object (IsStarting (length (classes_of whole.program))) (TrackedCell whole known main_call framed []) (cell_tracked framed) framed.objects
+          objects = each_object (IsStarting (length (classes_of whole.program))) (TrackedCell whole known main_call framed []) (cell_tracked framed)
+              framed.objects
               all_cells;
         }),
     bytes_begun whole known main_call after [] refl,

@@ -32,7 +32,7 @@ use Rattle.hs_hiding.specs.Holding.{value_of}
 use Rattle.hs_meaning.specs.Accesses.{by_stop}
 use Rattle.hs_meaning.specs.Evaluation.{address_of, located}
 use Rattle.hs_meaning.specs.Machine as machines
-use Rattle.hs_meaning.specs.Machine.{Machine, Binding, Done, done, stopped, binding_of, with_value}
+use Rattle.hs_meaning.specs.Machine.{Machine, Binding, binding_of, with_value}
 use Rattle.hs_meaning.specs.Objects.{object_of_base}
 use Rattle.hs_meaning.specs.Operations.{converted_value, slot_stop}
 use Rattle.hs_meaning.specs.Steps.{State, Step, give, ran_at, then_with, turn_from, used}
@@ -288,7 +288,8 @@ module _ (whole : WholeCode) (known : Knowledge) (program : CodeProgram) (E : Ou
         choices,
         refl,
         pushes whole known here s.machine ws its is_at (lasts_to s.machine) same_lasts (op.Conv kind) is tt rest
-            (ap (λ n. n - 1) known_places ∙ (takes_one (op.Conv kind) refl u rest so).low) are (takes_one (op.Conv kind) refl u rest so).places refl new tracked,
+            (ap (λ n. n - 1) known_places ∙ (takes_one (op.Conv kind) refl u rest so).low) are (takes_one (op.Conv kind) refl u rest so).places refl
+            new tracked,
         bytes_conv whole known here s.machine ws its is_at deep (lasts_to s.machine) kind is u new rest so same bytes,
       )
 
