@@ -28,7 +28,7 @@ use Rattle.hs_meaning.specs.Machine.{Machine, Object, Binding, slot, object_at, 
 use Rattle.hs_meaning.specs.Objects.{bindings, objects_for}
 use Rattle.hs_meaning.specs.Settings.{Setting, access_of_type}
 use Rattle.hs_meaning.specs.Values.{Value, number, pointer, state, structure, Access, of_number, of_pointer, of_struct, bytes_of, cells_for, length_of, store_stop}
-use Rattle.hs_tracked.specs.Cells.{InObjects, objects_written}
+use Rattle.hs_tracked.specs.Cells.{InObjects, each_block, each_object, objects_written}
 use Rattle.hs_tracked.specs.Entering.{begin, waiting, enter_cells, enter_pointer, enter_reached, enter_value}
 use Rattle.hs_tracked.specs.Going.{IsAt}
 use Rattle.hs_tracked.specs.Right.{AreRight}
@@ -247,15 +247,15 @@ module _ (whole : WholeCode) (known : Knowledge) (here : Here) (machine : Machin
         -- ---- what is in memory
 
     old_objects : (objects : List Object) → AllByRecursion (λ object. TrackedCells whole known here machine ws object.cells) objects → InObjects CellIs objects
-    old_objects [] are = tt
-    old_objects (object ∷ rest) are =
-        (enter_cells whole known here machine ws its is_at fn function calls of_function right final blocks object.cells are.0, old_objects rest are.1)
+    old_objects =
+        each_object (TrackedCell whole known here machine ws) CellIs
+        (enter_cells whole known here machine ws its is_at fn function calls of_function right final blocks)
 
     old_blocks : (old : List Block) → AllByRecursion (λ block. TrackedCells whole known here machine ws block.cells) old
         → AllByRecursion (λ block. TrackedCells whole known new final inside block.cells) old
-    old_blocks [] are = tt
-    old_blocks (block ∷ rest) are =
-        (enter_cells whole known here machine ws its is_at fn function calls of_function right final blocks block.cells are.0, old_blocks rest are.1)
+    old_blocks =
+        each_block (TrackedCell whole known here machine ws) CellIs
+        (enter_cells whole known here machine ws its is_at fn function calls of_function right final blocks)
 
   -- ---- the law
 

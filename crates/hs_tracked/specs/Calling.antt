@@ -30,7 +30,6 @@ use Rattle.hs_flow.specs.declared.fact.Slot as flow_slot
 use Rattle.hs_flow.specs.declared.fact.Slot.TheVariants as slot
 use Rattle.hs_heap.specs.Blocks.{Block}
 use Rattle.hs_heap.specs.Memory.{block_at}
-use Rattle.hs_heap.specs.declared.cell.Cell.{Cell}
 use Rattle.hs_heap.specs.declared.cell.Pointer.TheVariants.{Nil, Handle}
 use Rattle.hs_hiding.specs.Holding.{value_of}
 use Rattle.hs_meaning.specs.Machine.{Machine}
@@ -41,9 +40,9 @@ use Rattle.hs_table.specs.declared.role.Role.{Role}
 use Rattle.hs_tracked.specs.Going.{IsAt, leads}
 use Rattle.hs_tracked.specs.Making.{HasAll}
 use Rattle.hs_tracked.specs.Over.{outer_backed}
-use Rattle.hs_tracked.specs.Passing.{Brings, Passes, PointersPass, HandlePasses, HandleStays, StaysCurrent, ClassesPass, PlacesPass, goes_on, pass_value, pass_cells, pass_places, pass_blocks, pass_objects}
+use Rattle.hs_tracked.specs.Passing.{Brings, Passes, PointersPass, HandlePasses, HandleStays, StaysCurrent, ClassesPass, PlacesPass, goes_on, pass_value, pass_places, pass_blocks, pass_objects}
 use Rattle.hs_tracked.specs.Right.{AreRight, IsIn, shared_there, apart_blocks}
-use Rattle.hs_tracked.specs.Tracking.{MeansHere, Backed, HasChain, TrackedHandle, TrackedCell, TrackedCells, Tracked, TrackedPlaces, AreTracked}
+use Rattle.hs_tracked.specs.Tracking.{MeansHere, Backed, HasChain, TrackedHandle, TrackedCell, Tracked, TrackedPlaces, AreTracked}
 use Rattle.hs_tree.specs.declared.head.Variable.{Variable}
 use Rattle.hs_truth.specs.Places.{at_place, place_low, the_top, under_top}
 
@@ -220,10 +219,6 @@ module _ (whole : WholeCode) (known : Knowledge) (here : Here) (machine after : 
     pub routine_value : (of : flow_slot.Slot) → is_below base of ≡ true → (v : Value) → IsIn here machine of v → Tracked whole known here machine ws of v
         → Tracked whole known next after ws of v
     routine_value of low v has are = pass_value whole known here next machine after ws classes of of v (passes acts of low v has) are
-
-    -- What is in memory.
-    pub routine_cells : (cells : List Cell) → TrackedCells whole known here machine ws cells → TrackedCells whole known next after ws cells
-    routine_cells cells are = pass_cells whole known here next machine after ws classes cells are
 
     -- Control goes on.
     pub routine_reached : HasChain whole known here ws slot.Nothing status.Reached → HasChain whole known next ws slot.Nothing status.Reached

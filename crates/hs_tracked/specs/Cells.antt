@@ -3,7 +3,7 @@
 --     cells_read                   the cells that a pointer reaches
 --     objects_ended                the cells after the objects of a call have ended
 --     blocks_written, objects_written      the cells after others are put where a pointer reaches
---     each_cell, each_object       what holds of cells, from what holds of them
+--     each_block, each_object, each_cell       what holds of cells, from what holds of them
 use Rattle.std.proofs.Common.{◌≡◌, ℤ, ℕ, zero, suc, ◌+◌, ◌-◌, List, [], ◌∷◌, ◌++◌, take, drop, length, slice_get, Option, Some, None, refl}
 use Rattle.std.proofs.lemmas.Option.{none-some}
 use Rattle.std.specs.List.{AllByRecursion}
@@ -109,13 +109,18 @@ module _ (P : Cell → Type 0) where
 
 -- ---- from one to another
 
-module _ (P Q : Cell → Type 0) (each : (cell : Cell) → P cell → Q cell) where
-  -- what holds of each cell
-  pub each_cell : (cells : List Cell) → AllByRecursion P cells → AllByRecursion Q cells
-  each_cell [] are = tt
-  each_cell (cell ∷ cells) are = (each cell are.0, each_cell cells are.1)
+module _ (P Q : Cell → Type 0) (each : (cells : List Cell) → AllByRecursion P cells → AllByRecursion Q cells) where
+  -- what holds of the cells of all blocks
+  pub each_block : (blocks : List Block) → InBlocks P blocks → InBlocks Q blocks
+  each_block [] are = tt
+  each_block (block ∷ blocks) are = (each block.cells are.0, each_block blocks are.1)
 
-  -- of those of all objects
+  -- and of all objects
   pub each_object : (objects : List Object) → InObjects P objects → InObjects Q objects
   each_object [] are = tt
-  each_object (its ∷ objects) are = (each_cell its.cells are.0, each_object objects are.1)
+  each_object (its ∷ objects) are = (each its.cells are.0, each_object objects are.1)
+
+-- what holds of each cell
+pub each_cell : (P Q : Cell → Type 0) → ((cell : Cell) → P cell → Q cell) → (cells : List Cell) → AllByRecursion P cells → AllByRecursion Q cells
+each_cell P Q each [] are = tt
+each_cell P Q each (cell ∷ cells) are = (each cell are.0, each_cell P Q each cells are.1)

@@ -27,6 +27,7 @@ use Rattle.hs_heap.specs.declared.cell.Spot as spot
 use Rattle.hs_meaning.specs.Machine.{Machine, Object}
 use Rattle.hs_meaning.specs.Values.{Value, number, pointer, state, structure}
 use Rattle.hs_sound_heap.specs.Since.{is_marked, is_purged}
+use Rattle.hs_tracked.specs.Cells.{each_block, each_object}
 use Rattle.hs_tracked.specs.Tracking.{mark_of, MeansHere, Backed, HasChain, Current, TrackedSpot, TrackedHandle, TrackedPointer, TrackedCell, TrackedCells, Tracked, TrackedPlaces}
 
 -- ---- pointers and statuses
@@ -212,13 +213,11 @@ module _ (whole : WholeCode) (known : Knowledge) (here next : Here) (machine aft
 
     pub pass_blocks : (blocks : List Block) → AllByRecursion (λ block. TrackedCells whole known here machine ws block.cells) blocks
         → AllByRecursion (λ block. TrackedCells whole known next after ws block.cells) blocks
-    pass_blocks [] are = tt
-    pass_blocks (block ∷ blocks) are = (pass_cells block.cells are.0, pass_blocks blocks are.1)
+    pass_blocks = each_block (TrackedCell whole known here machine ws) (TrackedCell whole known next after ws) pass_cells
 
     pub pass_objects : (objects : List Object) → AllByRecursion (λ its. TrackedCells whole known here machine ws its.cells) objects
         → AllByRecursion (λ its. TrackedCells whole known next after ws its.cells) objects
-    pass_objects [] are = tt
-    pass_objects (its ∷ objects) are = (pass_cells its.cells are.0, pass_objects objects are.1)
+    pass_objects = each_object (TrackedCell whole known here machine ws) (TrackedCell whole known next after ws) pass_cells
 
   -- ---- operations that move and mark nothing
 

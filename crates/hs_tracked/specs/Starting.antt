@@ -31,7 +31,7 @@ use Rattle.hs_meaning.specs.Values.{Access, Value, number, pointer, state, struc
 use Rattle.hs_meaning.specs.declared.input.Input.{Input}
 use Rattle.hs_tracked.specs.Beginning.{no_value, objects_free}
 use Rattle.hs_tracked.specs.Bytes.{AreBytesTracked, bytes_begun}
-use Rattle.hs_tracked.specs.Cells.{InObjects, each_object, from_written}
+use Rattle.hs_tracked.specs.Cells.{InObjects, each_cell, each_object, from_written}
 use Rattle.hs_tracked.specs.Making.{HasNoFacts}
 use Rattle.hs_tracked.specs.Restorable.{AreListed, IsListed, IsValueListed}
 use Rattle.hs_tracked.specs.Tracking.{TrackedCell, Tracked, AreTracked}
@@ -268,7 +268,8 @@ module _ (whole : WholeCode) (known : Knowledge) (classes : whole.classes ≡ cl
           places = tt;
           variables = λ x v is. plain_tracked framed (places.Variable x) v (plain_values x v is);
           blocks = tt;
-          objects = each_object (IsStarting (length (classes_of whole.program))) (TrackedCell whole known main_call framed []) (cell_tracked framed)
+          objects = each_object (IsStarting (length (classes_of whole.program))) (TrackedCell whole known main_call framed [])
+              (each_cell (IsStarting (length (classes_of whole.program))) (TrackedCell whole known main_call framed []) (cell_tracked framed))
               framed.objects
               all_cells;
         }),
@@ -278,6 +279,7 @@ module _ (whole : WholeCode) (known : Knowledge) (classes : whole.classes ≡ cl
           stack = tt;
           variables = λ x v is. plain_listed (length whole.classes) v (plain_values x v is);
           blocks = tt;
-          objects = each_object (IsStarting (length (classes_of whole.program))) (IsListed (length whole.classes)) cell_listed framed.objects all_cells;
+          objects = each_object (IsStarting (length (classes_of whole.program))) (IsListed (length whole.classes))
+              (each_cell (IsStarting (length (classes_of whole.program))) (IsListed (length whole.classes)) cell_listed) framed.objects all_cells;
         }),
   )
