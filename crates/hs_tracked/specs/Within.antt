@@ -1,9 +1,9 @@
--- A step of the machine inside a call, at an operation of numbers, of the stack, of control or of variables, keeps all tracked (own).
+-- A step of the machine inside a call keeps all tracked (own).
 --     Goes             the call goes on, and all that it has is tracked
---     IsOrdinary       such an operation: no load or store, no step of a pointer, no Shift, no routine, no call
+--     IsOrdinary       an operation that is no Step, Shift, Bring or routine, no call and no return
 --     within_tracked   the step
 -- What lasted still does, if the block could not move after the step and got no new cells by it.
-use Rattle.std.proofs.Common.{◌≡◌, ◌<◌, ◌⊎◌, inl, inr, ℕ, zero, suc, pos, ◌-◌, ◌==◌, Bool, true, false, ◌&&◌, List, [], ◌∷◌, length, map, Option, Some, None, refl, sym, ap, ◌∙◌, subst, arith}
+use Rattle.std.proofs.Common.{◌≡◌, ◌<◌, ◌⊎◌, inl, inr, ℕ, zero, suc, pos, ◌-◌, ◌==◌, Bool, true, false, ◌&&◌, List, [], ◌∷◌, ◌++◌, length, map, Option, Some, None, refl, sym, ap, ◌∙◌, subst, arith}
 use Rattle.hs_calls.specs.Calls.{Here, Wait, moved, point_of, steady_in, waiting_of}
 use Rattle.hs_calls.specs.Stacks.{RanTo}
 use Rattle.hs_chains.specs.Knowledge.{Knowledge}
@@ -21,23 +21,23 @@ use Rattle.hs_code.specs.declared.op.Unary.{Unary}
 use Rattle.hs_code.specs.declared.op.Unary.TheVariants as unary
 use Rattle.hs_code_run.specs.Codes.{CodeProgram, Point}
 use Rattle.hs_code_run.specs.Laws.Depths.Control.{case_follows}
-use Rattle.hs_code_run.specs.Steps.{by_stack, case_for, later_choices, next_choice, onto, onto_if, onward}
+use Rattle.hs_code_run.specs.Steps.{access_of, by_stack, case_for, later_choices, next_choice, onto, onto_if, onward}
 use Rattle.hs_facts.specs.Effects.{WholeCode}
 use Rattle.hs_facts.specs.Names.{taken as taken_by}
 use Rattle.hs_flow.specs.Laws.Staying.{LeavesSlots}
 use Rattle.hs_flow.specs.Programs.{scope_at}
 use Rattle.hs_flow.specs.declared.fact.Slot.TheVariants as slot
-use Rattle.hs_heap.specs.declared.cell.Pointer.TheVariants.{Nil, Fixed}
+use Rattle.hs_heap.specs.declared.cell.Pointer.TheVariants.{Nil, Fixed, Handle, Spot}
 use Rattle.hs_hiding.specs.Holding.{value_of}
-use Rattle.hs_meaning.specs.Accesses.{by_stop}
+use Rattle.hs_meaning.specs.Accesses.{by_stop, cells_at, with_cells_at, use_stops, master_in, master_pointer}
 use Rattle.hs_meaning.specs.Evaluation.{address_of, located}
 use Rattle.hs_meaning.specs.Machine as machines
 use Rattle.hs_meaning.specs.Machine.{Machine, Binding, binding_of, with_value}
 use Rattle.hs_meaning.specs.Objects.{object_of_base}
 use Rattle.hs_meaning.specs.Operations.{converted_value, slot_stop}
 use Rattle.hs_meaning.specs.Steps.{State, Step, give, ran_at, then_with, turn_from, used}
-use Rattle.hs_meaning.specs.Stops.{first_stop}
-use Rattle.hs_meaning.specs.Values.{Value, number, pointer, state, structure, bits_in, number_stop, or_nothing}
+use Rattle.hs_meaning.specs.Stops.{first_stop, Stops, heap_stop}
+use Rattle.hs_meaning.specs.Values.{Value, number, pointer, state, structure, bits_in, number_stop, or_nothing, value_in, length_of, load_stops, store_stop, cells_for}
 use Rattle.hs_meaning.specs.declared.outcome.Outcome.{Outcome}
 use Rattle.hs_meaning.specs.declared.outcome.Stop.{Stop}
 use Rattle.hs_sound_heap.specs.Roles.{nothing}
@@ -45,7 +45,7 @@ use Rattle.hs_sound_heap.specs.Since.{Since, since_refl}
 use Rattle.hs_tracked.specs.Bytes.{AreBytesTracked, BringsNoByte, bytes_stay}
 use Rattle.hs_tracked.specs.Copies.{bytes_conv, bytes_dup, bytes_get, bytes_set, bytes_tuck}
 use Rattle.hs_tracked.specs.Going.{IsAt}
-use Rattle.hs_tracked.specs.Moving.{drops, dup, get, pushes, tuck}
+use Rattle.hs_tracked.specs.Moving.{drops, dup, get, pushes, tuck, offset}
 use Rattle.hs_tracked.specs.Right.{AreRight}
 use Rattle.hs_tracked.specs.Setting.{set}
 use Rattle.hs_tracked.specs.Tracking.{Tracked, TrackedPlaces, AreTracked}
@@ -55,6 +55,16 @@ use Rattle.hs_tree.specs.declared.operators.Comparison.{Comparison}
 use Rattle.hs_true.specs.Setting.{IsSlot, blocks_stay}
 use Rattle.hs_truth.specs.Owing.{steady_since}
 use Rattle.hs_truth.specs.Places.{at_place, under_top}
+use Rattle.hs_meaning.specs.Pointers.{moved_by, moved_stop}
+use Rattle.hs_tracked.specs.Loading.{load_cells, load_master}
+use Rattle.hs_tracked.specs.Storing.{store, values_written}
+use Rattle.hs_heap.specs.Blocks.{master_of, Block}
+use Rattle.hs_heap.specs.Memory.{block_at}
+use Rattle.hs_heap.specs.declared.cell.Pointer.{Pointer}
+use Rattle.hs_meaning.specs.Laws.Changes.Accesses.{with_cells_at_stays}
+use Rattle.hs_calls.specs.Changing.{since}
+use Rattle.hs_code.specs.declared.op.Access.TheVariants as access
+use Rattle.hs_code.specs.declared.op.Access as code_access
 use Rattle.hs_types.specs.declared.integer.Integer.{Integer}
 
 module _ (whole : WholeCode) (known : Knowledge) (program : CodeProgram) (E : Outcome → State → Type 0) (ends : (outcome : Outcome) (s : State) → E outcome s)
@@ -382,13 +392,141 @@ module _ (whole : WholeCode) (known : Knowledge) (program : CodeProgram) (E : Ou
   difference_goes size is (v ∷ under ∷ rest) so =
       number_goes (op.Difference size) is tt tt rest (takes_two (op.Difference size) refl v under rest so) refl _ _ (v ∷ under ∷ rest)
 
+  -- ---- pointers and memory
+
+  offset_goes : (by : ℕ) → its.op ≡ op.Offset by → (stack : List Value) → here.stack ≡ stack → StepOn (op.Offset by) stack
+  offset_goes by is [] so = ends _ _
+  offset_goes by is (number bits ∷ rest) so = ends _ _
+  offset_goes by is (state byte ∷ rest) so = ends _ _
+  offset_goes by is (structure cells ∷ rest) so = ends _ _
+  offset_goes by is (pointer p ∷ rest) so = by_why (moved_stop (pos by) p) refl
+    where
+      by_why : (why : Option Stop) → moved_stop (pos by) p ≡ why
+          → RanTo E Goes (then_with (λ value. give (onward (point_on (pointer p ∷ rest)) (value ∷ rest)))
+          (ran_at its.at s (by_stop (first_stop (why ∷ [])) (pointer (moved_by (pos by) p)) s.machine s.machine)))
+      by_why (Some why) stops = ends _ _
+      by_why None goes = (
+        suc here.at,
+        pointer (moved_by (pos by) p) ∷ rest,
+        choices,
+        refl,
+        offset whole known here s.machine ws its is_at (lasts_to s.machine) same_lasts by is p rest so goes are,
+        bytes_same (op.Offset by) is tt tt rest (takes_one (op.Offset by) refl (pointer p) rest so) (suc here.at) (pointer (moved_by (pos by) p) ∷ rest) refl
+            (λ i low. under_top i (pointer (moved_by (pos by) p)) rest low),
+      )
+
+  module _ (reached : code_access.Access) (is : its.op ≡ op.Load reached) (p : Pointer) (rest : List Value) (so : here.stack ≡ pointer p ∷ rest) where
+    -- a value that was loaded
+    load_to : (v : Value) → AreTracked whole known (moved here (suc here.at) (v ∷ rest) (lasts_to s.machine)) s.machine ws
+        → Goes (onward (point_on (pointer p ∷ rest)) (v ∷ rest)) s
+    load_to v tracked = (
+      suc here.at,
+      v ∷ rest,
+      choices,
+      refl,
+      tracked,
+      bytes_same (op.Load reached) is tt tt rest (takes_one (op.Load reached) refl (pointer p) rest so) (suc here.at) (v ∷ rest) refl
+          (λ i low. under_top i v rest low),
+    )
+
+    -- what memory holds, unless it stops
+    cells_go : (why : Option Stop)
+        → RanTo E Goes (then_with (λ value. give (onward (point_on (pointer p ∷ rest)) (value ∷ rest)))
+        (ran_at its.at s (by_stop why (value_in (access_of reached) (cells_at p (length_of (access_of reached)) s.machine)) s.machine s.machine)))
+    cells_go (Some why) = ends _ _
+    cells_go None =
+        load_to (value_in (access_of reached) (cells_at p (length_of (access_of reached)) s.machine))
+        (load_cells whole known here s.machine ws its is_at (lasts_to s.machine) same_lasts p rest so are reached is)
+
+  master_goes : (class n : ℕ) → its.op ≡ op.Load (access.Pointer class) → (rest : List Value) → here.stack ≡ pointer (Handle n) ∷ rest
+      → StepOn (op.Load (access.Pointer class)) (pointer (Handle n) ∷ rest)
+  master_goes class n is rest so = by_block (block_at s.machine.blocks n) refl
+    where
+      by_why : (block : Block) → block_at s.machine.blocks n ≡ Some block → (why : Option Stop)
+          → RanTo E Goes (then_with (λ value. give (onward (point_on (pointer (Handle n) ∷ rest)) (value ∷ rest)))
+          (ran_at its.at s (by_stop why (pointer (master_pointer (master_of n block))) s.machine s.machine)))
+      by_why block there (Some why) = ends _ _
+      by_why block there None =
+          load_to (access.Pointer class) is (Handle n) rest so (pointer (master_pointer (master_of n block)))
+          (load_master whole known here s.machine ws its is_at (lasts_to s.machine) same_lasts (Handle n) rest so are class is right n refl block there)
+
+      by_block : (found : Option Block) → block_at s.machine.blocks n ≡ found
+          → RanTo E Goes (then_with (λ value. give (onward (point_on (pointer (Handle n) ∷ rest)) (value ∷ rest)))
+          (ran_at its.at s (master_in n s.machine found)))
+      by_block None there = ends _ _
+      by_block (Some block) there = by_why block there (first_stop (heap_stop (master_of n block) ∷ []))
+
+  -- why a load of cells stops
+  abbrev load_stop : code_access.Access → Pointer → Option Stop
+  load_stop reached p =
+      first_stop (use_stops p (length_of (access_of reached)) s.machine
+      ++ load_stops (access_of reached) (cells_at p (length_of (access_of reached)) s.machine))
+
+  load_goes : (reached : code_access.Access) → its.op ≡ op.Load reached → (stack : List Value) → here.stack ≡ stack → StepOn (op.Load reached) stack
+  load_goes reached is [] so = ends _ _
+  load_goes reached is (number bits ∷ rest) so = ends _ _
+  load_goes reached is (state byte ∷ rest) so = ends _ _
+  load_goes reached is (structure cells ∷ rest) so = ends _ _
+  load_goes (access.Number kind) is (pointer p ∷ rest) so = cells_go (access.Number kind) is p rest so (load_stop (access.Number kind) p)
+  load_goes (access.Struct size) is (pointer p ∷ rest) so = cells_go (access.Struct size) is p rest so (load_stop (access.Struct size) p)
+  load_goes (access.Pointer class) is (pointer Nil ∷ rest) so = cells_go (access.Pointer class) is Nil rest so (load_stop (access.Pointer class) Nil)
+  load_goes (access.Pointer class) is (pointer (Fixed object at) ∷ rest) so = cells_go (access.Pointer class) is (Fixed object at) rest so (load_stop (access.Pointer class) (Fixed object at))
+  load_goes (access.Pointer class) is (pointer (Spot its') ∷ rest) so = cells_go (access.Pointer class) is (Spot its') rest so (load_stop (access.Pointer class) (Spot its'))
+  load_goes (access.Pointer class) is (pointer (Handle n) ∷ rest) so = master_goes class n is rest so
+
+  store_goes : (reached : code_access.Access) → its.op ≡ op.Store reached → (stack : List Value) → here.stack ≡ stack → StepOn (op.Store reached) stack
+  store_goes reached is [] so = ends _ _
+  store_goes reached is (v ∷ []) so = ends _ _
+  store_goes reached is (v ∷ number bits ∷ rest) so = ends _ _
+  store_goes reached is (v ∷ state byte ∷ rest) so = ends _ _
+  store_goes reached is (v ∷ structure cells ∷ rest) so = ends _ _
+  store_goes reached is (v ∷ pointer p ∷ rest) so =
+      by_first (store_stop (access_of reached) v) refl (use_stops p (length_of (access_of reached)) s.machine)
+    where
+      after : Machine
+      after = with_cells_at p (cells_for (access_of reached) v) s.machine
+
+      after_lasts : (n : ℕ) → here.lasting n ≡ true
+          → lasts_to (with_cells_at p (cells_for (access_of reached) v) s.machine) n ≡ true
+      after_lasts =
+          still_lasts (with_cells_at p (cells_for (access_of reached) v) s.machine)
+          (with_cells_at_stays (since nothing) p (cells_for (access_of reached) v) s.machine)
+
+      have : Operands (op.Store reached) rest
+      have = takes_two (op.Store reached) refl v (pointer p) rest so
+
+      goes_on_so : store_stop (access_of reached) v ≡ None → Goes (onward (point_on (v ∷ pointer p ∷ rest)) (v ∷ rest))
+          (record s { machine = with_cells_at p (cells_for (access_of reached) v) s.machine })
+      goes_on_so fits = (
+        suc here.at,
+        v ∷ rest,
+        choices,
+        refl,
+        store whole known here s.machine ws its is_at (lasts_to after) after_lasts reached is v p rest so are fits,
+        bytes_stay whole known here s.machine ws its is_at deep (lasts_to after) (op.Store reached) is (suc here.at) (v ∷ rest) refl after tt tt
+            (record {
+              places = λ i low.
+                  under_top i v rest (subst (λ n. i < n) have.low low) ∙ have.same i (subst (λ n. i < n) have.low low);
+              values = λ x. values_written p (cells_for (access_of reached) v) s.machine x;
+            }) bytes,
+      )
+
+      by_later : store_stop (access_of reached) v ≡ None → (later : Option Stop)
+          → RanTo E Goes (then_with (λ value. give (onward (point_on (v ∷ pointer p ∷ rest)) (value ∷ rest)))
+          (ran_at its.at s (by_stop later v (with_cells_at p (cells_for (access_of reached) v) s.machine) s.machine)))
+      by_later fits (Some why) = ends _ _
+      by_later fits None = goes_on_so fits
+
+      by_first : (why : Option Stop) → store_stop (access_of reached) v ≡ why → (more : Stops)
+          → RanTo E Goes (then_with (λ value. give (onward (point_on (v ∷ pointer p ∷ rest)) (value ∷ rest)))
+          (ran_at its.at s (by_stop (first_stop (why ∷ more)) v (with_cells_at p (cells_for (access_of reached) v) s.machine) s.machine)))
+      by_first (Some why) stops more = ends _ _
+      by_first None fits more = by_later fits (first_stop more)
+
   -- ---- all of them
 
-  -- an operation of numbers, of the stack, of control and of variables
+  -- an operation that is no Step, Shift, Bring or routine, no call and no return
   abbrev pub IsOrdinary : Op → Type 0
-  IsOrdinary (op.Load reached) = ⊥
-  IsOrdinary (op.Store reached) = ⊥
-  IsOrdinary (op.Offset by) = ⊥
   IsOrdinary (op.Step stride pointer_first) = ⊥
   IsOrdinary (op.Shift place) = ⊥
   IsOrdinary (op.Routine place) = ⊥
@@ -421,9 +559,9 @@ module _ (whole : WholeCode) (known : Knowledge) (program : CodeProgram) (E : Ou
   on_stack_so a_slot op.Turn is plain stack so = turn_goes is stack so s.turns
   on_stack_so a_slot op.Mark is plain stack so = drop_goes op.Mark is tt tt stack (takes_none op.Mark refl stack so) (suc here.at) refl choices s.turns
   on_stack_so a_slot (op.Pick target) is plain stack so = pick_goes target is stack so (next_choice choices)
-  on_stack_so a_slot (op.Load reached) is plain stack so = absurd plain
-  on_stack_so a_slot (op.Store reached) is plain stack so = absurd plain
-  on_stack_so a_slot (op.Offset by) is plain stack so = absurd plain
+  on_stack_so a_slot (op.Load reached) is plain stack so = load_goes reached is stack so
+  on_stack_so a_slot (op.Store reached) is plain stack so = store_goes reached is stack so
+  on_stack_so a_slot (op.Offset by) is plain stack so = offset_goes by is stack so
   on_stack_so a_slot (op.Step stride pointer_first) is plain stack so = absurd plain
   on_stack_so a_slot (op.Shift place) is plain stack so = absurd plain
   on_stack_so a_slot (op.Routine place) is plain stack so = absurd plain
