@@ -470,8 +470,10 @@ module _ (whole : WholeCode) (known : Knowledge) (program : CodeProgram) (E : Ou
   load_goes (access.Number kind) is (pointer p ∷ rest) so = cells_go (access.Number kind) is p rest so (load_stop (access.Number kind) p)
   load_goes (access.Struct size) is (pointer p ∷ rest) so = cells_go (access.Struct size) is p rest so (load_stop (access.Struct size) p)
   load_goes (access.Pointer class) is (pointer Nil ∷ rest) so = cells_go (access.Pointer class) is Nil rest so (load_stop (access.Pointer class) Nil)
-  load_goes (access.Pointer class) is (pointer (Fixed object at) ∷ rest) so = cells_go (access.Pointer class) is (Fixed object at) rest so (load_stop (access.Pointer class) (Fixed object at))
-  load_goes (access.Pointer class) is (pointer (Spot its') ∷ rest) so = cells_go (access.Pointer class) is (Spot its') rest so (load_stop (access.Pointer class) (Spot its'))
+  load_goes (access.Pointer class) is (pointer (Fixed object at) ∷ rest) so =
+      cells_go (access.Pointer class) is (Fixed object at) rest so (load_stop (access.Pointer class) (Fixed object at))
+  load_goes (access.Pointer class) is (pointer (Spot its') ∷ rest) so =
+      cells_go (access.Pointer class) is (Spot its') rest so (load_stop (access.Pointer class) (Spot its'))
   load_goes (access.Pointer class) is (pointer (Handle n) ∷ rest) so = master_goes class n is rest so
 
   store_goes : (reached : code_access.Access) → its.op ≡ op.Store reached → (stack : List Value) → here.stack ≡ stack → StepOn (op.Store reached) stack
