@@ -28,7 +28,7 @@ use Rattle.hs_meaning.specs.Machine.{Machine, Object, Binding, slot, object_at, 
 use Rattle.hs_meaning.specs.Objects.{bindings, objects_for}
 use Rattle.hs_meaning.specs.Settings.{Setting, access_of_type}
 use Rattle.hs_meaning.specs.Values.{Value, number, pointer, state, structure, Access, of_number, of_pointer, of_struct, bytes_of, cells_for, length_of, store_stop}
-use Rattle.hs_tracked.specs.Cells.{InObjects, objects_written}
+use Rattle.hs_tracked.specs.Cells.{InObjects, each_block, each_object, objects_written}
 use Rattle.hs_tracked.specs.Entering.{begin, waiting, enter_cells, enter_pointer, enter_reached, enter_value}
 use Rattle.hs_tracked.specs.Going.{IsAt}
 use Rattle.hs_tracked.specs.Right.{AreRight}
@@ -41,6 +41,34 @@ use Rattle.hs_tree.specs.declared.head.VariableDecl.{VariableDecl}
 use Rattle.hs_types.specs.Integers.{integer_size}
 use Rattle.hs_types.specs.TypeTables.{TypeTable, size_of}
 use Rattle.hs_types.specs.declared.row.TypeId.{TypeId}
+
+-- ---- variables and objects of a call that begins
+
+-- no variable has a value
+pub no_value : (types : TypeTable) (k : ℕ) (variables : List VariableDecl) (i : ℕ) (v : Value)
+    → value_of_slot (slice_get (bindings types k variables) i) ≡ Some v → ⊥
+no_value types k [] i v holds = cc
+no_value types k (variable ∷ rest) i v holds =
+    by_slot (is_slot types variable) i (λ j is. no_value types k rest j v is) (λ j is. no_value types (suc k) rest j v is) holds
+  where
+    by_slot : (z : Bool) (i : ℕ) → ((j : ℕ) → value_of_slot (slice_get (bindings types k rest) j) ≡ Some v → ⊥)
+        → ((j : ℕ) → value_of_slot (slice_get (bindings types (suc k) rest) j) ≡ Some v → ⊥)
+        → value_of_slot (slice_get (if z then slot None ∷ bindings types k rest else object_at k ∷ bindings types (suc k) rest) i) ≡ Some v → ⊥
+    by_slot true zero slots others holds = cc
+    by_slot true (suc i) slots others holds = slots i holds
+    by_slot false zero slots others holds = cc
+    by_slot false (suc i) slots others holds = others i holds
+
+-- no cell has a value
+pub objects_free : (P : Cell → Type 0) → P Undefined → (types : TypeTable) (variables : List VariableDecl) → InObjects P (objects_for types variables)
+objects_free P undefined types [] = tt
+objects_free P undefined types (variable ∷ rest) = by_slot (is_slot types variable) (objects_free P undefined types rest)
+  where
+    by_slot : (z : Bool) → InObjects P (objects_for types rest)
+        → InObjects P (if z then objects_for types rest
+        else record { cells = replicate (size_of types variable.type_id) Undefined; storage = automatic } ∷ objects_for types rest)
+    by_slot true others = others
+    by_slot false others = (all_same P (size_of types variable.type_id) Undefined undefined, others)
 
 module _ (whole : WholeCode) (known : Knowledge) (here : Here) (fn : ℕ) (setting : Setting) where
   -- the slot of the function that gets the argument of that number
@@ -216,43 +244,18 @@ module _ (whole : WholeCode) (known : Knowledge) (here : Here) (machine : Machin
         (one_given start place variable.type_id v m (slice_get m.locals place)
         (subst (Goes whole known here fn setting place variable.type_id) (sym (filled.later place (omega arith))) go.0) are.0 filled)
         (λ it after filled'. all_given start (suc place) rest values after go.1 are.1 filled')
-
-    -- ---- variables without values
-
-    no_value : (types : TypeTable) (k : ℕ) (variables : List VariableDecl) (i : ℕ) (v : Value)
-        → value_of_slot (slice_get (bindings types k variables) i) ≡ Some v → ⊥
-    no_value types k [] i v holds = cc
-    no_value types k (variable ∷ rest) i v holds =
-        by_slot (is_slot types variable) i (λ j is. no_value types k rest j v is) (λ j is. no_value types (suc k) rest j v is) holds
-      where
-        by_slot : (z : Bool) (i : ℕ) → ((j : ℕ) → value_of_slot (slice_get (bindings types k rest) j) ≡ Some v → ⊥)
-            → ((j : ℕ) → value_of_slot (slice_get (bindings types (suc k) rest) j) ≡ Some v → ⊥)
-            → value_of_slot (slice_get (if z then slot None ∷ bindings types k rest else object_at k ∷ bindings types (suc k) rest) i) ≡ Some v → ⊥
-        by_slot true zero slots others holds = cc
-        by_slot true (suc i) slots others holds = slots i holds
-        by_slot false zero slots others holds = cc
-        by_slot false (suc i) slots others holds = others i holds
-
-    objects_free : (types : TypeTable) (variables : List VariableDecl) → InObjects CellIs (objects_for types variables)
-    objects_free types [] = tt
-    objects_free types (variable ∷ rest) = by_slot (is_slot types variable) (objects_free types rest)
-      where
-        by_slot : (z : Bool) → InObjects CellIs (objects_for types rest)
-            → InObjects CellIs (if z then objects_for types rest
-            else record { cells = replicate (size_of types variable.type_id) Undefined; storage = automatic } ∷ objects_for types rest)
-        by_slot true others = others
-        by_slot false others = (all_same CellIs (size_of types variable.type_id) Undefined tt, others)
+        -- ---- what is in memory
 
     old_objects : (objects : List Object) → AllByRecursion (λ object. TrackedCells whole known here machine ws object.cells) objects → InObjects CellIs objects
-    old_objects [] are = tt
-    old_objects (object ∷ rest) are =
-        (enter_cells whole known here machine ws its is_at fn function calls of_function right final blocks object.cells are.0, old_objects rest are.1)
+    old_objects =
+        each_object (TrackedCell whole known here machine ws) CellIs
+        (enter_cells whole known here machine ws its is_at fn function calls of_function right final blocks)
 
     old_blocks : (old : List Block) → AllByRecursion (λ block. TrackedCells whole known here machine ws block.cells) old
         → AllByRecursion (λ block. TrackedCells whole known new final inside block.cells) old
-    old_blocks [] are = tt
-    old_blocks (block ∷ rest) are =
-        (enter_cells whole known here machine ws its is_at fn function calls of_function right final blocks block.cells are.0, old_blocks rest are.1)
+    old_blocks =
+        each_block (TrackedCell whole known here machine ws) CellIs
+        (enter_cells whole known here machine ws its is_at fn function calls of_function right final blocks)
 
   -- ---- the law
 
@@ -278,8 +281,8 @@ module _ (whole : WholeCode) (known : Knowledge) (here : Here) (machine : Machin
             record {
               objects =
                   all_appended (λ object. AllByRecursion (CellIs after same.blocks) object.cells) machine.objects (objects_for setting.types variables)
-                  (old_objects after same.blocks machine.objects tracked.objects) (objects_free after same.blocks setting.types variables);
-              locals = λ i v holds. absurd (no_value after same.blocks setting.types (length machine.objects) variables i v holds);
+                  (old_objects after same.blocks machine.objects tracked.objects) (objects_free (CellIs after same.blocks) tt setting.types variables);
+              locals = λ i v holds. absurd (no_value setting.types (length machine.objects) variables i v holds);
               later = λ k from. refl;
             }
 

@@ -2,15 +2,13 @@
 --     Acts               what the role leaves of blocks and variables
 --     routine_value      the rows `routine_stays`; `routine_holds`, `routine_unlocks`; `routine_marks`, `routine_purgeable`
 --     made_value         a handle that is made: the row `routine_makes`
---     routine, copies    all that a call has; BlockMove
+--     routine            all that a call has
 --     acts_since         roles that mark and unmark nothing act so
---     acts_put           and so do those that act on the block of their argument
-use Rattle.std.proofs.Common.{ap, ◌≡◌, ◌⊎◌, inl, inr, ℕ, suc, ◌-◌, Bool, true, false, ◌&&◌, List, length, Option, Some, refl, sym, ◌∙◌, subst, true≢false, ◌<◌, zero, [], ◌∷◌, ◌==◌, slice_get, slice_set, arith}
+--     acts_one, acts_nil and so do those that act on the block of their argument, or on NIL
+use Rattle.std.proofs.Common.{ap, ◌≡◌, ◌⊎◌, inl, inr, ℕ, suc, ◌-◌, Bool, true, false, ◌&&◌, List, length, Option, Some, refl, sym, ◌∙◌, subst, true≢false, ◌<◌, zero, [], ◌∷◌, ◌==◌, arith}
 use Rattle.std.proofs.lemmas.Bool.{and_parts}
 use Rattle.std.proofs.lemmas.Bool.Decides.{nat_tests}
 use Rattle.std.proofs.lemmas.Option.{none-some, same_Some}
-use Rattle.std.specs.List.{AllByRecursion}
-use Rattle.hs_base.specs.Entries.{set_there, set_other}
 use Rattle.hs_calls.specs.Calls.{Here, Wait, moved}
 use Rattle.hs_chains.specs.Chains.{Spot as Mark}
 use Rattle.hs_chains.specs.Knowledge.{Knowledge}
@@ -31,22 +29,20 @@ use Rattle.hs_flow.specs.declared.fact.FactStatus.TheVariants as status
 use Rattle.hs_flow.specs.declared.fact.Slot as flow_slot
 use Rattle.hs_flow.specs.declared.fact.Slot.TheVariants as slot
 use Rattle.hs_heap.specs.Blocks.{Block}
-use Rattle.hs_heap.specs.Memory.{block_at, put_block}
-use Rattle.hs_heap.specs.declared.cell.Cell.{Cell}
-use Rattle.hs_heap.specs.declared.cell.Pointer.{Pointer}
-use Rattle.hs_heap.specs.declared.cell.Pointer.TheVariants.{Handle}
+use Rattle.hs_heap.specs.Memory.{block_at}
+use Rattle.hs_heap.specs.declared.cell.Pointer.TheVariants.{Nil, Handle}
 use Rattle.hs_hiding.specs.Holding.{value_of}
-use Rattle.hs_meaning.specs.Accesses.{cells_at, with_cells_at}
 use Rattle.hs_meaning.specs.Machine.{Machine}
 use Rattle.hs_meaning.specs.Values.{Value, pointer}
+use Rattle.hs_role_truth.specs.Handled.{OneBlock}
 use Rattle.hs_sound_heap.specs.Since.{BlockSince, May, Since, IsThere, is_marked, is_purged}
 use Rattle.hs_table.specs.declared.role.Role.{Role}
-use Rattle.hs_tracked.specs.Cells.{InBlocks, InObjects, cells_read, blocks_written, objects_written}
 use Rattle.hs_tracked.specs.Going.{IsAt, leads}
+use Rattle.hs_tracked.specs.Making.{HasAll}
 use Rattle.hs_tracked.specs.Over.{outer_backed}
-use Rattle.hs_tracked.specs.Passing.{Brings, Passes, PointersPass, HandlePasses, HandleStays, StaysCurrent, ClassesPass, PlacesPass, goes_on, pass_value, pass_cells, pass_places, pass_blocks, pass_objects}
+use Rattle.hs_tracked.specs.Passing.{Brings, Passes, PointersPass, HandlePasses, HandleStays, StaysCurrent, ClassesPass, PlacesPass, goes_on, pass_value, pass_places, pass_blocks, pass_objects}
 use Rattle.hs_tracked.specs.Right.{AreRight, IsIn, shared_there, apart_blocks}
-use Rattle.hs_tracked.specs.Tracking.{MeansHere, Backed, HasChain, TrackedHandle, TrackedCell, TrackedCells, Tracked, TrackedPlaces, AreTracked}
+use Rattle.hs_tracked.specs.Tracking.{MeansHere, Backed, HasChain, TrackedHandle, TrackedCell, Tracked, TrackedPlaces, AreTracked}
 use Rattle.hs_tree.specs.declared.head.Variable.{Variable}
 use Rattle.hs_truth.specs.Places.{at_place, place_low, the_top, under_top}
 
@@ -89,26 +85,46 @@ module _ (whole : WholeCode) (known : Knowledge) (here : Here) (machine after : 
     pub values : (x : Variable) → value_of after x ≡ value_of machine x
     pub lasts : unlocks_by facts.restores its_role ≡ false → (n : ℕ) → here.lasting n ≡ true → lasting n ≡ true
 
-  module _ (acts : Acts) (of : flow_slot.Slot) (low : is_below base of ≡ true) where
+  -- Of that, what pointers ask.
+  pub record StaysAt (n : ℕ) (old : Block) : Type 0 where
+    pub block : Block
+    pub there : block_at after.blocks n ≡ Some block
+    pub epoch : block.epoch ≡ old.epoch
+    pub gone : is_purged block.presence ≡ true → is_purged old.presence ≡ true
+
+  -- of all blocks, and of variables and what lasted
+  pub record Stays : Type 0 where
+    pub blocks : (n : ℕ) (block : Block) → block_at machine.blocks n ≡ Some block → StaysAt n block
+    pub values : (x : Variable) → value_of after x ≡ value_of machine x
+    pub lasts : unlocks_by facts.restores its_role ≡ false → (n : ℕ) → here.lasting n ≡ true → lasting n ≡ true
+
+  acting_stays : Acts → Stays
+  acting_stays acts = record { blocks = λ n block there. on n block (acts.blocks n block there); values = acts.values; lasts = acts.lasts }
+    where
+      on : (n : ℕ) (block : Block) → ActsAt n block → StaysAt n block
+      on n block its = record { block = its.block; there = its.there; epoch = its.epoch; gone = its.gone }
+
+  module _ (of : flow_slot.Slot) (low : is_below base of ≡ true) where
     -- a fact of the slot carries each chain on
-    brings : (old new : FactStatus)
+    pub brings : (old new : FactStatus)
         → Among (next_of kinds (length whole.classes) facts (op.Routine number) (at_slot old of)) (at_slot new of)
         → Brings whole known here next machine after ws of of old new
     brings old new has =
         leads whole known here machine ws its is_at (op.Routine number) is (suc here.at) stack lasting refl after of of old new has
 
-    stays : (old : FactStatus) → rows.Lasts kinds (length whole.classes) facts old → Brings whole known here next machine after ws of of old old
+    pub stays : (old : FactStatus) → rows.Lasts kinds (length whole.classes) facts old → Brings whole known here next machine after ws of of old old
     stays old lasts = brings old old (rows.routine_stays kinds (length whole.classes) facts number old of lasts low)
 
-    -- ---- pointers
+  -- ---- pointers
 
+  module _ (kept : Stays) (of : flow_slot.Slot) (low : is_below base of ≡ true) where
     current_by : (old new : FactStatus) (n : ℕ) (block : Block) → block_at machine.blocks n ≡ Some block
         → Brings whole known here next machine after ws of of old new → MeansHere whole new next after n
         → ((inside : List Mark) → Backed whole old inside ws n → Backed whole new inside ws n)
         → StaysCurrent whole known here next machine after ws of of old n block
-    current_by old new n block there goes means backed = on (acts.blocks n block there)
+    current_by old new n block there goes means backed = on (kept.blocks n block there)
       where
-        on : ActsAt n block → StaysCurrent whole known here next machine after ws of of old n block
+        on : StaysAt n block → StaysCurrent whole known here next machine after ws of of old n block
         on its =
             record {
               block = its.block;
@@ -125,36 +141,38 @@ module _ (whole : WholeCode) (known : Knowledge) (here : Here) (machine after : 
         → unlocks_by facts.restores its_role ≡ z → StaysCurrent whole known here next machine after ws of of status.Held n block
     by_held n block there lasted true unlocks =
         current_by status.Held status.Outer n block there
-        (brings status.Held status.Outer (rows.routine_unlocks kinds (length whole.classes) facts number of unlocks low)) tt
+        (brings of low status.Held status.Outer (rows.routine_unlocks kinds (length whole.classes) facts number of unlocks low)) tt
         (λ inside backed. outer_backed whole inside ws n backed)
     by_held n block there lasted false unlocks =
         current_by status.Held status.Held n block there
-        (brings status.Held status.Held (rows.routine_holds kinds (length whole.classes) facts number of unlocks low)) (acts.lasts unlocks n lasted)
+        (brings of low status.Held status.Held (rows.routine_holds kinds (length whole.classes) facts number of unlocks low)) (kept.lasts unlocks n lasted)
         (λ inside backed. backed)
 
     by_status : (old : FactStatus) (n : ℕ) (block : Block) → block_at machine.blocks n ≡ Some block → MeansHere whole old here machine n
         → StaysCurrent whole known here next machine after ws of of old n block
     by_status (status.Fresh h) n block there means =
-        current_by (status.Fresh h) (status.Fresh h) n block there (stays (status.Fresh h) tt) (means.0, means.1, acts.values means.0 ∙ means.2)
+        current_by (status.Fresh h) (status.Fresh h) n block there (stays of low (status.Fresh h) tt) (means.0, means.1, kept.values means.0 ∙ means.2)
         (λ inside backed. backed)
     by_status status.Held n block there means = by_held n block there means (unlocks_by facts.restores its_role) refl
     by_status status.Outer n block there means =
-        current_by status.Outer status.Outer n block there (stays status.Outer tt) tt (λ inside backed. backed)
+        current_by status.Outer status.Outer n block there (stays of low status.Outer tt) tt (λ inside backed. backed)
     by_status status.Loose n block there means =
-        current_by status.Loose status.Loose n block there (stays status.Loose tt) tt (λ inside backed. backed)
+        current_by status.Loose status.Loose n block there (stays of low status.Loose tt) tt (λ inside backed. backed)
     by_status other n block there means = absurd means
 
-    pointers : PointersPass whole known here next machine after ws of of
-    pointers = record { stale = stays status.Stale tt; current = λ old n block there means. inr (by_status old n block there means) }
+    pub pointers : PointersPass whole known here next machine after ws of of
+    pointers = record { stale = stays of low status.Stale tt; current = λ old n block there means. inr (by_status old n block there means) }
 
-    -- ---- handles
+  -- ---- handles
 
+  module _ (acts : Acts) (of : flow_slot.Slot) (low : is_below base of ≡ true) where
     module _ (n : ℕ) (has : IsIn here machine of (pointer (Handle n))) (block : Block) (new : ActsAt n block) (marked : is_marked new.block ≡ true) where
       -- a chain brings Purgeable
       abbrev MarkedBy : Type 0
       MarkedBy =
           Brings whole known here next machine after ws of of status.IsHandle status.Purgeable
           ⊎ ((is_marked block ≡ true) × Brings whole known here next machine after ws of of status.Purgeable status.Purgeable)
+          ⊎ HasChain whole known next ws of status.Purgeable
 
       -- it was: and the role does not unmark the block of a name of the slot
       was_marked : is_marked block ≡ true → (z : Bool) → (unmarks_by its_role && share_name facts of (slot.Place base)) ≡ z → MarkedBy
@@ -162,7 +180,7 @@ module _ (whole : WholeCode) (known : Knowledge) (here : Here) (machine after : 
           let parts = and_parts (unmarks_by its_role) (share_name facts of (slot.Place base)) both in
           absurd (new.unmarked marked parts.0 (shared_there whole known here machine right is_at.names of base n has parts.1))
       was_marked old false none =
-          inr (old, brings status.Purgeable status.Purgeable (rows.routine_purgeable kinds (length whole.classes) facts number of none low))
+          inr (inl (old, brings of low status.Purgeable status.Purgeable (rows.routine_purgeable kinds (length whole.classes) facts number of none low)))
 
       -- it is the block of the argument, which the role marks: so the slot is not apart
       now_marked : marks_by facts.restores its_role ≡ true → at_place base here.stack ≡ Some (pointer (Handle n)) → (z : Bool)
@@ -170,7 +188,7 @@ module _ (whole : WholeCode) (known : Knowledge) (here : Here) (machine after : 
       now_marked marks there true is_apart =
           absurd (apart_blocks whole known here machine right is_at.names of (slot.Place base) n n has there is_apart refl)
       now_marked marks there false not_apart =
-          inl (brings status.IsHandle status.Purgeable (rows.routine_marks kinds (length whole.classes) facts number of marks not_apart low))
+          inl (brings of low status.IsHandle status.Purgeable (rows.routine_marks kinds (length whole.classes) facts number of marks not_apart low))
 
       marked_by : (is_marked block ≡ true) ⊎ ((marks_by facts.restores its_role ≡ true) × (at_place base here.stack ≡ Some (pointer (Handle n)))) → MarkedBy
       marked_by (inl old) = was_marked old (unmarks_by its_role && share_name facts of (slot.Place base)) refl
@@ -178,7 +196,7 @@ module _ (whole : WholeCode) (known : Knowledge) (here : Here) (machine after : 
 
     handle_passes : (n : ℕ) → IsIn here machine of (pointer (Handle n)) → HandlePasses whole known here next machine after ws of of n
     handle_passes n has =
-        record { is = stays status.IsHandle tt; stays = λ block there. on block (acts.blocks n block there) }
+        record { is = stays of low status.IsHandle tt; stays = λ block there. on block (acts.blocks n block there) }
       where
         on : (block : Block) → ActsAt n block → HandleStays whole known here next machine after ws of of n block
         on block new =
@@ -186,12 +204,12 @@ module _ (whole : WholeCode) (known : Knowledge) (here : Here) (machine after : 
               block = new.block;
               there = new.there;
               marked = λ so. marked_by n has block new so (new.marked so);
-              gone = λ so. inr (inr (new.gone so, stays status.Hollow tt));
+              gone = λ so. inr (inr (new.gone so, stays of low status.Hollow tt));
             }
 
     passes : (v : Value) → IsIn here machine of v → Passes whole known here next machine after ws of of v
     passes v has =
-        record { pointers = pointers; handle = λ n handle. handle_passes n (subst (IsIn here machine of) handle has) }
+        record { pointers = pointers (acting_stays acts) of low; handle = λ n handle. handle_passes n (subst (IsIn here machine of) handle has) }
 
   module _ (acts : Acts) where
     classes : ClassesPass whole known here next machine after ws
@@ -202,15 +220,11 @@ module _ (whole : WholeCode) (known : Knowledge) (here : Here) (machine after : 
         → Tracked whole known next after ws of v
     routine_value of low v has are = pass_value whole known here next machine after ws classes of of v (passes acts of low v has) are
 
-    -- What is in memory.
-    pub routine_cells : (cells : List Cell) → TrackedCells whole known here machine ws cells → TrackedCells whole known next after ws cells
-    routine_cells cells are = pass_cells whole known here next machine after ws classes cells are
-
     -- Control goes on.
     pub routine_reached : HasChain whole known here ws slot.Nothing status.Reached → HasChain whole known next ws slot.Nothing status.Reached
     routine_reached has =
         goes_on whole known here next machine after ws slot.Nothing slot.Nothing status.Reached status.Reached
-        (stays acts slot.Nothing refl status.Reached tt) has
+        (stays slot.Nothing refl status.Reached tt) has
 
   -- A handle that the routine makes: its block is new.
   pub made_value : makes_handle kinds number ≡ true → HasChain whole known here ws slot.Nothing status.Reached → (n : ℕ) (block : Block)
@@ -243,40 +257,28 @@ module _ (whole : WholeCode) (known : Knowledge) (here : Here) (machine after : 
     )
 
     -- The values below the arguments, variables and cells stay tracked; the result and new cells are as they are given.
-    pub routine : (v : Value) → stack ≡ v ∷ rest → Tracked whole known next after ws (slot.Place (length rest)) v
+    pub routine : (v : Value) → stack ≡ v ∷ rest
+        → (HasAll (TrackedCell whole known next after ws) tt (λ b. tt) machine → Tracked whole known next after ws (slot.Place (length rest)) v)
         → TrackedPlaces whole known here machine ws rest
-        → (AllByRecursion (λ block. TrackedCells whole known next after ws block.cells) machine.blocks
-        → AllByRecursion (λ block. TrackedCells whole known next after ws block.cells) after.blocks)
-        → (AllByRecursion (λ object. TrackedCells whole known next after ws object.cells) machine.objects
-        → AllByRecursion (λ object. TrackedCells whole known next after ws object.cells) after.objects)
+        → (HasAll (TrackedCell whole known next after ws) tt (λ b. tt) machine → HasAll (TrackedCell whole known next after ws) tt (λ b. tt) after)
         → AreTracked whole known here machine ws → AreTracked whole known next after ws
-    routine v so result places blocks objects are =
+    routine v so result places cells are =
         record {
           reached = routine_reached acts are.reached;
           places = subst (TrackedPlaces whole known next after ws) (sym so)
-              (result, pass_places whole known here next machine after ws (classes acts) rest (places_pass rest (λ i u has. has)) places);
+              (result memory, pass_places whole known here next machine after ws (classes acts) rest (places_pass rest (λ i u has. has)) places);
           variables = λ x u holds.
               routine_value acts (slot.Variable x) refl u (sym (acts.values x) ∙ holds) (are.variables x u (sym (acts.values x) ∙ holds));
-          blocks = blocks (pass_blocks whole known here next machine after ws (classes acts) machine.blocks are.blocks);
-          objects = objects (pass_objects whole known here next machine after ws (classes acts) machine.objects are.objects);
+          blocks = (cells memory).blocks;
+          objects = (cells memory).objects;
         }
-
-    -- BlockMove: cells that are copied are of the classes of which they were.
-    pub copies : (v : Value) → stack ≡ v ∷ rest → Tracked whole known next after ws (slot.Place (length rest)) v
-        → TrackedPlaces whole known here machine ws rest → (from to : Pointer) (count : ℕ)
-        → after ≡ with_cells_at to (cells_at from count machine) machine → AreTracked whole known here machine ws
-        → AreTracked whole known next after ws
-    copies v so result places from to count copied are =
-        routine v so result places
-        (λ cells. subst (λ m. InBlocks (TrackedCell whole known next after ws) m.blocks) (sym copied)
-        (blocks_written (TrackedCell whole known next after ws) to (cells_at from count machine) machine new cells))
-        (λ cells. subst (λ m. InObjects (TrackedCell whole known next after ws) m.objects) (sym copied)
-        (objects_written (TrackedCell whole known next after ws) to (cells_at from count machine) machine new cells)) are
       where
-        new : TrackedCells whole known next after ws (cells_at from count machine)
-        new =
-            routine_cells acts (cells_at from count machine)
-            (cells_read (TrackedCell whole known here machine ws) from count machine are.blocks are.objects)
+        memory : HasAll (TrackedCell whole known next after ws) tt (λ b. tt) machine
+        memory =
+            record {
+              blocks = pass_blocks whole known here next machine after ws (classes acts) machine.blocks are.blocks;
+              objects = pass_objects whole known here next machine after ws (classes acts) machine.objects are.objects;
+            }
 
   -- ---- roles that mark and unmark nothing
 
@@ -304,63 +306,68 @@ module _ (whole : WholeCode) (known : Knowledge) (here : Here) (machine after : 
   -- ---- roles that act on the block of their argument
 
   -- HPurge, HNoPurge, and HSetState that is no restore: the block of the argument is another one, and all others stay.
-  pub acts_put : (may : May) (m : ℕ) (old new : Block) → at_place base here.stack ≡ Some (pointer (Handle m)) → block_at machine.blocks m ≡ Some old
-      → after.blocks ≡ put_block machine.blocks m new → BlockSince may old new → may.moves ≡ false
-      → (may.marks ≡ true → marks_by facts.restores its_role ≡ true) → (unmarks_by its_role ≡ true → is_marked new ≡ false)
-      → ((x : Variable) → value_of after x ≡ value_of machine x)
+  pub acts_one : (may : May) (m : ℕ) (old new : Block) → at_place base here.stack ≡ Some (pointer (Handle m)) → OneBlock machine after m old new
+      → BlockSince may old new → may.moves ≡ false → (may.marks ≡ true → marks_by facts.restores its_role ≡ true)
+      → (unmarks_by its_role ≡ true → is_marked new ≡ false)
       → (unlocks_by facts.restores its_role ≡ false → (n : ℕ) → here.lasting n ≡ true → lasting n ≡ true) → Acts
-  acts_put may zero old new argument found put since moves marks unmarks values lasts = absurd (none-some old found)
-  acts_put may (suc i) old new argument found put since moves marks unmarks values lasts =
-      record { blocks = by_number; values = values; lasts = lasts }
+  acts_one may m old new argument one since moves marks unmarks lasts =
+      record { blocks = λ n block there. by_test n block there (n == m) refl; values = one.values; lasts = lasts }
     where
       before : (b : Bool) → (b ≡ true → marks_by facts.restores its_role ≡ true) → may.marks ≡ b → is_marked new ≡ true
-          → (is_marked old ≡ true) ⊎ ((marks_by facts.restores its_role ≡ true) × (at_place base here.stack ≡ Some (pointer (Handle (suc i)))))
+          → (is_marked old ≡ true) ⊎ ((marks_by facts.restores its_role ≡ true) × (at_place base here.stack ≡ Some (pointer (Handle m))))
       before true role_marks same so = inr (role_marks refl, argument)
       before false role_marks same so = inl (since.purgeable same so)
 
-      set : after.blocks ≡ slice_set machine.blocks i new
-      set = put ∙ ap (λ k. slice_set machine.blocks k new) (one_less i)
-        where
-          one_less : (a : ℕ) → suc a - 1 ≡ a
-          one_less a = omega arith
-
-      of_argument : ActsAt (suc i) old
+      of_argument : ActsAt m old
       of_argument =
           record {
             block = new;
-            there = ap (λ blocks. slice_get blocks i) set ∙ set_there machine.blocks i old new found;
+            there = one.now;
             epoch = since.epoch moves;
             gone = λ so. since.unpurged moves so;
             marked = λ so. before may.marks marks refl so;
             unmarked = λ so unmarked argument'. true≢false (sym so ∙ unmarks unmarked);
           }
 
-      same_block : (k : ℕ) (block : Block) → (k ≡ i → ⊥) → slice_get machine.blocks k ≡ Some block → ActsAt (suc k) block
-      same_block k block other there =
-          record {
-            block = block;
-            there = ap (λ blocks. slice_get blocks k) set ∙ set_other machine.blocks i new k other ∙ there;
-            epoch = refl;
-            gone = λ so. so;
-            marked = λ so. inl so;
-            unmarked = λ so unmarked argument'. other (same_number k i (sym argument' ∙ argument));
-          }
-        where
-          same_number : (a b : ℕ) → ◌≡◌ {A = Option Value} (Some (pointer (Handle (suc a)))) (Some (pointer (Handle (suc b)))) → a ≡ b
-          same_number a b so = cc
-
-      by_test : (k : ℕ) (block : Block) → slice_get machine.blocks k ≡ Some block → (z : Bool) → (k == i) ≡ z → ActsAt (suc k) block
-      by_test k block there true same =
-          subst (λ j. ActsAt (suc j) block) (sym (are_one k i same))
-          (subst (ActsAt (suc i)) (same_Some old block (sym found ∙ ap (slice_get machine.blocks) (sym (are_one k i same)) ∙ there)) of_argument)
+      by_test : (n : ℕ) (block : Block) → block_at machine.blocks n ≡ Some block → (z : Bool) → (n == m) ≡ z → ActsAt n block
+      by_test n block there true same =
+          subst (λ j. ActsAt j block) (sym (are_one n m same))
+          (subst (ActsAt m) (same_Some old block (sym one.there ∙ ap (block_at machine.blocks) (sym (are_one n m same)) ∙ there)) of_argument)
         where
           are_one : (a b : ℕ) → (a == b) ≡ true → a ≡ b
           are_one a b is = grind (is, nat_tests, arith)
-      by_test k block there false same = same_block k block (are_apart k i same) there
+      by_test n block there false same =
+          record {
+            block = block;
+            there = one.others n (are_apart n m same) ∙ there;
+            epoch = refl;
+            gone = λ so. so;
+            marked = λ so. inl so;
+            unmarked = λ so unmarked argument'. are_apart n m same (same_number n m (sym argument' ∙ argument));
+          }
         where
           are_apart : (a b : ℕ) → (a == b) ≡ false → a ≡ b → ⊥
           are_apart a b is so = grind (is, so, nat_tests, arith)
 
-      by_number : (n : ℕ) (block : Block) → block_at machine.blocks n ≡ Some block → ActsAt n block
-      by_number zero block there = absurd (none-some block there)
-      by_number (suc k) block there = by_test k block there (k == i) refl
+          same_number : (a b : ℕ) → ◌≡◌ {A = Option Value} (Some (pointer (Handle a))) (Some (pointer (Handle b))) → a ≡ b
+          same_number a b so = cc
+
+  -- NIL: nothing is done.
+  pub acts_nil : at_place base here.stack ≡ Some (pointer Nil) → machine ≡ after
+      → (unlocks_by facts.restores its_role ≡ false → (n : ℕ) → here.lasting n ≡ true → lasting n ≡ true) → Acts
+  acts_nil argument same lasts =
+      record { blocks = λ n block there. stays_so n block there; values = λ x. ap (λ m. value_of m x) (sym same); lasts = lasts }
+    where
+      no_handle : (n : ℕ) → ◌≡◌ {A = Option Value} (Some (pointer Nil)) (Some (pointer (Handle n))) → ⊥
+      no_handle n so = cc
+
+      stays_so : (n : ℕ) (block : Block) → block_at machine.blocks n ≡ Some block → ActsAt n block
+      stays_so n block there =
+          record {
+            block = block;
+            there = ap (λ (m : Machine). block_at m.blocks n) (sym same) ∙ there;
+            epoch = refl;
+            gone = λ so. so;
+            marked = λ so. inl so;
+            unmarked = λ so unmarked argument'. no_handle n (sym argument ∙ argument');
+          }

@@ -3,6 +3,7 @@
 --     cells_read                   the cells that a pointer reaches
 --     objects_ended                the cells after the objects of a call have ended
 --     blocks_written, objects_written      the cells after others are put where a pointer reaches
+--     each_block, each_object, each_cell       what holds of cells, from what holds of them
 use Rattle.std.proofs.Common.{◌≡◌, ℤ, ℕ, zero, suc, ◌+◌, ◌-◌, List, [], ◌∷◌, ◌++◌, take, drop, length, slice_get, Option, Some, None, refl}
 use Rattle.std.proofs.lemmas.Option.{none-some}
 use Rattle.std.specs.List.{AllByRecursion}
@@ -26,7 +27,8 @@ module _ (P : Cell → Type 0) where
   abbrev pub InObjects : List Object → Type 0
   InObjects objects = AllByRecursion (λ its. AllByRecursion P its.cells) objects
 
-  of_block : (blocks : List Block) (n : ℕ) (block : Block) → InBlocks blocks → block_at blocks n ≡ Some block → AllByRecursion P block.cells
+  -- of one block
+  pub of_block : (blocks : List Block) (n : ℕ) (block : Block) → InBlocks blocks → block_at blocks n ≡ Some block → AllByRecursion P block.cells
   of_block blocks zero block are at = absurd (none-some block at)
   of_block blocks (suc i) block are at = all_at (λ b. AllByRecursion P b.cells) blocks i block are at
 
@@ -53,7 +55,8 @@ module _ (P : Cell → Type 0) where
 
   -- ---- writing
 
-  from_written : (at : ℤ) (new cells : List Cell) → AllByRecursion P new → AllByRecursion P cells → AllByRecursion P (with_cells_from at new cells)
+  -- the cells of one object with others from a place on
+  pub from_written : (at : ℤ) (new cells : List Cell) → AllByRecursion P new → AllByRecursion P cells → AllByRecursion P (with_cells_from at new cells)
   from_written at new cells is are =
       all_appended P (take (start_at at) cells ++ new) (drop (start_at at + length new) cells)
       (all_appended P (take (start_at at) cells) new (all_take P (start_at at) cells are) is) (all_drop P (start_at at + length new) cells are)
@@ -103,3 +106,21 @@ module _ (P : Cell → Type 0) where
   objects_ended (object_at place ∷ rest) machine are =
       objects_ended rest (with_object place ended_object machine)
       (all_set (λ it. AllByRecursion P it.cells) machine.objects place ended_object are tt)
+
+-- ---- from one to another
+
+module _ (P Q : Cell → Type 0) (each : (cells : List Cell) → AllByRecursion P cells → AllByRecursion Q cells) where
+  -- what holds of the cells of all blocks
+  pub each_block : (blocks : List Block) → InBlocks P blocks → InBlocks Q blocks
+  each_block [] are = tt
+  each_block (block ∷ blocks) are = (each block.cells are.0, each_block blocks are.1)
+
+  -- and of all objects
+  pub each_object : (objects : List Object) → InObjects P objects → InObjects Q objects
+  each_object [] are = tt
+  each_object (its ∷ objects) are = (each its.cells are.0, each_object objects are.1)
+
+-- what holds of each cell
+pub each_cell : (P Q : Cell → Type 0) → ((cell : Cell) → P cell → Q cell) → (cells : List Cell) → AllByRecursion P cells → AllByRecursion Q cells
+each_cell P Q each [] are = tt
+each_cell P Q each (cell ∷ cells) are = (each cell are.0, each_cell P Q each cells are.1)

@@ -90,7 +90,7 @@ module _ (whole : WholeCode) (known : Knowledge) (w : Wait) (ws : List Wait) (af
   there_after (suc i) block there = since i block there
 
   -- a fact that goes over the call carries each chain on
-  leads_over : (of : flow_slot.Slot) (old new : FactStatus) → Among (over_of callee facts (at_slot old of)) (at_slot new of)
+  pub leads_over : (of : flow_slot.Slot) (old new : FactStatus) → Among (over_of callee facts (at_slot old of)) (at_slot new of)
       → Brings whole known w.here next w.machine after ws of of old new
   leads_over of old new has n inside chain =
       chain_over n _ _ inside chain
@@ -262,8 +262,9 @@ module _ (whole : WholeCode) (known : Knowledge) (w : Wait) (ws : List Wait) (af
       marked_by : is_marked new.block ≡ true → (z : Bool) → callee.marks ≡ z
           → Brings whole known w.here next w.machine after ws of of status.IsHandle status.Purgeable
           ⊎ ((is_marked block ≡ true) × Brings whole known w.here next w.machine after ws of of status.Purgeable status.Purgeable)
+          ⊎ HasChain whole known next ws of status.Purgeable
       marked_by marked true marks = inl (leads_over of status.IsHandle status.Purgeable (rows.over_marks callee facts of goes marks))
-      marked_by marked false marks = inr (new.since.purgeable marks marked, lasts status.Purgeable tt)
+      marked_by marked false marks = inr (inl (new.since.purgeable marks marked, lasts status.Purgeable tt))
 
       handle_stays : HandleStays whole known w.here next w.machine after ws of of n block
       handle_stays =

@@ -27,6 +27,7 @@ use Rattle.hs_heap.specs.declared.cell.Spot as spot
 use Rattle.hs_meaning.specs.Machine.{Machine, Object}
 use Rattle.hs_meaning.specs.Values.{Value, number, pointer, state, structure}
 use Rattle.hs_sound_heap.specs.Since.{is_marked, is_purged}
+use Rattle.hs_tracked.specs.Cells.{each_block, each_object}
 use Rattle.hs_tracked.specs.Tracking.{mark_of, MeansHere, Backed, HasChain, Current, TrackedSpot, TrackedHandle, TrackedPointer, TrackedCell, TrackedCells, Tracked, TrackedPlaces}
 
 -- ---- pointers and statuses
@@ -88,11 +89,14 @@ module _ (whole : WholeCode) (known : Knowledge) (here next : Here) (machine aft
       pub current : (its : FactStatus) (n : ℕ) (block : Block) → block_at machine.blocks n ≡ Some block → MeansHere whole its here machine n
           → Brings its status.Stale ⊎ StaysCurrent its n block
 
-    -- the block of a handle is marked, or purged, only if a chain says so
+    -- The block of a handle is marked, or purged, only if a chain says so: one that goes on from a fact of the slot, or, of a block that is marked, another
+    -- one.
     pub record HandleStays (n : ℕ) (old : Block) : Type 0 where
       pub block : Block
       pub there : block_at after.blocks n ≡ Some block
-      pub marked : is_marked block ≡ true → Brings status.IsHandle status.Purgeable ⊎ ((is_marked old ≡ true) × Brings status.Purgeable status.Purgeable)
+      pub marked : is_marked block ≡ true
+          → Brings status.IsHandle status.Purgeable ⊎ ((is_marked old ≡ true) × Brings status.Purgeable status.Purgeable)
+          ⊎ HasChain whole known next ws to status.Purgeable
       pub gone : is_purged block.presence ≡ true
           → Brings status.IsHandle status.Hollow ⊎ ((is_marked old ≡ true) × Brings status.Purgeable status.Hollow)
           ⊎ ((is_purged old.presence ≡ true) × Brings status.Hollow status.Hollow)
@@ -159,9 +163,10 @@ module _ (whole : WholeCode) (known : Knowledge) (here next : Here) (machine aft
             }
           where
             marked : Brings of to status.IsHandle status.Purgeable ⊎ ((is_marked h.block ≡ true) × Brings of to status.Purgeable status.Purgeable)
-                → HasChain whole known next ws to status.Purgeable
+                ⊎ HasChain whole known next ws to status.Purgeable → HasChain whole known next ws to status.Purgeable
             marked (inl brings) = goes_on of to status.IsHandle status.Purgeable brings h.is
-            marked (inr both) = goes_on of to status.Purgeable status.Purgeable both.1 (h.marked both.0)
+            marked (inr (inl both)) = goes_on of to status.Purgeable status.Purgeable both.1 (h.marked both.0)
+            marked (inr (inr has)) = has
 
             gone : Brings of to status.IsHandle status.Hollow ⊎ ((is_marked h.block ≡ true) × Brings of to status.Purgeable status.Hollow)
                 ⊎ ((is_purged h.block.presence ≡ true) × Brings of to status.Hollow status.Hollow) → HasChain whole known next ws to status.Hollow
@@ -208,13 +213,11 @@ module _ (whole : WholeCode) (known : Knowledge) (here next : Here) (machine aft
 
     pub pass_blocks : (blocks : List Block) → AllByRecursion (λ block. TrackedCells whole known here machine ws block.cells) blocks
         → AllByRecursion (λ block. TrackedCells whole known next after ws block.cells) blocks
-    pass_blocks [] are = tt
-    pass_blocks (block ∷ blocks) are = (pass_cells block.cells are.0, pass_blocks blocks are.1)
+    pass_blocks = each_block (TrackedCell whole known here machine ws) (TrackedCell whole known next after ws) pass_cells
 
     pub pass_objects : (objects : List Object) → AllByRecursion (λ its. TrackedCells whole known here machine ws its.cells) objects
         → AllByRecursion (λ its. TrackedCells whole known next after ws its.cells) objects
-    pass_objects [] are = tt
-    pass_objects (its ∷ objects) are = (pass_cells its.cells are.0, pass_objects objects are.1)
+    pass_objects = each_object (TrackedCell whole known here machine ws) (TrackedCell whole known next after ws) pass_cells
 
   -- ---- operations that move and mark nothing
 
@@ -275,6 +278,6 @@ module _ (whole : WholeCode) (known : Knowledge) (here next : Here) (machine aft
           record {
             block = u.block;
             there = u.there;
-            marked = λ so. inr (u.marked so, as_it_was status.Purgeable quiet.plain.1);
+            marked = λ so. inr (inl (u.marked so, as_it_was status.Purgeable quiet.plain.1));
             gone = λ so. inr (inr (u.gone so, as_it_was status.Hollow quiet.plain.2));
           }

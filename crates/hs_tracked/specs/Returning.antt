@@ -25,7 +25,7 @@ use Rattle.hs_meaning.specs.Frames.{closed}
 use Rattle.hs_meaning.specs.Machine.{Machine, Object, value_of_slot}
 use Rattle.hs_meaning.specs.Values.{Value}
 use Rattle.hs_sound_heap.specs.Since.{Since}
-use Rattle.hs_tracked.specs.Cells.{objects_ended}
+use Rattle.hs_tracked.specs.Cells.{each_block, each_object, objects_ended}
 use Rattle.hs_tracked.specs.Going.{IsAt}
 use Rattle.hs_tracked.specs.Leaving.{Exits, leave_cells, leave_value}
 use Rattle.hs_tracked.specs.Over.{does, over_value, over_reached}
@@ -120,13 +120,13 @@ module _ (whole : WholeCode) (known : Knowledge) (here : Here) (machine : Machin
 
   left_blocks : (blocks : List Block) → AllByRecursion (λ block. TrackedCells whole known here machine (w ∷ ws) block.cells) blocks
       → AllByRecursion (λ block. TrackedCells whole known next after ws block.cells) blocks
-  left_blocks [] are = tt
-  left_blocks (block ∷ blocks) are = (cells block.cells are.0, left_blocks blocks are.1)
+  left_blocks =
+      each_block (TrackedCell whole known here machine (w ∷ ws)) (TrackedCell whole known next after ws) cells
 
   left_objects : (objects : List Object) → AllByRecursion (λ object. TrackedCells whole known here machine (w ∷ ws) object.cells) objects
       → AllByRecursion (λ object. TrackedCells whole known next after ws object.cells) objects
-  left_objects [] are = tt
-  left_objects (object ∷ objects) are = (cells object.cells are.0, left_objects objects are.1)
+  left_objects =
+      each_object (TrackedCell whole known here machine (w ∷ ws)) (TrackedCell whole known next after ws) cells
 
   -- ---- what the caller has left
 

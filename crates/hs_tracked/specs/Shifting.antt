@@ -163,7 +163,7 @@ module _ (whole : WholeCode) (known : Knowledge) (here : Here) (machine after : 
               record {
                 block = new.block;
                 there = new.there;
-                marked = λ so. inr (new.since.purgeable refl so, stays of low status.Purgeable);
+                marked = λ so. inr (inl (new.since.purgeable refl so, stays of low status.Purgeable));
                 gone = λ so. gone_by block there new so (new.since.purged so);
               }
 
