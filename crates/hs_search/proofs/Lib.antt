@@ -6,6 +6,7 @@ mod Entering
 mod Expanding
 mod Expansions
 mod Gathering
+mod Linking
 mod Listing
 mod Making
 mod Parts

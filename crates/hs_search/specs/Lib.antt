@@ -6,6 +6,7 @@ pub mod Graphs
 pub mod Laws
 pub mod Layout
 pub mod Levels
+pub mod Links
 pub mod Listing
 pub mod Orders
 pub mod Rounds
