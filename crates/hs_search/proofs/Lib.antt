@@ -2,6 +2,7 @@ mod Adding
 mod Beginning
 mod Calling
 mod Closing
+mod Deciding
 mod Entering
 mod Expanding
 mod Expansions
@@ -9,6 +10,7 @@ mod Gathering
 mod Linking
 mod Listing
 mod Making
+mod Meeting
 mod Parts
 mod Passing
 mod Past
@@ -17,3 +19,4 @@ mod Rounding
 mod Rows
 mod Storing
 mod Taking
+mod Telling

@@ -1,13 +1,16 @@
 pub mod Bringing
 pub mod Calling
 pub mod Chains
+pub mod Deciding
 pub mod Finding
 pub mod Graphs
+pub mod Judging
 pub mod Laws
 pub mod Layout
 pub mod Levels
 pub mod Links
 pub mod Listing
+pub mod Meeting
 pub mod Orders
 pub mod Rounds
 pub mod Searching
