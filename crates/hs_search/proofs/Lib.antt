@@ -20,3 +20,4 @@ mod Rows
 mod Storing
 mod Taking
 mod Telling
+mod Tracing

@@ -19,4 +19,5 @@ pub mod Sorting
 pub mod States
 pub mod Storing
 pub mod Traces
+pub mod Tracing
 pub mod Trails

@@ -10,7 +10,7 @@ use Rattle.hs_search.specs.declared.graph.Node.{Node}
 
 -- ---- lists of entries
 
-not_before : (u : Node) → ¬ IsBefore u u
+pub not_before : (u : Node) → ¬ IsBefore u u
 not_before u (inl less) = omega arith
 not_before u (inr (same, less)) = omega arith
 
