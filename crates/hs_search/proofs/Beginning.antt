@@ -92,7 +92,8 @@ begun graph framed room most call latest entries none is_none numbered = record 
 pub begun_as : (graph : FlowGraph) → IsFramed graph
     → (room most call latest : ℕ) (start : Node) (rows far : List (Item Reach)) (near old : List Reach) (book : Book)
     (none : List (Item ℕ)) → start ≡ graph.start → rows ≡ [] → far ≡ [] → book.callers ≡ [] → book.ends ≡ [] → none ≡ [] → old ≡ []
-    → near ≡ old ++ (record { fact = start.fact; at = start.at; call = call; length = 1; level = 0; origin = record { up = 0; last = 0 } }) ∷ [] → IsNumbered start call none book.entries
+    → near ≡ old ++ (record { fact = start.fact; at = start.at; call = call; length = 1; level = 0; origin = record { up = 0; last = 0 } }) ∷ []
+    → IsNumbered start call none book.entries
     → IsBetween graph room most 1 latest rows book near far
 begun_as graph framed room most call latest start rows far near old book none start_is no_rows no_far no_callers no_ends is_none no_old near_is numbered =
     subst (λ rs. IsBetween graph room most 1 latest rs book near far) (sym no_rows) (

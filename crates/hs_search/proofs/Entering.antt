@@ -272,7 +272,8 @@ one_entered graph framed rows number it old mid near near' jumps jumps' there la
             sym e_call.entry ∙ some_is (sym enter' ∙ enters_now) ∙ sym numbered.begins in
             let call_is : e.value.call ≡ entering.call =
             numbered.calls.once e.value.call entering.call e_call.known numbered.known same_call in
-            let added = entering.returns.all has.n has.it (step_back (origin_back (suc number) (suc has.it.value)) it.value e.value y) has.there (has.key ∙ call_is) (
+            let added = entering.returns.all has.n has.it (step_back (origin_back (suc number) (suc has.it.value)) it.value e.value y) has.there
+            (has.key ∙ call_is) (
               e,
               y,
               (subst (λ j. slice_get rows j ≡ Some e) (sym has.value) at),

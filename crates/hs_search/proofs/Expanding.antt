@@ -50,10 +50,12 @@ module _ (graph : FlowGraph) (framed : IsFramed graph) (rows : List (Item Reach)
       → (backs : List Reach) → jumps' ≡ jumps_on ++ backs
       → ((s : Reach) → Has backs s → (k : ℕ) × (c : Item Reach) × (y : Node) × (k < suc number) × (slice_get rows k ≡ Some c)
       × (graph.enters (node_of mid.entries c.value) ≡ Some (graph.entry (node_of mid.entries it.value)))
-      × (graph.leaves (node_of mid.entries c.value) (node_of mid.entries it.value) ≡ Some y) × (step_back (origin_back (suc k) (suc number)) c.value it.value y ≡ s))
+      × (graph.leaves (node_of mid.entries c.value) (node_of mid.entries it.value) ≡ Some y)
+      × (step_back (origin_back (suc k) (suc number)) c.value it.value y ≡ s))
       → ((k : ℕ) (c : Item Reach) (y : Node) → k < suc number → slice_get rows k ≡ Some c
       → graph.enters (node_of mid.entries c.value) ≡ Some (graph.entry (node_of mid.entries it.value))
-      → graph.leaves (node_of mid.entries c.value) (node_of mid.entries it.value) ≡ Some y → Has backs (step_back (origin_back (suc k) (suc number)) c.value it.value y))
+      → graph.leaves (node_of mid.entries c.value) (node_of mid.entries it.value) ≡ Some y
+      → Has backs (step_back (origin_back (suc k) (suc number)) c.value it.value y))
       → IsExpanded graph rows number it old new near near' jumps jumps'
   all_brought on after same laid_new backs backs_is each all = record {
     laid_out = laid_new;
@@ -129,7 +131,8 @@ module _ (graph : FlowGraph) (framed : IsFramed graph) (rows : List (Item Reach)
       link_either s (inl has) = link_near s (Has-either (map (step_on (suc number) it.value) (graph.steps (node_of old.entries it.value))) after.steps s has)
       link_either s (inr has) = link_far s (Has-either after.returns backs s has)
 
-      linked : (s : Reach) → Has ((map (step_on (suc number) it.value) (graph.steps (node_of old.entries it.value)) ++ after.steps) ++ (after.returns ++ backs)) s
+      linked : (s : Reach) → Has ((map (step_on (suc number) it.value) (graph.steps (node_of old.entries it.value)) ++ after.steps) ++
+          (after.returns ++ backs)) s
           → HasLink graph (rows_of new.entries rows) new.entries s
       linked s has =
           subst (λ es. HasLink graph (rows_of es rows) es s) (sym same)
@@ -150,7 +153,8 @@ module _ (graph : FlowGraph) (framed : IsFramed graph) (rows : List (Item Reach)
       of_far s (inl has) = after_of s (Has-right after.steps after.returns s has)
       of_far s (inr has) = back_of s has
 
-      of_either : (s : Reach) → Has (map (step_on (suc number) it.value) (graph.steps (node_of old.entries it.value)) ++ after.steps) s ⊎ Has (after.returns ++ backs) s
+      of_either : (s : Reach) → Has (map (step_on (suc number) it.value) (graph.steps (node_of old.entries it.value)) ++ after.steps) s
+          ⊎ Has (after.returns ++ backs) s
           → IsPlaced graph mid.entries s × BroughtBy graph (Done mid.entries rows number) (row_of mid.entries it.value) (row_of mid.entries s)
       of_either s (inl has) = of_near s (Has-either (map (step_on (suc number) it.value) (graph.steps (node_of old.entries it.value))) after.steps s has)
       of_either s (inr has) = of_far s (Has-either after.returns backs s has)
@@ -158,12 +162,15 @@ module _ (graph : FlowGraph) (framed : IsFramed graph) (rows : List (Item Reach)
       of : (s : Reach) → Has ((map (step_on (suc number) it.value) (graph.steps (node_of old.entries it.value)) ++ after.steps) ++ (after.returns ++ backs)) s
           → IsPlaced graph mid.entries s × BroughtBy graph (Done mid.entries rows number) (row_of mid.entries it.value) (row_of mid.entries s)
       of s has =
-          of_either s (Has-either (map (step_on (suc number) it.value) (graph.steps (node_of old.entries it.value)) ++ after.steps) (after.returns ++ backs) s has)
+          of_either s (Has-either (map (step_on (suc number) it.value) (graph.steps (node_of old.entries it.value)) ++ after.steps) (after.returns ++ backs)
+          s has)
 
-      long_step : (s : Reach) → (y : Node) × Has (graph.steps (node_of old.entries it.value)) y × (step_on (suc number) it.value y ≡ s) → s.length ≡ suc it.value.length
+      long_step : (s : Reach) → (y : Node) × Has (graph.steps (node_of old.entries it.value)) y × (step_on (suc number) it.value y ≡ s)
+          → s.length ≡ suc it.value.length
       long_step s its = ap (λ (r : Reach). r.length) (sym its.2)
 
-      long : (s : Reach) → Has (map (step_on (suc number) it.value) (graph.steps (node_of old.entries it.value))) s ⊎ Has after.steps s → s.length ≡ suc it.value.length
+      long : (s : Reach) → Has (map (step_on (suc number) it.value) (graph.steps (node_of old.entries it.value))) s ⊎ Has after.steps s
+          → s.length ≡ suc it.value.length
       long s (inl has) = long_step s (map-Has (step_on (suc number) it.value) (graph.steps (node_of old.entries it.value)) s has)
       long s (inr has) = after.long s has
 
@@ -190,7 +197,8 @@ module _ (graph : FlowGraph) (framed : IsFramed graph) (rows : List (Item Reach)
           × (row_of mid.entries s ≡ o)
       brought _ (by_step y step) = (
         step_on (suc number) it.value y,
-        in_near (step_on (suc number) it.value y) (Has-left (map (step_on (suc number) it.value) (graph.steps (node_of old.entries it.value))) after.steps (step_on (suc number) it.value y)
+        in_near (step_on (suc number) it.value y) (Has-left (map (step_on (suc number) it.value) (graph.steps (node_of old.entries it.value))) after.steps
+            (step_on (suc number) it.value y)
             (Has-map (step_on (suc number) it.value) (graph.steps (node_of old.entries it.value)) y (subst (λ n. Has (graph.steps n) y) node_now step))),
         (on_step graph framed mid.entries (suc number) it.value y placed_now step).1,
       )
@@ -198,7 +206,8 @@ module _ (graph : FlowGraph) (framed : IsFramed graph) (rows : List (Item Reach)
       brought _ (as_caller e y has enter leave) = from_row (done_of mid.entries rows number e has)
         where
           from_row : (k : ℕ) × (x : Item Reach) × (k < suc number) × (slice_get rows k ≡ Some x) × (row_of mid.entries x.value ≡ e)
-              → (s : Reach) × Has ((map (step_on (suc number) it.value) (graph.steps (node_of old.entries it.value)) ++ after.steps) ++ (after.returns ++ backs)) s
+              → (s : Reach) × Has ((map (step_on (suc number) it.value) (graph.steps (node_of old.entries it.value)) ++ after.steps) ++
+              (after.returns ++ backs)) s
               × (row_of mid.entries s ≡ returned (row_of mid.entries it.value) e y)
           from_row its =
               let enter' = subst (λ (r : Row). graph.enters (node_of mid.entries it.value) ≡ Some (graph.entry r.node)) (sym its.4) enter in
@@ -209,14 +218,16 @@ module _ (graph : FlowGraph) (framed : IsFramed graph) (rows : List (Item Reach)
       brought _ (as_end c y has enter leave) = from_row (done_of mid.entries rows number c has)
         where
           from_row : (k : ℕ) × (x : Item Reach) × (k < suc number) × (slice_get rows k ≡ Some x) × (row_of mid.entries x.value ≡ c)
-              → (s : Reach) × Has ((map (step_on (suc number) it.value) (graph.steps (node_of old.entries it.value)) ++ after.steps) ++ (after.returns ++ backs)) s
+              → (s : Reach) × Has ((map (step_on (suc number) it.value) (graph.steps (node_of old.entries it.value)) ++ after.steps) ++
+              (after.returns ++ backs)) s
               × (row_of mid.entries s ≡ returned c (row_of mid.entries it.value) y)
           from_row its =
               let enter' = subst (λ (r : Row). graph.enters r.node ≡ Some (graph.entry (node_of mid.entries it.value))) (sym its.4) enter in
               let leave' = subst (λ (r : Row). graph.leaves r.node (node_of mid.entries it.value) ≡ Some y) (sym its.4) leave in
               let c_placed = placed_kept graph old.entries mid.entries after.grows its.1.value (laid.placed its.0 its.1 its.3) in (
                 step_back (origin_back (suc its.0) (suc number)) its.1.value it.value y,
-                in_far (step_back (origin_back (suc its.0) (suc number)) its.1.value it.value y) (Has-right after.returns backs (step_back (origin_back (suc its.0) (suc number)) its.1.value it.value y)
+                in_far (step_back (origin_back (suc its.0) (suc number)) its.1.value it.value y)
+                    (Has-right after.returns backs (step_back (origin_back (suc its.0) (suc number)) its.1.value it.value y)
                     (all its.0 its.1 y its.2 its.3 enter' leave')),
                 (on_return graph framed mid.entries (origin_back (suc its.0) (suc number)) its.1.value it.value y c_placed leave').1
                     ∙ ap (λ (r : Row). returned r (row_of mid.entries it.value) y) its.4,
@@ -322,7 +333,8 @@ expanded graph framed rows number it node old mid new near near_on near' jumps j
 
         each : (s : Reach) → Has ending.returns.added s → (k : ℕ) × (c : Item Reach) × (y : Node) × (k < suc number) × (slice_get rows k ≡ Some c)
             × (graph.enters (node_of mid.entries c.value) ≡ Some (graph.entry (node_of mid.entries it.value)))
-            × (graph.leaves (node_of mid.entries c.value) (node_of mid.entries it.value) ≡ Some y) × (step_back (origin_back (suc k) (suc number)) c.value it.value y ≡ s)
+            × (graph.leaves (node_of mid.entries c.value) (node_of mid.entries it.value) ≡ Some y)
+            × (step_back (origin_back (suc k) (suc number)) c.value it.value y ≡ s)
         each s has =
             let its = ending.returns.each s has in
             let is_caller = after.caller its.0 its.1 its.2 in
@@ -340,7 +352,8 @@ expanded graph framed rows number it node old mid new near near_on near' jumps j
 
         all : (k : ℕ) (c : Item Reach) (y : Node) → k < suc number → slice_get rows k ≡ Some c
             → graph.enters (node_of mid.entries c.value) ≡ Some (graph.entry (node_of mid.entries it.value))
-            → graph.leaves (node_of mid.entries c.value) (node_of mid.entries it.value) ≡ Some y → Has ending.returns.added (step_back (origin_back (suc k) (suc number)) c.value it.value y)
+            → graph.leaves (node_of mid.entries c.value) (node_of mid.entries it.value) ≡ Some y
+            → Has ending.returns.added (step_back (origin_back (suc k) (suc number)) c.value it.value y)
         all k c y below at enter leave =
             let has = after.callers k c (graph.entry (node_of mid.entries it.value)) below at enter in
             let key_is : has.it.key ≡ it.value.call =

@@ -70,7 +70,8 @@ to_listed : (f : Node → Reach) (to : Option Node) (y : Node) (made : Reach) �
 to_listed f to y made is makes = rw is (inl makes)
 
 pub end_sound : (graph : FlowGraph) (entries : List (Item ℕ)) (rows : List (Item Reach)) (caller : Node) (up : ℕ) (from : Reach) (row : ℕ) (e : Item Reach)
-    → slice_get rows row ≡ Some e → (made : Reach) → Has (listed (option_map (step_back (origin_back up (suc row)) from e.value) (graph.leaves caller (node_of entries e.value)))) made
+    → slice_get rows row ≡ Some e → (made : Reach) → Has (listed (option_map (step_back (origin_back up (suc row)) from e.value)
+    (graph.leaves caller (node_of entries e.value)))) made
     → MakesEnd graph entries rows caller up from row made
 end_sound graph entries rows caller up from row e there made has =
     let its = of_listed (step_back (origin_back up (suc row)) from e.value) (graph.leaves caller (node_of entries e.value)) made has in
@@ -86,13 +87,15 @@ end_complete graph entries rows caller up from row e there made makes =
     (ap (λ (it : Item Reach). step_back (origin_back up (suc row)) from it.value makes.1) (sym same) ∙ makes.4)
 
 pub caller_sound : (graph : FlowGraph) (entries : List (Item ℕ)) (rows : List (Item Reach)) (last : Node) (number : ℕ) (end_ : Reach) (row : ℕ) (c : Item Reach)
-    → slice_get rows row ≡ Some c → (made : Reach) → Has (listed (option_map (step_back (origin_back (suc row) number) c.value end_) (graph.leaves (node_of entries c.value) last))) made
+    → slice_get rows row ≡ Some c → (made : Reach) → Has (listed (option_map (step_back (origin_back (suc row) number) c.value end_)
+    (graph.leaves (node_of entries c.value) last))) made
     → MakesCaller graph entries rows last number end_ row made
 caller_sound graph entries rows last number end_ row c there made has =
     let its = of_listed (step_back (origin_back (suc row) number) c.value end_) (graph.leaves (node_of entries c.value) last) made has in
     (c, its.0, there, its.1, its.2)
 
-pub caller_complete : (graph : FlowGraph) (entries : List (Item ℕ)) (rows : List (Item Reach)) (last : Node) (number : ℕ) (end_ : Reach) (row : ℕ) (c : Item Reach)
+pub caller_complete : (graph : FlowGraph) (entries : List (Item ℕ)) (rows : List (Item Reach)) (last : Node) (number : ℕ) (end_ : Reach) (row : ℕ)
+    (c : Item Reach)
     → slice_get rows row ≡ Some c → (made : Reach) → MakesCaller graph entries rows last number end_ row made
     → Has (listed (option_map (step_back (origin_back (suc row) number) c.value end_) (graph.leaves (node_of entries c.value) last))) made
 caller_complete graph entries rows last number end_ row c there made makes =
@@ -104,7 +107,8 @@ caller_complete graph entries rows last number end_ row c there made makes =
 -- ---- one turn of a walk
 
 pub gathers_end : (graph : FlowGraph) (entries : List (Item ℕ)) (rows : List (Item Reach)) (caller : Node) (up : ℕ) (from : Reach) (heads : List ℕ)
-    (items : List (Item ℕ)) (key at : ℕ) (it : Item ℕ) (e : Item Reach) (last : Node) (origin : Origin) (old mid new : List Reach) → IsIndex heads items → IsWalk items key at
+    (items : List (Item ℕ)) (key at : ℕ) (it : Item ℕ) (e : Item Reach) (last : Node) (origin : Origin) (old mid new : List Reach) → IsIndex heads items
+    → IsWalk items key at
     → GathersFrom items key (MakesEnd graph entries rows caller up from) at old mid → 0 < at → slice_get items (at - 1) ≡ Some it
     → slice_get rows it.value ≡ Some e → last ≡ node_of entries e.value → origin ≡ origin_back up (suc it.value)
     → new ≡ mid ++ listed (option_map (step_back origin from e.value) (graph.leaves caller last))
@@ -117,14 +121,16 @@ gathers_end graph entries rows caller up from heads items key at it e last origi
     (end_sound graph entries rows caller up from it.value e at_row) (end_complete graph entries rows caller up from it.value e at_row)
 
 pub gathers_caller : (graph : FlowGraph) (entries : List (Item ℕ)) (rows : List (Item Reach)) (last : Node) (number : ℕ) (end_ : Reach) (heads : List ℕ)
-    (items : List (Item ℕ)) (key at : ℕ) (it : Item ℕ) (c : Item Reach) (caller : Node) (origin : Origin) (old mid new : List Reach) → IsIndex heads items → IsWalk items key at
+    (items : List (Item ℕ)) (key at : ℕ) (it : Item ℕ) (c : Item Reach) (caller : Node) (origin : Origin) (old mid new : List Reach) → IsIndex heads items
+    → IsWalk items key at
     → GathersFrom items key (MakesCaller graph entries rows last number end_) at old mid → 0 < at → slice_get items (at - 1) ≡ Some it
     → slice_get rows it.value ≡ Some c → caller ≡ node_of entries c.value → origin ≡ origin_back (suc it.value) number
     → new ≡ mid ++ listed (option_map (step_back origin c.value end_) (graph.leaves caller last))
     → GathersFrom items key (MakesCaller graph entries rows last number end_) it.link old new × IsWalk items key it.link × (it.link < at)
 gathers_caller graph entries rows last number end_ heads items key at it c caller origin old mid new right walk gathers some there at_row is origin_is more =
     gathers_more heads items key (MakesCaller graph entries rows last number end_) at it old mid new
-    (listed (option_map (step_back (origin_back (suc it.value) number) c.value end_) (graph.leaves (node_of entries c.value) last))) right walk gathers some there
+    (listed (option_map (step_back (origin_back (suc it.value) number) c.value end_) (graph.leaves (node_of entries c.value) last))) right walk gathers some
+    there
     (more ∙ ap (λ o. mid ++ listed (option_map (step_back o c.value end_) (graph.leaves caller last))) origin_is
     ∙ ap (λ n. mid ++ listed (option_map (step_back (origin_back (suc it.value) number) c.value end_) (graph.leaves n last))) is)
     (caller_sound graph entries rows last number end_ it.value c at_row) (caller_complete graph entries rows last number end_ it.value c at_row)

@@ -32,7 +32,8 @@ on_step graph framed entries up from y placed step =
       row_is (node_of entries (step_on up from y)) y (suc from.length) (suc from.level) (node_made graph framed entries (step_on up from y) y refl refl entry),
     )
 
-pub in_call : (graph : FlowGraph) → IsFramed graph → (entries : List (Item ℕ)) (up : ℕ) (from : Reach) (call : ℕ) (b : Node) → graph.enters (node_of entries from) ≡ Some b
+pub in_call : (graph : FlowGraph) → IsFramed graph → (entries : List (Item ℕ)) (up : ℕ) (from : Reach) (call : ℕ) (b : Node)
+    → graph.enters (node_of entries from) ≡ Some b
     → call < length entries → call_at entries call ≡ b → IsMade graph entries (step_in up from call b) (entered_by (row_of entries from) b)
 in_call graph framed entries up from call b enter known begins =
     let entry : graph.entry b ≡ call_at entries call = framed.by_call (node_of entries from) b enter ∙ sym begins in (
@@ -45,7 +46,8 @@ pub on_return : (graph : FlowGraph) → IsFramed graph → (entries : List (Item
     → IsMade graph entries (step_back origin c e y) (returned (row_of entries c) (row_of entries e) y)
 on_return graph framed entries origin c e y placed leave =
     let entry : graph.entry y ≡ call_at entries c.call = framed.by_return (node_of entries c) (node_of entries e) y leave ∙ placed.entry in (
-      placed_made graph framed entries (step_back origin c e y) y refl refl entry placed.known (framed.return_within (node_of entries c) (node_of entries e) y leave)
+      placed_made graph framed entries (step_back origin c e y) y refl refl entry placed.known
+          (framed.return_within (node_of entries c) (node_of entries e) y leave)
           (let less = placed.level in omega arith),
       row_is (node_of entries (step_back origin c e y)) y _ _ (node_made graph framed entries (step_back origin c e y) y refl refl entry),
     )

@@ -44,7 +44,8 @@ entries_below graph _ _ _ (itself t) = sym (append-nil (entries_of t))
 entries_below graph _ _ _ (through z c t es rest child below) =
     entries_below graph c t rest below ∙ ap (λ l. l ++ rest) (entries_child graph z c es child) ∙ append_assoc (entries_of z) es rest
 
-entries_past : (graph : FlowGraph) (z c t : Trace) (es rest : List Node) → IsMadeFrom graph z c es → IsBelow graph c t rest → entries_of t ≡ entries_of z ++ (es ++ rest)
+entries_past : (graph : FlowGraph) (z c t : Trace) (es rest : List Node) → IsMadeFrom graph z c es → IsBelow graph c t rest
+    → entries_of t ≡ entries_of z ++ (es ++ rest)
 entries_past graph z c t es rest child below = entries_below graph z t (es ++ rest) (through z c t es rest child below)
 
 differs_at : (p q : Trace) (us xs ys : List Node) → entries_of p ≡ us ++ xs → entries_of q ≡ us ++ ys

@@ -8,7 +8,8 @@ use Rattle.hs_search.proofs.offering.offer_ends.Goals as goal
 
 pub ends-init : goal.ends-init
 ends-init g c =
-    let Makes = MakesEnd (g.G.Graph.flow c.args.graph.now) c.args.calls.now.entries.items.items c.args.rows.now.items.items c.args.caller c.args.up c.args.from in
+    let Makes = MakesEnd (g.G.Graph.flow c.args.graph.now) c.args.calls.now.entries.items.items c.args.rows.now.items.items c.args.caller c.args.up
+    c.args.from in
     let all = walk_first c.args.calls.now.ends.items.items c.args.call c.last-number.result (λ n it. (made : Reach) → Makes it.value made → Has [] made)
     c.last-number.ensures in
     record {
@@ -38,4 +39,5 @@ ends-preserved g c =
 pub returns : goal.returns
 returns g c =
     gathers_all c.args.calls.now.ends.items.items c.args.call
-    (MakesEnd (g.G.Graph.flow c.args.graph.now) c.args.calls.now.entries.items.items c.args.rows.now.items.items c.args.caller c.args.up c.args.from) _ _ (search rules)
+    (MakesEnd (g.G.Graph.flow c.args.graph.now) c.args.calls.now.entries.items.items c.args.rows.now.items.items c.args.caller c.args.up c.args.from) _ _
+    (search rules)
