@@ -11,6 +11,7 @@ mod Linking
 mod Listing
 mod Making
 mod Meeting
+mod Parting
 mod Parts
 mod Passing
 mod Past

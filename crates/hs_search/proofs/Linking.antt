@@ -24,7 +24,8 @@ linked_in : (graph : FlowGraph) (rows others : List Row) (origin : Origin) (row 
 linked_in graph rows others origin row stays = by_cases origin.up origin.last
   where
     by_cases : (up last : ℕ) → LinkedBy graph rows up last row → LinkedBy graph others up last row
-    by_cases zero last is = is
+    by_cases zero zero is = is
+    by_cases zero (suc last) is = absurd is
     by_cases (suc up) zero is = (is.0, stays up is.0 is.1, is.2)
     by_cases (suc up) (suc last) is = (is.0, is.1, stays up is.0 is.2, stays last is.1 is.3, is.4)
 

@@ -26,7 +26,8 @@ IsBack graph c e row =
 
 -- from the start, from the row of one number, or from those of two
 abbrev pub LinkedBy : FlowGraph → List Row → ℕ → ℕ → Row → Type 0
-LinkedBy graph rows zero last row = first_row graph ≡ row
+LinkedBy graph rows zero zero row = first_row graph ≡ row
+LinkedBy graph rows zero (suc last) row = ⊥
 LinkedBy graph rows (suc up) zero row = (x : Row) × (slice_get rows up ≡ Some x) × IsAfter graph x row
 LinkedBy graph rows (suc up) (suc last) row =
     (c : Row) × (e : Row) × (slice_get rows up ≡ Some c) × (slice_get rows last ≡ Some e) × IsBack graph c e row
