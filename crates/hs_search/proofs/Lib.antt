@@ -18,6 +18,7 @@ mod Past
 mod PuttingOff
 mod Rounding
 mod Rows
+mod Standing
 mod Storing
 mod Taking
 mod Telling

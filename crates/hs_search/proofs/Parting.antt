@@ -21,19 +21,19 @@ use Rattle.hs_search.specs.declared.reach.Reach.{Reach}
 
 -- ---- rows by place
 
-take_below : (rows : List Row) (n k : ℕ) (x : Row) → slice_get (take n rows) k ≡ Some x → k < n
+pub take_below : (rows : List Row) (n k : ℕ) (x : Row) → slice_get (take n rows) k ≡ Some x → k < n
 take_below rows zero k x at = absurd cc
 take_below [] (suc n) k x at = absurd cc
 take_below (r ∷ rows) (suc n) zero x at = omega arith
 take_below (r ∷ rows) (suc n) (suc k) x at = let rest = take_below rows n k x at in omega arith
 
-take_there : (rows : List Row) (n k : ℕ) (x : Row) → slice_get (take n rows) k ≡ Some x → slice_get rows k ≡ Some x
+pub take_there : (rows : List Row) (n k : ℕ) (x : Row) → slice_get (take n rows) k ≡ Some x → slice_get rows k ≡ Some x
 take_there rows zero k x at = absurd cc
 take_there [] (suc n) k x at = absurd cc
 take_there (r ∷ rows) (suc n) zero x at = at
 take_there (r ∷ rows) (suc n) (suc k) x at = take_there rows n k x at
 
-row_there : (entries : List (Item ℕ)) (rows : List (Item Reach)) (n : ℕ) (x : Row) → slice_get (rows_of entries rows) n ≡ Some x
+pub row_there : (entries : List (Item ℕ)) (rows : List (Item Reach)) (n : ℕ) (x : Row) → slice_get (rows_of entries rows) n ≡ Some x
     → (it : Item Reach) × (slice_get rows n ≡ Some it) × (row_of entries it.value ≡ x)
 row_there entries [] n x at = absurd cc
 row_there entries (r ∷ rows) zero x at = (r, refl, some_is at)
@@ -46,7 +46,7 @@ has_node entries (r ∷ rows) zero it at = inl (ap (λ (x : Item Reach). node_of
 has_node entries (r ∷ rows) (suc n) it at = inr (has_node entries rows n it at)
 
 -- a node has one row
-one_place : (entries : List (Item ℕ)) (rows : List (Item Reach)) → IsOnce (nodes_in (rows_of entries rows)) → (n m : ℕ) (it its : Item Reach)
+pub one_place : (entries : List (Item ℕ)) (rows : List (Item Reach)) → IsOnce (nodes_in (rows_of entries rows)) → (n m : ℕ) (it its : Item Reach)
     → slice_get rows n ≡ Some it → slice_get rows m ≡ Some its → node_of entries it.value ≡ node_of entries its.value → n ≡ m
 one_place entries [] once n m it its at other is = absurd cc
 one_place entries (r ∷ rows) once zero zero it its at other is = refl
