@@ -10,6 +10,7 @@ use Rattle.hs_search.specs.Bringing.{Book}
 use Rattle.hs_search.specs.Calling.{IsNumbered}
 use Rattle.hs_search.specs.Graphs.{FlowGraph, Has, IsFramed}
 use Rattle.hs_search.specs.Layout.{IsCalls, IsLaidOut, IsPlaced}
+use Rattle.hs_search.specs.Links.{HasLink}
 use Rattle.hs_search.specs.Rounds.{Row, first_row}
 use Rattle.hs_search.specs.Searching.{HasExpanded, IsBetween, IsPast, IsTakenAll, IsWaiting, Stops, Stored, TakesAll, Waits}
 use Rattle.hs_search.specs.Storing.{AllListedBelow, call_at, row_of}
@@ -22,7 +23,7 @@ use Rattle.hs_search.specs.declared.reach.SearchEnd.TheVariants.{Limit, NoMemory
 -- ---- nothing is found yet
 
 abbrev start_of : FlowGraph → ℕ → Reach
-start_of graph call = record { fact = graph.start.fact; at = graph.start.at; call = call; length = 1; level = 0 }
+start_of graph call = record { fact = graph.start.fact; at = graph.start.at; call = call; length = 1; level = 0; origin = record { up = 0; last = 0 } }
 
 abbrev book_with : List (Item ℕ) → Book
 book_with entries = record { entries = entries; callers = []; ends = [] }
@@ -43,6 +44,8 @@ begun graph framed room most call latest entries none is_none numbered = record 
   };
   near_placed = λ s has. placed s has;
   near_long = λ s has. long s has;
+  linked = λ n it there. absurd cc;
+  offers_linked = λ s offered. link s offered;
   far_right = λ n it there. absurd cc;
   short = λ r has. absurd has;
   ready = ready_same graph 1 [] (λ o. first_row graph ≡ o) (Stored entries (λ s. Has (start_of graph call ∷ []) s ⊎ IsWaiting [] 1 s)) (ready_first graph)
@@ -75,6 +78,11 @@ begun graph framed room most call latest entries none is_none numbered = record 
     long s (inl is) = ap (λ (r : Reach). r.length) (sym is)
     long s (inr no_more) = absurd no_more
 
+    link : (s : Reach) → Has (start_of graph call ∷ []) s ⊎ IsWaiting [] 1 s → HasLink graph [] entries s
+    link s (inl (inl is)) = subst (HasLink graph [] entries) is (sym row_is)
+    link s (inl (inr no_more)) = absurd no_more
+    link s (inr waiting) = absurd (let there = waiting.there in cc)
+
     back : (o : Row) (s : Reach) → Has (start_of graph call ∷ []) s ⊎ IsWaiting [] 1 s → row_of entries s ≡ o → first_row graph ≡ o
     back o s (inl (inl is)) row = sym row_is ∙ ap (row_of entries) is ∙ row
     back o s (inl (inr no_more)) row = absurd no_more
@@ -84,7 +92,8 @@ begun graph framed room most call latest entries none is_none numbered = record 
 pub begun_as : (graph : FlowGraph) → IsFramed graph
     → (room most call latest : ℕ) (start : Node) (rows far : List (Item Reach)) (near old : List Reach) (book : Book)
     (none : List (Item ℕ)) → start ≡ graph.start → rows ≡ [] → far ≡ [] → book.callers ≡ [] → book.ends ≡ [] → none ≡ [] → old ≡ []
-    → near ≡ old ++ (record { fact = start.fact; at = start.at; call = call; length = 1; level = 0 }) ∷ [] → IsNumbered start call none book.entries
+    → near ≡ old ++ (record { fact = start.fact; at = start.at; call = call; length = 1; level = 0; origin = record { up = 0; last = 0 } }) ∷ []
+    → IsNumbered start call none book.entries
     → IsBetween graph room most 1 latest rows book near far
 begun_as graph framed room most call latest start rows far near old book none start_is no_rows no_far no_callers no_ends is_none no_old near_is numbered =
     subst (λ rs. IsBetween graph room most 1 latest rs book near far) (sym no_rows) (
@@ -98,7 +107,7 @@ begun_as graph framed room most call latest start rows far near old book none st
     the_book callers ends = record { entries = book.entries; callers = callers; ends = ends }
 
     reach_at : Node → Reach
-    reach_at n = record { fact = n.fact; at = n.at; call = call; length = 1; level = 0 }
+    reach_at n = record { fact = n.fact; at = n.at; call = call; length = 1; level = 0; origin = record { up = 0; last = 0 } }
 
     near_start : near ≡ start_of graph call ∷ []
     near_start = near_is ∙ ap (λ xs. xs ++ reach_at start ∷ []) no_old ∙ ap (λ n. reach_at n ∷ []) start_is

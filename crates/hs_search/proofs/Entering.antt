@@ -2,13 +2,15 @@
 use Rattle.std.proofs.Common.{◌≡◌, ◌<◌, ℕ, suc, true, List, [], ◌∷◌, ◌++◌, inl, inr, ◌⊎◌, refl, ap, sym, ◌∙◌, Option, Some, None, subst, arith, length, slice_get, append-nil}
 use Rattle.std.proofs.lemmas.Bool.{cases_order}
 use Rattle.hs_search.proofs.Calling.{call_kept, node_kept, grows_none, grows_long, placed_kept, numbered_right, IsNumberedRight}
+use Rattle.hs_search.proofs.Linking.{link_back, link_in}
 use Rattle.hs_search.proofs.Listing.{some_is, get_either}
 use Rattle.hs_search.proofs.Making.{Done, IsMade, done_has, in_call, item_last, item_more, on_return}
-use Rattle.hs_search.specs.Bringing.{Book, CallOffered, IsEntering, item_of, step_back, step_in}
+use Rattle.hs_search.specs.Bringing.{Book, CallOffered, IsEntering, item_of, origin_back, step_back, step_in}
 use Rattle.hs_search.specs.Graphs.{FlowGraph, Has, IsFramed}
 use Rattle.hs_search.specs.Layout.{Grows, IsCaller, IsCalls, IsItem, IsLaidOut, IsPlaced}
+use Rattle.hs_search.specs.Links.{HasLink}
 use Rattle.hs_search.specs.Rounds.{BroughtBy, by_call, as_caller, entered_by, returned}
-use Rattle.hs_search.specs.Storing.{call_at, node_of, row_of}
+use Rattle.hs_search.specs.Storing.{call_at, node_of, row_of, rows_of}
 use Rattle.hs_search.specs.declared.graph.Node.{Node}
 use Rattle.hs_search.specs.declared.lists.Item.{Item}
 use Rattle.hs_search.specs.declared.reach.Reach.{Reach}
@@ -30,6 +32,7 @@ pub record AfterCall (graph : FlowGraph) (rows : List (Item Reach)) (number : �
   pub jumps_is : jumps' ≡ jumps ++ returns
   pub placed : (s : Reach) → Has (steps ++ returns) s → IsPlaced graph mid.entries s
   pub long : (s : Reach) → Has steps s → s.length ≡ suc it.value.length
+  pub linked : (s : Reach) → Has (steps ++ returns) s → HasLink graph (rows_of mid.entries rows) mid.entries s
   pub from : (s : Reach) → Has (steps ++ returns) s
       → BroughtBy graph (Done mid.entries rows number) (row_of mid.entries it.value) (row_of mid.entries s)
   pub by_call : (b : Node) → graph.enters (node_of mid.entries it.value) ≡ Some b
@@ -54,6 +57,7 @@ none_entered graph rows number it old near jumps there laid none = record {
   jumps_is = sym (append-nil jumps);
   placed = λ s has. absurd has;
   long = λ s has. absurd has;
+  linked = λ s has. absurd has;
   from = λ s has. absurd has;
   by_call = λ b enter. absurd (wrong b enter);
   as_caller = λ k e y below at enter leave. absurd (wrong (graph.entry (node_of old.entries e.value)) enter);
@@ -87,15 +91,16 @@ one_entered graph framed rows number it old mid near near' jumps jumps' there la
       (λ cs. slice_get cs n ≡ Some its) entering.caller at));
   callers = λ n row b' below at enter'. subst (λ cs. IsItem cs n (λ key. (key < length mid.entries) × (call_at mid.entries key ≡ b'))) (sym entering.caller)
       (callers n row b' below at enter' (cases_order n number));
-  steps = step_in it.value entering.call b ∷ [];
+  steps = step_in (suc number) it.value entering.call b ∷ [];
   returns = entering.returns.added;
   near_is = entering.offered;
   jumps_is = entering.returns.more;
   placed = λ s has. placed s has;
   long = λ s has. long s has;
+  linked = λ s has. linked s has;
   from = λ s has. from s has;
   by_call = λ b' enter'. (
-    step_in it.value entering.call b,
+    step_in (suc number) it.value entering.call b,
     inl refl,
     made_call.1 ∙ ap (entered_by (row_of mid.entries it.value)) (some_is (sym enters_now ∙ enter')),
   );
@@ -114,8 +119,8 @@ one_entered graph framed rows number it old mid near near' jumps jumps' there la
     enters_now : graph.enters (node_of mid.entries it.value) ≡ Some b
     enters_now = ap graph.enters node_now ∙ enter
 
-    made_call : IsMade graph mid.entries (step_in it.value entering.call b) (entered_by (row_of mid.entries it.value) b)
-    made_call = in_call graph framed mid.entries it.value entering.call b enters_now numbered.known numbered.begins
+    made_call : IsMade graph mid.entries (step_in (suc number) it.value entering.call b) (entered_by (row_of mid.entries it.value) b)
+    made_call = in_call graph framed mid.entries (suc number) it.value entering.call b enters_now numbered.known numbered.begins
 
     caller : (n : ℕ) (its : Item ℕ) → (slice_get old.callers n ≡ Some its) ⊎ ((n ≡ length old.callers) × (item_of entering.call number old.callers ≡ its))
         → IsCaller graph rows mid.entries (suc number) its
@@ -177,8 +182,10 @@ one_entered graph framed rows number it old mid near near' jumps jumps' there la
         ∙ ap (λ (e : Item Reach). graph.leaves (node_of old.entries it.value) (node_of mid.entries e.value)) (sym e_is) ∙ its.4.3 in
         let call_is : is.row.value.call ≡ entering.call = sym is.call ∙ its.3 in
         let entry_is : graph.entry (node_of mid.entries is.row.value) ≡ b = e_placed.entry ∙ ap (call_at mid.entries) call_is ∙ numbered.begins in
-        let made = on_return graph framed mid.entries it.value is.row.value its.4.1 placed_now leave in
-        let s_is : step_back it.value is.row.value its.4.1 ≡ s = ap (λ (e : Item Reach). step_back it.value e.value its.4.1) (sym e_is) ∙ its.4.4 in (
+        let origin = origin_back (suc number) (suc its.1.value) in
+        let made = on_return graph framed mid.entries origin it.value is.row.value its.4.1 placed_now leave in
+        let s_is : step_back origin it.value is.row.value its.4.1 ≡ s =
+        ap (λ (e : Item Reach). step_back origin it.value e.value its.4.1) (sym e_is) ∙ its.4.4 in (
           subst (IsPlaced graph mid.entries) s_is made.0,
           subst (λ (r : Reach). BroughtBy graph (Done mid.entries rows number) (row_of mid.entries it.value) (row_of mid.entries r)) s_is
               (subst (BroughtBy graph (Done mid.entries rows number) (row_of mid.entries it.value)) (sym made.1)
@@ -187,7 +194,31 @@ one_entered graph framed rows number it old mid near near' jumps jumps' there la
               (enters_now ∙ ap (λ n. Some n) (sym entry_is)) leave)),
         )
 
-    call_of : (s : Reach) → step_in it.value entering.call b ≡ s
+    linked_return : (s : Reach) → Has entering.returns.added s → HasLink graph (rows_of mid.entries rows) mid.entries s
+    linked_return s has =
+        let its = entering.returns.each s has in
+        let is = laid.end_ its.0 its.1 its.2 in
+        let e_is : its.4.0 ≡ is.row = some_is (sym its.4.2 ∙ is.there) in
+        let e_placed = placed_kept graph old.entries mid.entries numbered.grows is.row.value (laid.placed its.1.value is.row is.there) in
+        let leave : graph.leaves (node_of mid.entries it.value) (node_of mid.entries is.row.value) ≡ Some its.4.1 =
+        ap (λ n. graph.leaves n (node_of mid.entries is.row.value)) node_now
+        ∙ ap (λ (e : Item Reach). graph.leaves (node_of old.entries it.value) (node_of mid.entries e.value)) (sym e_is) ∙ its.4.3 in
+        let call_is : is.row.value.call ≡ entering.call = sym is.call ∙ its.3 in
+        let entry_is : graph.entry (node_of mid.entries is.row.value) ≡ b = e_placed.entry ∙ ap (call_at mid.entries) call_is ∙ numbered.begins in
+        let origin = origin_back (suc number) (suc its.1.value) in
+        let made = on_return graph framed mid.entries origin it.value is.row.value its.4.1 placed_now leave in
+        subst (HasLink graph (rows_of mid.entries rows) mid.entries)
+        (ap (λ (e : Item Reach). step_back origin it.value e.value its.4.1) (sym e_is) ∙ its.4.4)
+        (link_back graph mid.entries rows number its.1.value it is.row its.4.1 there is.there (enters_now ∙ ap (λ n. Some n) (sym entry_is)) leave made.1)
+
+    linked : (s : Reach) → (step_in (suc number) it.value entering.call b ≡ s) ⊎ Has entering.returns.added s
+        → HasLink graph (rows_of mid.entries rows) mid.entries s
+    linked s (inl is) =
+        subst (HasLink graph (rows_of mid.entries rows) mid.entries) is
+        (link_in graph mid.entries rows number it entering.call b there enters_now made_call.1)
+    linked s (inr has) = linked_return s has
+
+    call_of : (s : Reach) → step_in (suc number) it.value entering.call b ≡ s
         → IsPlaced graph mid.entries s × BroughtBy graph (Done mid.entries rows number) (row_of mid.entries it.value) (row_of mid.entries s)
     call_of s is = (
       subst (IsPlaced graph mid.entries) is made_call.0,
@@ -195,23 +226,23 @@ one_entered graph framed rows number it old mid near near' jumps jumps' there la
           (subst (BroughtBy graph (Done mid.entries rows number) (row_of mid.entries it.value)) (sym made_call.1) (by_call b enters_now)),
     )
 
-    placed : (s : Reach) → (step_in it.value entering.call b ≡ s) ⊎ Has entering.returns.added s → IsPlaced graph mid.entries s
+    placed : (s : Reach) → (step_in (suc number) it.value entering.call b ≡ s) ⊎ Has entering.returns.added s → IsPlaced graph mid.entries s
     placed s (inl is) = (call_of s is).0
     placed s (inr has) = (return_of s has).0
 
-    from : (s : Reach) → (step_in it.value entering.call b ≡ s) ⊎ Has entering.returns.added s
+    from : (s : Reach) → (step_in (suc number) it.value entering.call b ≡ s) ⊎ Has entering.returns.added s
         → BroughtBy graph (Done mid.entries rows number) (row_of mid.entries it.value) (row_of mid.entries s)
     from s (inl is) = (call_of s is).1
     from s (inr has) = (return_of s has).1
 
-    long : (s : Reach) → (step_in it.value entering.call b ≡ s) ⊎ ⊥ → s.length ≡ suc it.value.length
+    long : (s : Reach) → (step_in (suc number) it.value entering.call b ≡ s) ⊎ ⊥ → s.length ≡ suc it.value.length
     long s (inl is) = ap (λ (r : Reach). r.length) (sym is)
     long s (inr no_more) = absurd no_more
 
     as_caller_of : (k : ℕ) (e : Item Reach) (y : Node) → k < suc number → slice_get rows k ≡ Some e
         → graph.enters (node_of mid.entries it.value) ≡ Some (graph.entry (node_of mid.entries e.value))
         → graph.leaves (node_of mid.entries it.value) (node_of mid.entries e.value) ≡ Some y
-        → (s : Reach) × ((step_in it.value entering.call b ≡ s) ⊎ Has entering.returns.added s)
+        → (s : Reach) × ((step_in (suc number) it.value entering.call b ≡ s) ⊎ Has entering.returns.added s)
         × (row_of mid.entries s ≡ returned (row_of mid.entries it.value) (row_of mid.entries e.value) y)
     as_caller_of k e y below at enter' leave = at_end (cases_order k number)
       where
@@ -225,7 +256,7 @@ one_entered graph framed rows number it old mid near near' jumps jumps' there la
         stops = framed.ended (node_of mid.entries it.value) (node_of mid.entries e.value) y leave
 
         at_end : (k ≡ number) ⊎ (k < number) ⊎ (number < k)
-            → (s : Reach) × ((step_in it.value entering.call b ≡ s) ⊎ Has entering.returns.added s)
+            → (s : Reach) × ((step_in (suc number) it.value entering.call b ≡ s) ⊎ Has entering.returns.added s)
             × (row_of mid.entries s ≡ returned (row_of mid.entries it.value) (row_of mid.entries e.value) y)
         at_end (inr (inr more)) = absurd (omega arith)
         at_end (inl same) =
@@ -241,15 +272,19 @@ one_entered graph framed rows number it old mid near near' jumps jumps' there la
             sym e_call.entry ∙ some_is (sym enter' ∙ enters_now) ∙ sym numbered.begins in
             let call_is : e.value.call ≡ entering.call =
             numbered.calls.once e.value.call entering.call e_call.known numbered.known same_call in
-            let added = entering.returns.all has.n has.it (step_back it.value e.value y) has.there (has.key ∙ call_is) (
+            let added = entering.returns.all has.n has.it (step_back (origin_back (suc number) (suc has.it.value)) it.value e.value y) has.there
+            (has.key ∙ call_is) (
               e,
               y,
               (subst (λ j. slice_get rows j ≡ Some e) (sym has.value) at),
               (ap (λ n. graph.leaves n (node_of mid.entries e.value))
                   (sym node_now) ∙ leave),
               refl,
-            ) in
-            (step_back it.value e.value y, inr added, (on_return graph framed mid.entries it.value e.value y placed_now leave).1)
+            ) in (
+              step_back (origin_back (suc number) (suc has.it.value)) it.value e.value y,
+              inr added,
+              (on_return graph framed mid.entries (origin_back (suc number) (suc has.it.value)) it.value e.value y placed_now leave).1,
+            )
 
 pub call_offered : (graph : FlowGraph) → IsFramed graph → (rows : List (Item Reach)) (number : ℕ) (it : Item Reach) (to : Option Node) (old mid : Book)
     (near near' jumps jumps' : List Reach) → slice_get rows number ≡ Some it → IsLaidOut graph rows old number

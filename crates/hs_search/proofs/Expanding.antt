@@ -2,15 +2,17 @@
 use Rattle.std.proofs.Common.{◌≡◌, ◌<◌, ℕ, suc, Bool, true, false, List, [], ◌∷◌, ◌++◌, inl, inr, ◌⊎◌, refl, ap, sym, ◌∙◌, Some, subst, arith, length, slice_get, map, append_assoc, append-nil, Result, Ok, Err, OnOk}
 use Rattle.std.proofs.lemmas.Bool.{cases_order}
 use Rattle.hs_search.proofs.Calling.{node_kept, placed_kept}
+use Rattle.hs_search.proofs.Linking.{link_back, link_on}
 use Rattle.hs_search.proofs.Listing.{some_is, get_within, get_either}
 use Rattle.hs_search.specs.Laws.Membership.{Has-left, Has-right, Has-either, Has-map, map-Has}
 use Rattle.hs_search.proofs.Making.{Done, done_has, done_of, item_last, item_more, on_return, on_step}
 use Rattle.hs_search.proofs.Entering.{AfterCall, call_offered}
-use Rattle.hs_search.specs.Bringing.{AreFit, AreRows, Book, CallOffered, EndOffered, item_of, step_back, step_on}
+use Rattle.hs_search.specs.Bringing.{AreFit, AreRows, Book, CallOffered, EndOffered, item_of, origin_back, step_back, step_on}
 use Rattle.hs_search.specs.Graphs.{FlowGraph, Has, IsFramed}
 use Rattle.hs_search.specs.Layout.{IsCaller, IsCalls, IsEnd, IsExpanded, IsItem, IsLaidOut, IsPlaced}
+use Rattle.hs_search.specs.Links.{HasLink}
 use Rattle.hs_search.specs.Rounds.{Row, BroughtBy, by_step, by_call, as_caller, as_end, entered_by, returned}
-use Rattle.hs_search.specs.Storing.{call_at, node_of, row_of}
+use Rattle.hs_search.specs.Storing.{call_at, node_of, row_of, rows_of}
 use Rattle.hs_search.specs.declared.graph.Node.{Node}
 use Rattle.hs_search.specs.declared.lists.Item.{Item}
 use Rattle.hs_search.specs.declared.reach.Reach.{Reach}
@@ -43,28 +45,31 @@ laid_next graph rows number it old mid new near near' jumps jumps' laid after sa
 -- everything that the row brings, if its steps and the returns that it makes as an end are offered too
 module _ (graph : FlowGraph) (framed : IsFramed graph) (rows : List (Item Reach)) (number : ℕ) (it : Item Reach) (old mid new : Book)
     (near near_on near' jumps jumps_on jumps' : List Reach) (there : slice_get rows number ≡ Some it) (laid : IsLaidOut graph rows old number) where
-  all_brought : near_on ≡ near ++ map (step_on it.value) (graph.steps (node_of old.entries it.value))
+  all_brought : near_on ≡ near ++ map (step_on (suc number) it.value) (graph.steps (node_of old.entries it.value))
       → (after : AfterCall graph rows number it old mid near_on near' jumps jumps_on) → new.entries ≡ mid.entries → IsLaidOut graph rows new (suc number)
       → (backs : List Reach) → jumps' ≡ jumps_on ++ backs
       → ((s : Reach) → Has backs s → (k : ℕ) × (c : Item Reach) × (y : Node) × (k < suc number) × (slice_get rows k ≡ Some c)
       × (graph.enters (node_of mid.entries c.value) ≡ Some (graph.entry (node_of mid.entries it.value)))
-      × (graph.leaves (node_of mid.entries c.value) (node_of mid.entries it.value) ≡ Some y) × (step_back c.value it.value y ≡ s))
+      × (graph.leaves (node_of mid.entries c.value) (node_of mid.entries it.value) ≡ Some y)
+      × (step_back (origin_back (suc k) (suc number)) c.value it.value y ≡ s))
       → ((k : ℕ) (c : Item Reach) (y : Node) → k < suc number → slice_get rows k ≡ Some c
       → graph.enters (node_of mid.entries c.value) ≡ Some (graph.entry (node_of mid.entries it.value))
-      → graph.leaves (node_of mid.entries c.value) (node_of mid.entries it.value) ≡ Some y → Has backs (step_back c.value it.value y))
+      → graph.leaves (node_of mid.entries c.value) (node_of mid.entries it.value) ≡ Some y
+      → Has backs (step_back (origin_back (suc k) (suc number)) c.value it.value y))
       → IsExpanded graph rows number it old new near near' jumps jumps'
   all_brought on after same laid_new backs backs_is each all = record {
     laid_out = laid_new;
     grows = (after.grows.0, same ∙ after.grows.1);
-    steps = map (step_on it.value) (graph.steps (node_of old.entries it.value)) ++ after.steps;
+    steps = map (step_on (suc number) it.value) (graph.steps (node_of old.entries it.value)) ++ after.steps;
     returns = after.returns ++ backs;
-    near_is = after.near_is ∙ ap (λ ns. ns ++ after.steps) on ∙ append_assoc near (map (step_on it.value) (graph.steps
+    near_is = after.near_is ∙ ap (λ ns. ns ++ after.steps) on ∙ append_assoc near (map (step_on (suc number) it.value) (graph.steps
         (node_of old.entries it.value))) after.steps;
     jumps_is = backs_is ∙ ap (λ js. js ++ backs) after.jumps_is ∙ append_assoc jumps after.returns backs;
     placed = λ s has. subst (λ es. IsPlaced graph es s) (sym same) (of s has).0;
-    long = λ s has. long s (Has-either (map (step_on it.value) (graph.steps (node_of old.entries it.value))) after.steps s has);
+    linked = λ s has. linked s has;
+    long = λ s has. long s (Has-either (map (step_on (suc number) it.value) (graph.steps (node_of old.entries it.value))) after.steps s has);
     from = λ s has. subst (λ es. BroughtBy graph (Done es rows number) (row_of es it.value) (row_of es s)) (sym same) (of s has).1;
-    brought = λ o by. subst (λ es. (s : Reach) × Has ((map (step_on it.value) (graph.steps (node_of old.entries it.value)) ++ after.steps)
+    brought = λ o by. subst (λ es. (s : Reach) × Has ((map (step_on (suc number) it.value) (graph.steps (node_of old.entries it.value)) ++ after.steps)
         ++ (after.returns ++ backs)) s × (row_of es s ≡ o)) (sym same)
         (brought o (subst (λ es. BroughtBy graph (Done es rows number) (row_of es it.value) o) same by));
   }
@@ -75,11 +80,11 @@ module _ (graph : FlowGraph) (framed : IsFramed graph) (rows : List (Item Reach)
       node_now : node_of mid.entries it.value ≡ node_of old.entries it.value
       node_now = node_kept old.entries mid.entries after.grows it.value (laid.placed number it there).known
 
-      step_of : (s : Reach) → (y : Node) × Has (graph.steps (node_of old.entries it.value)) y × (step_on it.value y ≡ s)
+      step_of : (s : Reach) → (y : Node) × Has (graph.steps (node_of old.entries it.value)) y × (step_on (suc number) it.value y ≡ s)
           → IsPlaced graph mid.entries s × BroughtBy graph (Done mid.entries rows number) (row_of mid.entries it.value) (row_of mid.entries s)
       step_of s its =
           let step : Has (graph.steps (node_of mid.entries it.value)) its.0 = subst (λ n. Has (graph.steps n) its.0) (sym node_now) its.1 in
-          let made = on_step graph framed mid.entries it.value its.0 placed_now step in (
+          let made = on_step graph framed mid.entries (suc number) it.value its.0 placed_now step in (
             subst (IsPlaced graph mid.entries) its.2 made.0,
             subst (λ (r : Reach). BroughtBy graph (Done mid.entries rows number) (row_of mid.entries it.value) (row_of mid.entries r)) its.2
                 (subst (BroughtBy graph (Done mid.entries rows number) (row_of mid.entries it.value)) (sym made.1) (by_step its.0 step)),
@@ -90,20 +95,57 @@ module _ (graph : FlowGraph) (framed : IsFramed graph) (rows : List (Item Reach)
       back_of s has =
           let its = each s has in
           let c_placed = placed_kept graph old.entries mid.entries after.grows its.1.value (laid.placed its.0 its.1 its.4) in
-          let made = on_return graph framed mid.entries its.1.value it.value its.2 c_placed its.6 in (
+          let made = on_return graph framed mid.entries (origin_back (suc its.0) (suc number)) its.1.value it.value its.2 c_placed its.6 in (
             subst (IsPlaced graph mid.entries) its.7 made.0,
             subst (λ (r : Reach). BroughtBy graph (Done mid.entries rows number) (row_of mid.entries it.value) (row_of mid.entries r)) its.7
                 (subst (BroughtBy graph (Done mid.entries rows number) (row_of mid.entries it.value)) (sym made.1)
                 (as_end (row_of mid.entries its.1.value) its.2 (done_has mid.entries rows number its.0 its.1 its.4 its.3) its.5 its.6)),
           )
 
+      link_step : (s : Reach) → (y : Node) × Has (graph.steps (node_of old.entries it.value)) y × (step_on (suc number) it.value y ≡ s)
+          → HasLink graph (rows_of mid.entries rows) mid.entries s
+      link_step s its =
+          let step : Has (graph.steps (node_of mid.entries it.value)) its.0 = subst (λ n. Has (graph.steps n) its.0) (sym node_now) its.1 in
+          subst (HasLink graph (rows_of mid.entries rows) mid.entries) its.2
+          (link_on graph mid.entries rows number it its.0 there step (on_step graph framed mid.entries (suc number) it.value its.0 placed_now step).1)
+
+      link_end : (s : Reach) → Has backs s → HasLink graph (rows_of mid.entries rows) mid.entries s
+      link_end s has =
+          let its = each s has in
+          let c_placed = placed_kept graph old.entries mid.entries after.grows its.1.value (laid.placed its.0 its.1 its.4) in
+          let made = on_return graph framed mid.entries (origin_back (suc its.0) (suc number)) its.1.value it.value its.2 c_placed its.6 in
+          subst (HasLink graph (rows_of mid.entries rows) mid.entries) its.7
+          (link_back graph mid.entries rows its.0 number its.1 it its.2 its.4 there its.5 its.6 made.1)
+
+      link_near : (s : Reach) → Has (map (step_on (suc number) it.value) (graph.steps (node_of old.entries it.value))) s ⊎ Has after.steps s
+          → HasLink graph (rows_of mid.entries rows) mid.entries s
+      link_near s (inl has) = link_step s (map-Has (step_on (suc number) it.value) (graph.steps (node_of old.entries it.value)) s has)
+      link_near s (inr has) = after.linked s (Has-left after.steps after.returns s has)
+
+      link_far : (s : Reach) → Has after.returns s ⊎ Has backs s → HasLink graph (rows_of mid.entries rows) mid.entries s
+      link_far s (inl has) = after.linked s (Has-right after.steps after.returns s has)
+      link_far s (inr has) = link_end s has
+
+      link_either : (s : Reach) → Has (map (step_on (suc number) it.value) (graph.steps (node_of old.entries it.value)) ++ after.steps) s
+          ⊎ Has (after.returns ++ backs) s → HasLink graph (rows_of mid.entries rows) mid.entries s
+      link_either s (inl has) = link_near s (Has-either (map (step_on (suc number) it.value) (graph.steps (node_of old.entries it.value))) after.steps s has)
+      link_either s (inr has) = link_far s (Has-either after.returns backs s has)
+
+      linked : (s : Reach) → Has ((map (step_on (suc number) it.value) (graph.steps (node_of old.entries it.value)) ++ after.steps) ++
+          (after.returns ++ backs)) s
+          → HasLink graph (rows_of new.entries rows) new.entries s
+      linked s has =
+          subst (λ es. HasLink graph (rows_of es rows) es s) (sym same)
+          (link_either s (Has-either (map (step_on (suc number) it.value) (graph.steps (node_of old.entries it.value)) ++ after.steps)
+          (after.returns ++ backs) s has))
+
       after_of : (s : Reach) → Has (after.steps ++ after.returns) s
           → IsPlaced graph mid.entries s × BroughtBy graph (Done mid.entries rows number) (row_of mid.entries it.value) (row_of mid.entries s)
       after_of s has = (after.placed s has, after.from s has)
 
-      of_near : (s : Reach) → Has (map (step_on it.value) (graph.steps (node_of old.entries it.value))) s ⊎ Has after.steps s
+      of_near : (s : Reach) → Has (map (step_on (suc number) it.value) (graph.steps (node_of old.entries it.value))) s ⊎ Has after.steps s
           → IsPlaced graph mid.entries s × BroughtBy graph (Done mid.entries rows number) (row_of mid.entries it.value) (row_of mid.entries s)
-      of_near s (inl has) = step_of s (map-Has (step_on it.value) (graph.steps (node_of old.entries it.value)) s has)
+      of_near s (inl has) = step_of s (map-Has (step_on (suc number) it.value) (graph.steps (node_of old.entries it.value)) s has)
       of_near s (inr has) = after_of s (Has-left after.steps after.returns s has)
 
       of_far : (s : Reach) → Has after.returns s ⊎ Has backs s
@@ -111,55 +153,61 @@ module _ (graph : FlowGraph) (framed : IsFramed graph) (rows : List (Item Reach)
       of_far s (inl has) = after_of s (Has-right after.steps after.returns s has)
       of_far s (inr has) = back_of s has
 
-      of_either : (s : Reach) → Has (map (step_on it.value) (graph.steps (node_of old.entries it.value)) ++ after.steps) s ⊎ Has (after.returns ++ backs) s
+      of_either : (s : Reach) → Has (map (step_on (suc number) it.value) (graph.steps (node_of old.entries it.value)) ++ after.steps) s
+          ⊎ Has (after.returns ++ backs) s
           → IsPlaced graph mid.entries s × BroughtBy graph (Done mid.entries rows number) (row_of mid.entries it.value) (row_of mid.entries s)
-      of_either s (inl has) = of_near s (Has-either (map (step_on it.value) (graph.steps (node_of old.entries it.value))) after.steps s has)
+      of_either s (inl has) = of_near s (Has-either (map (step_on (suc number) it.value) (graph.steps (node_of old.entries it.value))) after.steps s has)
       of_either s (inr has) = of_far s (Has-either after.returns backs s has)
 
-      of : (s : Reach) → Has ((map (step_on it.value) (graph.steps (node_of old.entries it.value)) ++ after.steps) ++ (after.returns ++ backs)) s
+      of : (s : Reach) → Has ((map (step_on (suc number) it.value) (graph.steps (node_of old.entries it.value)) ++ after.steps) ++ (after.returns ++ backs)) s
           → IsPlaced graph mid.entries s × BroughtBy graph (Done mid.entries rows number) (row_of mid.entries it.value) (row_of mid.entries s)
       of s has =
-          of_either s (Has-either (map (step_on it.value) (graph.steps (node_of old.entries it.value)) ++ after.steps) (after.returns ++ backs) s has)
+          of_either s (Has-either (map (step_on (suc number) it.value) (graph.steps (node_of old.entries it.value)) ++ after.steps) (after.returns ++ backs)
+          s has)
 
-      long_step : (s : Reach) → (y : Node) × Has (graph.steps (node_of old.entries it.value)) y × (step_on it.value y ≡ s) → s.length ≡ suc it.value.length
+      long_step : (s : Reach) → (y : Node) × Has (graph.steps (node_of old.entries it.value)) y × (step_on (suc number) it.value y ≡ s)
+          → s.length ≡ suc it.value.length
       long_step s its = ap (λ (r : Reach). r.length) (sym its.2)
 
-      long : (s : Reach) → Has (map (step_on it.value) (graph.steps (node_of old.entries it.value))) s ⊎ Has after.steps s → s.length ≡ suc it.value.length
-      long s (inl has) = long_step s (map-Has (step_on it.value) (graph.steps (node_of old.entries it.value)) s has)
+      long : (s : Reach) → Has (map (step_on (suc number) it.value) (graph.steps (node_of old.entries it.value))) s ⊎ Has after.steps s
+          → s.length ≡ suc it.value.length
+      long s (inl has) = long_step s (map-Has (step_on (suc number) it.value) (graph.steps (node_of old.entries it.value)) s has)
       long s (inr has) = after.long s has
 
-      in_near : (s : Reach) → Has (map (step_on it.value) (graph.steps (node_of old.entries it.value)) ++ after.steps) s
-          → Has ((map (step_on it.value) (graph.steps (node_of old.entries it.value)) ++ after.steps) ++ (after.returns ++ backs)) s
-      in_near s has = Has-left (map (step_on it.value) (graph.steps (node_of old.entries it.value)) ++ after.steps) (after.returns ++ backs) s has
+      in_near : (s : Reach) → Has (map (step_on (suc number) it.value) (graph.steps (node_of old.entries it.value)) ++ after.steps) s
+          → Has ((map (step_on (suc number) it.value) (graph.steps (node_of old.entries it.value)) ++ after.steps) ++ (after.returns ++ backs)) s
+      in_near s has = Has-left (map (step_on (suc number) it.value) (graph.steps (node_of old.entries it.value)) ++ after.steps) (after.returns ++ backs) s has
 
       in_far : (s : Reach) → Has (after.returns ++ backs) s
-          → Has ((map (step_on it.value) (graph.steps (node_of old.entries it.value)) ++ after.steps) ++ (after.returns ++ backs)) s
-      in_far s has = Has-right (map (step_on it.value) (graph.steps (node_of old.entries it.value)) ++ after.steps) (after.returns ++ backs) s has
+          → Has ((map (step_on (suc number) it.value) (graph.steps (node_of old.entries it.value)) ++ after.steps) ++ (after.returns ++ backs)) s
+      in_far s has = Has-right (map (step_on (suc number) it.value) (graph.steps (node_of old.entries it.value)) ++ after.steps) (after.returns ++ backs) s has
 
       in_after : (s : Reach) → Has after.steps s ⊎ Has after.returns s
-          → Has ((map (step_on it.value) (graph.steps (node_of old.entries it.value)) ++ after.steps) ++ (after.returns ++ backs)) s
-      in_after s (inl has) = in_near s (Has-right (map (step_on it.value) (graph.steps (node_of old.entries it.value))) after.steps s has)
+          → Has ((map (step_on (suc number) it.value) (graph.steps (node_of old.entries it.value)) ++ after.steps) ++ (after.returns ++ backs)) s
+      in_after s (inl has) = in_near s (Has-right (map (step_on (suc number) it.value) (graph.steps (node_of old.entries it.value))) after.steps s has)
       in_after s (inr has) = in_far s (Has-left after.returns backs s has)
 
       made_after : (o : Row) → (s : Reach) × Has (after.steps ++ after.returns) s × (row_of mid.entries s ≡ o)
-          → (s : Reach) × Has ((map (step_on it.value) (graph.steps (node_of old.entries it.value)) ++ after.steps) ++ (after.returns ++ backs)) s
+          → (s : Reach) × Has ((map (step_on (suc number) it.value) (graph.steps (node_of old.entries it.value)) ++ after.steps) ++ (after.returns ++ backs)) s
           × (row_of mid.entries s ≡ o)
       made_after o its = (its.0, in_after its.0 (Has-either after.steps after.returns its.0 its.1), its.2)
 
       brought : (o : Row) → BroughtBy graph (Done mid.entries rows number) (row_of mid.entries it.value) o
-          → (s : Reach) × Has ((map (step_on it.value) (graph.steps (node_of old.entries it.value)) ++ after.steps) ++ (after.returns ++ backs)) s
+          → (s : Reach) × Has ((map (step_on (suc number) it.value) (graph.steps (node_of old.entries it.value)) ++ after.steps) ++ (after.returns ++ backs)) s
           × (row_of mid.entries s ≡ o)
       brought _ (by_step y step) = (
-        step_on it.value y,
-        in_near (step_on it.value y) (Has-left (map (step_on it.value) (graph.steps (node_of old.entries it.value))) after.steps (step_on it.value y)
-            (Has-map (step_on it.value) (graph.steps (node_of old.entries it.value)) y (subst (λ n. Has (graph.steps n) y) node_now step))),
-        (on_step graph framed mid.entries it.value y placed_now step).1,
+        step_on (suc number) it.value y,
+        in_near (step_on (suc number) it.value y) (Has-left (map (step_on (suc number) it.value) (graph.steps (node_of old.entries it.value))) after.steps
+            (step_on (suc number) it.value y)
+            (Has-map (step_on (suc number) it.value) (graph.steps (node_of old.entries it.value)) y (subst (λ n. Has (graph.steps n) y) node_now step))),
+        (on_step graph framed mid.entries (suc number) it.value y placed_now step).1,
       )
       brought _ (by_call b enter) = made_after (entered_by (row_of mid.entries it.value) b) (after.by_call b enter)
       brought _ (as_caller e y has enter leave) = from_row (done_of mid.entries rows number e has)
         where
           from_row : (k : ℕ) × (x : Item Reach) × (k < suc number) × (slice_get rows k ≡ Some x) × (row_of mid.entries x.value ≡ e)
-              → (s : Reach) × Has ((map (step_on it.value) (graph.steps (node_of old.entries it.value)) ++ after.steps) ++ (after.returns ++ backs)) s
+              → (s : Reach) × Has ((map (step_on (suc number) it.value) (graph.steps (node_of old.entries it.value)) ++ after.steps) ++
+              (after.returns ++ backs)) s
               × (row_of mid.entries s ≡ returned (row_of mid.entries it.value) e y)
           from_row its =
               let enter' = subst (λ (r : Row). graph.enters (node_of mid.entries it.value) ≡ Some (graph.entry r.node)) (sym its.4) enter in
@@ -170,16 +218,18 @@ module _ (graph : FlowGraph) (framed : IsFramed graph) (rows : List (Item Reach)
       brought _ (as_end c y has enter leave) = from_row (done_of mid.entries rows number c has)
         where
           from_row : (k : ℕ) × (x : Item Reach) × (k < suc number) × (slice_get rows k ≡ Some x) × (row_of mid.entries x.value ≡ c)
-              → (s : Reach) × Has ((map (step_on it.value) (graph.steps (node_of old.entries it.value)) ++ after.steps) ++ (after.returns ++ backs)) s
+              → (s : Reach) × Has ((map (step_on (suc number) it.value) (graph.steps (node_of old.entries it.value)) ++ after.steps) ++
+              (after.returns ++ backs)) s
               × (row_of mid.entries s ≡ returned c (row_of mid.entries it.value) y)
           from_row its =
               let enter' = subst (λ (r : Row). graph.enters r.node ≡ Some (graph.entry (node_of mid.entries it.value))) (sym its.4) enter in
               let leave' = subst (λ (r : Row). graph.leaves r.node (node_of mid.entries it.value) ≡ Some y) (sym its.4) leave in
               let c_placed = placed_kept graph old.entries mid.entries after.grows its.1.value (laid.placed its.0 its.1 its.3) in (
-                step_back its.1.value it.value y,
-                in_far (step_back its.1.value it.value y) (Has-right after.returns backs (step_back its.1.value it.value y)
+                step_back (origin_back (suc its.0) (suc number)) its.1.value it.value y,
+                in_far (step_back (origin_back (suc its.0) (suc number)) its.1.value it.value y)
+                    (Has-right after.returns backs (step_back (origin_back (suc its.0) (suc number)) its.1.value it.value y)
                     (all its.0 its.1 y its.2 its.3 enter' leave')),
-                (on_return graph framed mid.entries its.1.value it.value y c_placed leave').1
+                (on_return graph framed mid.entries (origin_back (suc its.0) (suc number)) its.1.value it.value y c_placed leave').1
                     ∙ ap (λ (r : Row). returned r (row_of mid.entries it.value) y) its.4,
               )
 
@@ -187,7 +237,7 @@ module _ (graph : FlowGraph) (framed : IsFramed graph) (rows : List (Item Reach)
 pub expanded : (graph : FlowGraph) → IsFramed graph → (rows : List (Item Reach)) (number : ℕ) (it : Item Reach) (node : Node) (old mid new : Book)
     (near near_on near' jumps jumps_on jumps' : List Reach) → slice_get rows number ≡ Some it → IsLaidOut graph rows old number
     → node ≡ node_of old.entries it.value
-    → near_on ≡ near ++ map (step_on it.value) (graph.steps node)
+    → near_on ≡ near ++ map (step_on (suc number) it.value) (graph.steps node)
     → CallOffered graph rows number node it.value (graph.enters node) old mid near_on near' jumps jumps_on
     → EndOffered graph rows number node it.value (graph.ends node) mid new jumps_on jumps'
     → IsExpanded graph rows number it old new near near' jumps jumps'
@@ -200,8 +250,8 @@ expanded graph framed rows number it node old mid new near near_on near' jumps j
         call_offered graph framed rows number it (graph.enters (node_of old.entries it.value)) old mid near_on near' jumps jumps_on there laid refl
         (subst (λ n. CallOffered graph rows number n it.value (graph.enters n) old mid near_on near' jumps jumps_on) node_is call_part)
 
-    on_old : near_on ≡ near ++ map (step_on it.value) (graph.steps (node_of old.entries it.value))
-    on_old = subst (λ n. near_on ≡ near ++ map (step_on it.value) (graph.steps n)) node_is on
+    on_old : near_on ≡ near ++ map (step_on (suc number) it.value) (graph.steps (node_of old.entries it.value))
+    on_old = subst (λ n. near_on ≡ near ++ map (step_on (suc number) it.value) (graph.steps n)) node_is on
 
     node_now : node_of mid.entries it.value ≡ node_of old.entries it.value
     node_now = node_kept old.entries mid.entries after.grows it.value (laid.placed number it there).known
@@ -283,7 +333,8 @@ expanded graph framed rows number it node old mid new near near_on near' jumps j
 
         each : (s : Reach) → Has ending.returns.added s → (k : ℕ) × (c : Item Reach) × (y : Node) × (k < suc number) × (slice_get rows k ≡ Some c)
             × (graph.enters (node_of mid.entries c.value) ≡ Some (graph.entry (node_of mid.entries it.value)))
-            × (graph.leaves (node_of mid.entries c.value) (node_of mid.entries it.value) ≡ Some y) × (step_back c.value it.value y ≡ s)
+            × (graph.leaves (node_of mid.entries c.value) (node_of mid.entries it.value) ≡ Some y)
+            × (step_back (origin_back (suc k) (suc number)) c.value it.value y ≡ s)
         each s has =
             let its = ending.returns.each s has in
             let is_caller = after.caller its.0 its.1 its.2 in
@@ -301,17 +352,18 @@ expanded graph framed rows number it node old mid new near near_on near' jumps j
 
         all : (k : ℕ) (c : Item Reach) (y : Node) → k < suc number → slice_get rows k ≡ Some c
             → graph.enters (node_of mid.entries c.value) ≡ Some (graph.entry (node_of mid.entries it.value))
-            → graph.leaves (node_of mid.entries c.value) (node_of mid.entries it.value) ≡ Some y → Has ending.returns.added (step_back c.value it.value y)
+            → graph.leaves (node_of mid.entries c.value) (node_of mid.entries it.value) ≡ Some y
+            → Has ending.returns.added (step_back (origin_back (suc k) (suc number)) c.value it.value y)
         all k c y below at enter leave =
             let has = after.callers k c (graph.entry (node_of mid.entries it.value)) below at enter in
             let key_is : has.it.key ≡ it.value.call =
             after.calls.once has.it.key it.value.call has.key.0 placed_now.known (has.key.1 ∙ placed_now.entry) in
-            ending.returns.all has.n has.it (step_back c.value it.value y) has.there key_is (
+            ending.returns.all has.n has.it (step_back (origin_back (suc k) (suc number)) c.value it.value y) has.there key_is (
               c,
               y,
               subst (λ j. slice_get rows j ≡ Some c) (sym has.value) at,
               ap (graph.leaves (node_of mid.entries c.value)) (sym node_now) ∙ leave,
-              refl,
+              ap (λ j. step_back (origin_back (suc j) (suc number)) c.value it.value y) has.value,
             )
 
 -- ---- what is asked of the calls

@@ -7,6 +7,7 @@ use Rattle.hs_search.proofs.Rounding.{AllBrought-none, AllBrought-next}
 use Rattle.hs_search.specs.Bringing.{Book}
 use Rattle.hs_search.specs.Graphs.{FlowGraph, Has}
 use Rattle.hs_search.specs.Layout.{Grows, IsExpanded, IsLaidOut, IsPlaced}
+use Rattle.hs_search.specs.Links.{HasLink, IsLinked}
 use Rattle.hs_search.specs.Rounds.{Row, AllBrought, BroughtBy}
 use Rattle.hs_search.specs.Searching.{HasExpanded, Stored}
 use Rattle.hs_search.specs.Storing.{row_of, rows_of}
@@ -45,6 +46,7 @@ expanded_none graph rows first book near jumps no_near no_jumps laid = record {
   laid_out = laid;
   grows = grows_none book.entries;
   placed = λ s has. absurd (none s has);
+  linked = λ s has. absurd (none s has);
   all = AllBrought-none graph (rows_of book.entries rows) first (Stored book.entries (Has (near ++ jumps))) (λ o its. none its.0 its.1);
   long = λ s has. absurd (none s (Has-left near jumps s has));
 }
@@ -59,6 +61,7 @@ expanded_next graph rows first count it old mid new near near' jumps jumps' orde
   laid_out = step.laid_out;
   grows = grows_then old.entries mid.entries new.entries before.grows step.grows;
   placed = λ s has. placed s (parts s has);
+  linked = λ s has. linked s (parts s has);
   all = AllBrought-next graph (rows_of new.entries rows) first count (row_of new.entries it.value) (Stored new.entries (Has (near ++ jumps)))
       (Stored new.entries (Has (near' ++ jumps'))) order (subst (λ rs. AllBrought graph rs first count (Stored new.entries (Has (near ++ jumps))))
       (sym same_rows)
@@ -102,6 +105,13 @@ expanded_next graph rows first count it old mid new near near' jumps jumps' orde
     placed : (s : Reach) → Has (near ++ jumps) s ⊎ Has (step.steps ++ step.returns) s → IsPlaced graph new.entries s
     placed s (inl has) = placed_kept graph mid.entries new.entries step.grows s (before.placed s has)
     placed s (inr has) = step.placed s has
+
+    linked : (s : Reach) → Has (near ++ jumps) s ⊎ Has (step.steps ++ step.returns) s → HasLink graph (rows_of new.entries rows) new.entries s
+    linked s (inl has) =
+        subst (λ rs. HasLink graph rs new.entries s) (sym same_rows)
+        (subst (IsLinked graph (rows_of mid.entries rows) s.origin) (sym (row_kept mid.entries new.entries step.grows s (before.placed s has).known))
+        (before.linked s has))
+    linked s (inr has) = step.linked s has
 
     long : (s : Reach) → Has near s ⊎ Has step.steps s
         → (n : ℕ) × (its : Item Reach) × (first ≤ n) × (slice_get rows n ≡ Some its) × (s.length ≡ suc its.value.length)

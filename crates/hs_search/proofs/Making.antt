@@ -9,6 +9,7 @@ use Rattle.hs_search.specs.Rounds.{Row, entered_by, returned, stepped}
 use Rattle.hs_search.specs.Storing.{call_at, node_of, row_of, rows_of}
 use Rattle.hs_search.specs.declared.graph.Node.{Node}
 use Rattle.hs_search.specs.declared.lists.Item.{Item}
+use Rattle.hs_search.specs.declared.reach.Origin.{Origin}
 use Rattle.hs_search.specs.declared.reach.Reach.{Reach}
 
 -- ---- what is offered is placed, and its row is what the graph says
@@ -22,31 +23,33 @@ IsMade graph entries made row = IsPlaced graph entries made × (row_of entries m
 pub row_is : (a b : Node) (n m : ℕ) → a ≡ b → row_with a n m ≡ row_with b n m
 row_is a b n m same = ap (λ (x : Node). row_with x n m) same
 
-pub on_step : (graph : FlowGraph) → IsFramed graph → (entries : List (Item ℕ)) (from : Reach) (y : Node) → IsPlaced graph entries from
-    → Has (graph.steps (node_of entries from)) y → IsMade graph entries (step_on from y) (stepped (row_of entries from) y)
-on_step graph framed entries from y placed step =
+pub on_step : (graph : FlowGraph) → IsFramed graph → (entries : List (Item ℕ)) (up : ℕ) (from : Reach) (y : Node) → IsPlaced graph entries from
+    → Has (graph.steps (node_of entries from)) y → IsMade graph entries (step_on up from y) (stepped (row_of entries from) y)
+on_step graph framed entries up from y placed step =
     let entry : graph.entry y ≡ call_at entries from.call = framed.by_step (node_of entries from) y step ∙ placed.entry in (
-      placed_made graph framed entries (step_on from y) y refl refl entry placed.known (framed.step_within (node_of entries from) y step)
+      placed_made graph framed entries (step_on up from y) y refl refl entry placed.known (framed.step_within (node_of entries from) y step)
           (let less = placed.level in omega arith),
-      row_is (node_of entries (step_on from y)) y (suc from.length) (suc from.level) (node_made graph framed entries (step_on from y) y refl refl entry),
+      row_is (node_of entries (step_on up from y)) y (suc from.length) (suc from.level) (node_made graph framed entries (step_on up from y) y refl refl entry),
     )
 
-pub in_call : (graph : FlowGraph) → IsFramed graph → (entries : List (Item ℕ)) (from : Reach) (call : ℕ) (b : Node) → graph.enters (node_of entries from) ≡ Some b
-    → call < length entries → call_at entries call ≡ b → IsMade graph entries (step_in from call b) (entered_by (row_of entries from) b)
-in_call graph framed entries from call b enter known begins =
+pub in_call : (graph : FlowGraph) → IsFramed graph → (entries : List (Item ℕ)) (up : ℕ) (from : Reach) (call : ℕ) (b : Node)
+    → graph.enters (node_of entries from) ≡ Some b
+    → call < length entries → call_at entries call ≡ b → IsMade graph entries (step_in up from call b) (entered_by (row_of entries from) b)
+in_call graph framed entries up from call b enter known begins =
     let entry : graph.entry b ≡ call_at entries call = framed.by_call (node_of entries from) b enter ∙ sym begins in (
-      placed_made graph framed entries (step_in from call b) b refl refl entry known (framed.call_within (node_of entries from) b enter) (omega arith),
-      row_is (node_of entries (step_in from call b)) b (suc from.length) 0 (node_made graph framed entries (step_in from call b) b refl refl entry),
+      placed_made graph framed entries (step_in up from call b) b refl refl entry known (framed.call_within (node_of entries from) b enter) (omega arith),
+      row_is (node_of entries (step_in up from call b)) b (suc from.length) 0 (node_made graph framed entries (step_in up from call b) b refl refl entry),
     )
 
-pub on_return : (graph : FlowGraph) → IsFramed graph → (entries : List (Item ℕ)) (c e : Reach) (y : Node) → IsPlaced graph entries c
+pub on_return : (graph : FlowGraph) → IsFramed graph → (entries : List (Item ℕ)) (origin : Origin) (c e : Reach) (y : Node) → IsPlaced graph entries c
     → graph.leaves (node_of entries c) (node_of entries e) ≡ Some y
-    → IsMade graph entries (step_back c e y) (returned (row_of entries c) (row_of entries e) y)
-on_return graph framed entries c e y placed leave =
+    → IsMade graph entries (step_back origin c e y) (returned (row_of entries c) (row_of entries e) y)
+on_return graph framed entries origin c e y placed leave =
     let entry : graph.entry y ≡ call_at entries c.call = framed.by_return (node_of entries c) (node_of entries e) y leave ∙ placed.entry in (
-      placed_made graph framed entries (step_back c e y) y refl refl entry placed.known (framed.return_within (node_of entries c) (node_of entries e) y leave)
+      placed_made graph framed entries (step_back origin c e y) y refl refl entry placed.known
+          (framed.return_within (node_of entries c) (node_of entries e) y leave)
           (let less = placed.level in omega arith),
-      row_is (node_of entries (step_back c e y)) y _ _ (node_made graph framed entries (step_back c e y) y refl refl entry),
+      row_is (node_of entries (step_back origin c e y)) y _ _ (node_made graph framed entries (step_back origin c e y) y refl refl entry),
     )
 
 -- ---- the rows so far

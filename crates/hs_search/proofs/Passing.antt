@@ -4,6 +4,7 @@ use Rattle.std.proofs.lemmas.Bool.{cases_order}
 use Rattle.hs_search.proofs.Calling.{placed_kept}
 use Rattle.hs_search.proofs.Closing.{built_within, candidate_within}
 use Rattle.hs_search.proofs.Expansions.{row_kept, rows_at, rows_kept}
+use Rattle.hs_search.proofs.Linking.{link_kept, link_more, linked_next}
 use Rattle.hs_search.specs.Laws.Membership.{Has-left, Has-right, Has-either}
 use Rattle.hs_search.proofs.PuttingOff.{key_or}
 use Rattle.hs_search.proofs.Rounding.{behind, ready_next, ready_same}
@@ -13,6 +14,7 @@ use Rattle.hs_search.specs.Bringing.{Book}
 use Rattle.hs_search.specs.Chains.{IsOnce, IsTooMany}
 use Rattle.hs_search.specs.Graphs.{FlowGraph, Has, IsFramed}
 use Rattle.hs_search.specs.Layout.{IsPlaced}
+use Rattle.hs_search.specs.Links.{HasLink}
 use Rattle.hs_search.specs.Rounds.{Row, AllBrought, IsReady, IsTaken, IsWithin, Known}
 use Rattle.hs_search.specs.Searching.{AreBelow, HasExpanded, IsBetween, IsFarItem, IsPutOff, IsTakenAll, IsWaiting, Stored, Waits, key_of, nodes_in}
 use Rattle.hs_search.specs.Storing.{IsFull, capped, capped_if, node_of, row_of, rows_of}
@@ -84,6 +86,13 @@ module _ (graph : FlowGraph) (framed : IsFramed graph) (room most next latest la
         its.3,
       )
 
+  layer_linked : (it : Item Reach) → Has grows_to.layer it → it.value.length ≤ most → HasLink graph (rows_of book.entries old) book.entries it.value
+  layer_linked it has within =
+      let its = grows_to.values it has in
+      let waits = taken.each its.0 its.1 in
+      subst (HasLink graph (rows_of book.entries old) book.entries) (sym (its.2 ∙ capped_same its.0 (waits_long its.0 waits)))
+      (between.offers_linked its.0 (waits_offer its.0 waits))
+
   known_at : (o : Row) (s : Reach) → Waits near far next s → row_of book.entries s ≡ o
       → Known (rows_of book.entries old ++ rows_of book.entries grows_to.layer) o.node
   known_at o s waits is =
@@ -137,6 +146,9 @@ module _ (graph : FlowGraph) (framed : IsFramed graph) (room most next latest la
     laid_out = expanded.laid_out;
     near_placed = λ s has. expanded.placed s (Has-left near' jumps s has);
     near_long = λ s has. near_long s (expanded.long s has);
+    linked = linked_next graph most book.entries book'.entries old mid grows_to.layer grows_to.more expanded.grows grows_to.laid_out.placed between.linked
+        layer_linked;
+    offers_linked = λ s offered. offer_linked s offered;
     far_right = λ n it there. far_right n it there (put.each n it there);
     short = λ r has. in_rows r (Has-either (rows_of book.entries old) (rows_of book.entries grows_to.layer) r (subst (λ rs. Has rs r)
         (rows_same ∙ mid_is) has));
@@ -219,6 +231,21 @@ module _ (graph : FlowGraph) (framed : IsFramed graph) (room most next latest la
           let in_layer = behind (rows_of book.entries old) (rows_of book.entries grows_to.layer) its.0 (row_of book.entries its.1.value)
           (subst (λ n. n ≤ its.0) (sym (rows_long book.entries old)) its.2) at in
           its.4 ∙ ap (λ n. suc n) (layer_of (row_of book.entries its.1.value) in_layer).1
+
+      waiting_linked : (s : Reach) → (w : IsWaiting far' (suc next) s)
+          → (slice_get far w.n ≡ Some w.it) ⊎ (Has jumps w.it.value × (w.it.key ≡ key_of most w.it.value.length))
+          → HasLink graph (rows_of book'.entries mid) book'.entries s
+      waiting_linked s w (inl at) =
+          let before : IsWaiting far next s = record { n = w.n; it = w.it; there = at; later = (let later = w.later in omega arith); value = w.value } in
+          subst (λ rs. HasLink graph rs book'.entries s) (sym (rows_same ∙ mid_is))
+          (link_more graph (rows_of book.entries old) (rows_of book.entries grows_to.layer) book'.entries s
+          (link_kept graph (rows_of book.entries old) book.entries book'.entries s expanded.grows (waiting_placed s next before)
+          (between.offers_linked s (inr before))))
+      waiting_linked s w (inr new) = expanded.linked s (Has-right near' jumps s (subst (Has jumps) w.value new.0))
+
+      offer_linked : (s : Reach) → Has near' s ⊎ IsWaiting far' (suc next) s → HasLink graph (rows_of book'.entries mid) book'.entries s
+      offer_linked s (inl has) = expanded.linked s (Has-left near' jumps s has)
+      offer_linked s (inr w) = waiting_linked s w (put.each w.n w.it w.there)
 
       far_right : (n : ℕ) (it : Item Reach) → slice_get far' n ≡ Some it
           → (slice_get far n ≡ Some it) ⊎ (Has jumps it.value × (it.key ≡ key_of most it.value.length)) → IsFarItem graph most latest' book'.entries it

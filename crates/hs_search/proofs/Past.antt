@@ -4,6 +4,7 @@ use Rattle.std.proofs.lemmas.Bool.{cases_order}
 use Rattle.hs_search.proofs.Closing.{closing_brought, closing_done, closing_first, closing_taken, reached_within}
 use Rattle.hs_search.specs.Laws.Exactness.{known_within, shortest_row}
 use Rattle.hs_search.proofs.Expansions.{rows_kept}
+use Rattle.hs_search.proofs.Linking.{linked_next}
 use Rattle.hs_search.specs.Laws.Membership.{Has-left, Has-right, Has-either, map-Has, Has-map}
 use Rattle.hs_search.proofs.Passing.{rows_long}
 use Rattle.hs_search.proofs.PuttingOff.{key_or}
@@ -50,6 +51,7 @@ past_first graph framed room most next latest rows book near far between ended =
   split = sym (append-nil (rows_of book.entries rows));
   long = λ r has. absurd has;
   laid_out = between.laid_out;
+  linked = between.linked;
   placed = λ s waits. placed s waits;
   later = λ s waits. long s waits;
   closing = subst (λ n. IsClosing graph n (rows_of book.entries rows) (Stored book.entries (Waits near far (suc most)))) (rows_long book.entries rows)
@@ -154,6 +156,12 @@ module _ (graph : FlowGraph) (framed : IsFramed graph) (room most : ℕ) (base :
         (λ known. its.3 (known.0, subst (λ rs. Has rs known.0) (sym before.split) (Has-left base before.past known.0 known.1), known.2)),
       )
 
+  layer_past : (it : Item Reach) → Has grows_to.layer it → it.value.length ≤ most → ⊥
+  layer_past it has within =
+      let its = grows_to.values it has in
+      let long = ap (λ (r : Reach). r.length) (its.2 ∙ capped_past its.0 (before.later its.0 (taken.each its.0 its.1))) in
+      omega arith
+
   closing_mid : IsClosing graph (length old) (rows_of book.entries old ++ rows_of book.entries grows_to.layer) (λ o. ⊥)
   closing_mid =
       closing_taken graph (length old) (rows_of book.entries old) (rows_of book.entries grows_to.layer) (Stored book.entries Offers)
@@ -182,6 +190,8 @@ module _ (graph : FlowGraph) (framed : IsFramed graph) (room most : ℕ) (base :
         ∙ append_assoc base before.past (rows_of book.entries grows_to.layer);
     long = λ r has. long r (Has-either before.past (rows_of book.entries grows_to.layer) r has);
     laid_out = expanded.laid_out;
+    linked = linked_next graph most book.entries book'.entries old mid grows_to.layer grows_to.more expanded.grows grows_to.laid_out.placed before.linked
+        (λ it has within. absurd (layer_past it has within));
     placed = expanded.placed;
     later = λ s has. later s (expanded.all.from (row_of book'.entries s) (s, has, refl));
     closing = subst (λ n. IsClosing graph n (rows_of book'.entries mid) (Stored book'.entries (Has (near' ++ jumps)))) (rows_long book'.entries mid)
@@ -227,6 +237,7 @@ past_two graph room most base rows book near jumps past = record {
   split = past.split;
   long = past.long;
   laid_out = past.laid_out;
+  linked = past.linked;
   placed = λ s has. past.placed s (in_both s has);
   later = λ s has. past.later s (in_both s has);
   closing = closing_same graph (length rows) (rows_of book.entries rows) (Stored book.entries (Has (near ++ jumps)))

@@ -1,6 +1,6 @@
 -- Worked rows: a graph of two functions, chains in it, and the lists of the search.
 use Rattle.std.proofs.Common.{◌≡◌, ℕ, suc, ◌==◌, Bool, if◌then◌else◌, List, [], ◌∷◌, Option, Some, None, refl, inl, inr}
-use Rattle.hs_search.specs.Bringing.{step_back, step_in, step_on}
+use Rattle.hs_search.specs.Bringing.{origin_back, step_back, step_in, step_on}
 use Rattle.hs_search.specs.Chains.{Chain, begins, goes_on, goes_in, goes_back, IsOnce, pairs_at}
 use Rattle.hs_search.specs.Graphs.{FlowGraph}
 use Rattle.hs_search.specs.Listing.{last_in}
@@ -85,7 +85,7 @@ second_return = refl
 -- ---- as they are stored
 
 abbrev reach : ℕ → ℕ → ℕ → ℕ → Reach
-reach at call length level = record { fact = 7; at = at; call = call; length = length; level = level }
+reach at call length level = record { fact = 7; at = at; call = call; length = length; level = level; origin = record { up = 0; last = 0 } }
 
 abbrev calls : List (Item ℕ)
 calls = (record { key = 0; link = 0; value = 7 }) ∷ (record { key = 3; link = 0; value = 7 }) ∷ []
@@ -96,13 +96,17 @@ second_call = refl
 node_of_return : node_of calls (reach 4 1 3 1) ≡ node 4
 node_of_return = refl
 
-return_stored : step_back (reach 1 0 4 3) (reach 4 1 3 1) (node 2) ≡ reach 2 0 7 6
+-- reached from those rows
+abbrev from_rows : ℕ → ℕ → Reach → Reach
+from_rows up last it = record { fact = it.fact; at = it.at; call = it.call; length = it.length; level = it.level; origin = record { up = up; last = last } }
+
+return_stored : step_back (origin_back 4 3) (reach 1 0 4 3) (reach 4 1 3 1) (node 2) ≡ from_rows 4 3 (reach 2 0 7 6)
 return_stored = refl
 
-call_stored : step_in (reach 0 0 1 0) 1 (node 3) ≡ reach 3 1 2 0
+call_stored : step_in 1 (reach 0 0 1 0) 1 (node 3) ≡ from_rows 1 0 (reach 3 1 2 0)
 call_stored = refl
 
-step_stored : step_on (reach 3 1 2 0) (node 4) ≡ reach 4 1 3 1
+step_stored : step_on 2 (reach 3 1 2 0) (node 4) ≡ from_rows 2 0 (reach 4 1 3 1)
 step_stored = refl
 
 -- ---- past the most

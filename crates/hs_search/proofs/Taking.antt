@@ -25,6 +25,7 @@ pub record IsGrown (graph : FlowGraph) (room most : ℕ) (book : Book) (count : 
   pub known : (s : Reach) → Has taken s → Known (rows_of book.entries new) (node_of book.entries s)
   pub each : (r : Row) → Has (rows_of book.entries layer) r
       → (s : Reach) × Has taken s × (row_of book.entries (capped most s) ≡ r) × ¬ (Known (rows_of book.entries old) r.node)
+  pub values : (it : Item Reach) → Has layer it → (s : Reach) × Has taken s × (it.value ≡ capped most s)
   pub once : IsOnce (nodes_in (rows_of book.entries old)) → IsOnce (nodes_in (rows_of book.entries new))
   pub fits : length old ≤ room → length new ≤ room
 
@@ -61,6 +62,7 @@ grown_added graph room most book count taken s old mid new short below placed gr
   known = λ o has. known o (last_taken taken s o has);
   each = λ r has. each r (Has-either (rows_of book.entries grown.layer) (row_of book.entries added.it.value ∷ []) r
       (subst (λ rs. Has rs r) (rows_more book.entries grown.layer (added.it ∷ [])) has));
+  values = λ it has. values it (Has-either grown.layer (added.it ∷ []) it has);
   once = λ once. subst (λ xs. IsOnce (nodes_in xs)) (sym rows_is)
       (subst IsOnce (sym (nodes_more (rows_of book.entries mid) (row_of book.entries added.it.value ∷ [])))
       (once_more (nodes_in (rows_of book.entries mid)) (node_of book.entries added.it.value) (grown.once once)
@@ -88,6 +90,11 @@ grown_added graph room most book count taken s old mid new short below placed gr
       subst (λ rs. Has rs (row_of book.entries added.it.value)) (sym rows_is) (Has-last (rows_of book.entries mid) (row_of book.entries added.it.value)),
       node_same ∙ ap (node_of book.entries) is,
     )
+
+    values : (it : Item Reach) → Has grown.layer it ⊎ Has (added.it ∷ []) it → (o : Reach) × Has (taken ++ s ∷ []) o × (it.value ≡ capped most o)
+    values it (inl has) = let its = grown.values it has in (its.0, Has-left taken (s ∷ []) its.0 its.1, its.2)
+    values it (inr (inl is)) = (s, Has-last taken s, ap (λ (i : Item Reach). i.value) (sym is) ∙ added.value)
+    values it (inr (inr no_more)) = absurd no_more
 
     each : (r : Row) → Has (rows_of book.entries grown.layer) r ⊎ Has (row_of book.entries added.it.value ∷ []) r
         → (o : Reach) × Has (taken ++ s ∷ []) o × (row_of book.entries (capped most o) ≡ r) × ¬ (Known (rows_of book.entries old) r.node)
@@ -117,6 +124,7 @@ grown graph room most book count _ old _ short below laid placed (none_taken _) 
   laid_out = laid;
   known = λ s has. absurd has;
   each = λ r has. absurd has;
+  values = λ it has. absurd has;
   once = λ once. once;
   fits = λ fits. fits;
 }
@@ -128,6 +136,7 @@ grown graph room most book count _ old new short below laid placed (one_known ta
       laid_out = before.laid_out;
       known = λ o has. from before o (last_taken taken s o has);
       each = λ r has. let its = before.each r has in (its.0, Has-left taken (s ∷ []) its.0 its.1, its.2, its.3);
+      values = λ it has. let its = before.values it has in (its.0, Has-left taken (s ∷ []) its.0 its.1, its.2);
       once = before.once;
       fits = before.fits;
     }

@@ -11,21 +11,34 @@ use Rattle.hs_search.specs.Storing.{node_of}
 use Rattle.hs_search.specs.declared.calls.Calls.{Calls}
 use Rattle.hs_search.specs.declared.graph.Node.{Node}
 use Rattle.hs_search.specs.declared.lists.Item.{Item}
+use Rattle.hs_search.specs.declared.reach.Origin.{Origin}
 use Rattle.hs_search.specs.declared.reach.Reach.{Reach}
 
 -- ---- offers
 
 -- a step
-abbrev pub step_on : Reach → Node → Reach
-step_on x y = record { fact = y.fact; at = y.at; call = x.call; length = suc x.length; level = suc x.level }
+abbrev pub step_on : ℕ → Reach → Node → Reach
+step_on up x y =
+    record { fact = y.fact; at = y.at; call = x.call; length = suc x.length; level = suc x.level; origin = record { up = up; last = 0 } }
 
 -- into a call of that number
-abbrev pub step_in : Reach → ℕ → Node → Reach
-step_in x call b = record { fact = b.fact; at = b.at; call = call; length = suc x.length; level = 0 }
+abbrev pub step_in : ℕ → Reach → ℕ → Node → Reach
+step_in up x call b = record { fact = b.fact; at = b.at; call = call; length = suc x.length; level = 0; origin = record { up = up; last = 0 } }
 
 -- back to the caller
-abbrev pub step_back : Reach → Reach → Node → Reach
-step_back c e y = record { fact = y.fact; at = y.at; call = c.call; length = suc (suc (c.length + e.level)); level = suc (suc (c.level + e.level)) }
+abbrev pub step_back : Origin → Reach → Reach → Node → Reach
+step_back origin c e y = record {
+  fact = y.fact;
+  at = y.at;
+  call = c.call;
+  length = suc (suc (c.length + e.level));
+  level = suc (suc (c.level + e.level));
+  origin = origin;
+}
+
+-- the link of a return
+abbrev pub origin_back : ℕ → ℕ → Origin
+origin_back up last = record { up = up; last = last }
 
 -- none or one, as a list
 abbrev pub listed : {A : Type 0} → Option A → List A
@@ -52,16 +65,16 @@ AreRows rows items = (n : ℕ) (it : Item ℕ) → slice_get items n ≡ Some it
 -- ---- returns
 
 -- what a row makes as an end of the call
-abbrev pub MakesEnd : FlowGraph → List (Item ℕ) → List (Item Reach) → Node → Reach → ℕ → Reach → Type 0
-MakesEnd graph entries rows caller from row made =
+abbrev pub MakesEnd : FlowGraph → List (Item ℕ) → List (Item Reach) → Node → ℕ → Reach → ℕ → Reach → Type 0
+MakesEnd graph entries rows caller up from row made =
     (e : Item Reach) × (y : Node) × (slice_get rows row ≡ Some e) × (graph.leaves caller (node_of entries e.value) ≡ Some y)
-    × (step_back from e.value y ≡ made)
+    × (step_back (origin_back up (suc row)) from e.value y ≡ made)
 
 -- and as its caller
-abbrev pub MakesCaller : FlowGraph → List (Item ℕ) → List (Item Reach) → Node → Reach → ℕ → Reach → Type 0
-MakesCaller graph entries rows last end row made =
+abbrev pub MakesCaller : FlowGraph → List (Item ℕ) → List (Item Reach) → Node → ℕ → Reach → ℕ → Reach → Type 0
+MakesCaller graph entries rows last number end row made =
     (c : Item Reach) × (y : Node) × (slice_get rows row ≡ Some c) × (graph.leaves (node_of entries c.value) last ≡ Some y)
-    × (step_back c.value end y ≡ made)
+    × (step_back (origin_back (suc row) number) c.value end y ≡ made)
 
 -- each item of the key makes its offers, and nothing else is offered
 pub record Gathers (items : List (Item ℕ)) (key : ℕ) (Makes : ℕ → Reach → Type 0) (old new : List Reach) : Type 0 where
@@ -94,10 +107,10 @@ pub record IsEntering (graph : FlowGraph) (rows : List (Item Reach)) (n : ℕ) (
     (near near' jumps jumps' : List Reach) : Type 0 where
   pub call : ℕ
   pub numbered : IsNumbered b call old.entries new.entries
-  pub offered : near' ≡ near ++ step_in from call b ∷ []
+  pub offered : near' ≡ near ++ step_in (suc n) from call b ∷ []
   pub caller : new.callers ≡ old.callers ++ item_of call n old.callers ∷ []
   pub ends : new.ends ≡ old.ends
-  pub returns : Gathers old.ends call (MakesEnd graph new.entries rows node from) jumps jumps'
+  pub returns : Gathers old.ends call (MakesEnd graph new.entries rows node (suc n) from) jumps jumps'
 
 -- what becomes of the call that is entered, if one is
 abbrev pub CallOffered : FlowGraph → List (Item Reach) → ℕ → Node → Reach → Option Node → Book → Book → List Reach → List Reach → List Reach → List Reach
@@ -111,7 +124,7 @@ pub record IsEnding (graph : FlowGraph) (rows : List (Item Reach)) (n : ℕ) (no
   pub entries : new.entries ≡ old.entries
   pub callers : new.callers ≡ old.callers
   pub end_ : new.ends ≡ old.ends ++ item_of from.call n old.ends ∷ []
-  pub returns : Gathers old.callers from.call (MakesCaller graph old.entries rows node from) jumps jumps'
+  pub returns : Gathers old.callers from.call (MakesCaller graph old.entries rows node (suc n) from) jumps jumps'
 
 -- what becomes of the call of the row, if it may end there
 abbrev pub EndOffered : FlowGraph → List (Item Reach) → ℕ → Node → Reach → Bool → Book → Book → List Reach → List Reach → Type 0

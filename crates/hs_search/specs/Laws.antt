@@ -1,5 +1,6 @@
 -- Laws of the search's definitions.
 pub mod Chaining
+pub mod Comparing
 pub mod Exactness
 pub mod Leasts
 pub mod Lengths

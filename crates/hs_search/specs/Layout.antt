@@ -7,6 +7,7 @@
 use Rattle.std.specs.Prelude.{◌≡◌, ◌<◌, ◌≤◌, ℕ, suc, true, List, ◌++◌, length, slice_get, Some, take}
 use Rattle.hs_search.specs.Bringing.{Book}
 use Rattle.hs_search.specs.Graphs.{FlowGraph, Has}
+use Rattle.hs_search.specs.Links.{HasLink}
 use Rattle.hs_search.specs.Rounds.{Row, BroughtBy}
 use Rattle.hs_search.specs.Storing.{call_at, node_of, row_of, rows_of}
 use Rattle.hs_search.specs.declared.graph.Node.{Node}
@@ -76,6 +77,7 @@ pub record IsExpanded (graph : FlowGraph) (rows : List (Item Reach)) (number : �
   pub jumps_is : jumps' ≡ jumps ++ returns
   pub placed : (s : Reach) → Has (steps ++ returns) s → IsPlaced graph new.entries s
   pub long : (s : Reach) → Has steps s → s.length ≡ suc it.value.length
+  pub linked : (s : Reach) → Has (steps ++ returns) s → HasLink graph (rows_of new.entries rows) new.entries s
   pub from : (s : Reach) → Has (steps ++ returns) s
       → BroughtBy graph (take (suc number) (rows_of new.entries rows)) (row_of new.entries it.value) (row_of new.entries s)
   pub brought : (o : Row) → BroughtBy graph (take (suc number) (rows_of new.entries rows)) (row_of new.entries it.value) o

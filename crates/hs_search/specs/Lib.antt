@@ -1,12 +1,17 @@
 pub mod Bringing
 pub mod Calling
 pub mod Chains
+pub mod Comparing
+pub mod Deciding
 pub mod Finding
 pub mod Graphs
+pub mod Judging
 pub mod Laws
 pub mod Layout
 pub mod Levels
+pub mod Links
 pub mod Listing
+pub mod Meeting
 pub mod Orders
 pub mod Rounds
 pub mod Searching
@@ -14,4 +19,5 @@ pub mod Sorting
 pub mod States
 pub mod Storing
 pub mod Traces
+pub mod Tracing
 pub mod Trails

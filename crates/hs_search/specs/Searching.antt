@@ -9,6 +9,7 @@ use Rattle.hs_search.specs.Bringing.{Book}
 use Rattle.hs_search.specs.Chains.{IsOnce, IsTooMany}
 use Rattle.hs_search.specs.Graphs.{FlowGraph, Has}
 use Rattle.hs_search.specs.Layout.{Grows, IsLaidOut, IsPlaced}
+use Rattle.hs_search.specs.Links.{AreLinked, HasLink}
 use Rattle.hs_search.specs.Rounds.{Row, AllBrought, Built, Closed, IsClosing, IsReady, Known}
 use Rattle.hs_search.specs.Storing.{IsFull, IsListed, Taking, row_of, rows_of}
 use Rattle.hs_search.specs.declared.graph.Node.{Node}
@@ -26,6 +27,7 @@ pub record HasExpanded (graph : FlowGraph) (rows : List (Item Reach)) (first cou
   pub laid_out : IsLaidOut graph rows new count
   pub grows : Grows old.entries new.entries
   pub placed : (s : Reach) → Has (near ++ jumps) s → IsPlaced graph new.entries s
+  pub linked : (s : Reach) → Has (near ++ jumps) s → HasLink graph (rows_of new.entries rows) new.entries s
   pub all : AllBrought graph (rows_of new.entries rows) first count (Stored new.entries (Has (near ++ jumps)))
   pub long : (s : Reach) → Has near s → (n : ℕ) × (it : Item Reach) × (first ≤ n) × (slice_get rows n ≡ Some it) × (s.length ≡ suc it.value.length)
 
@@ -98,6 +100,8 @@ pub record IsBetween (graph : FlowGraph) (room most next latest : ℕ) (rows : L
   pub laid_out : IsLaidOut graph rows book (length rows)
   pub near_placed : (s : Reach) → Has near s → IsPlaced graph book.entries s
   pub near_long : (s : Reach) → Has near s → s.length ≡ next
+  pub linked : AreLinked graph most book.entries rows
+  pub offers_linked : (s : Reach) → Has near s ⊎ IsWaiting far next s → HasLink graph (rows_of book.entries rows) book.entries s
   pub far_right : AreFar graph most latest book.entries far
   pub short : (r : Row) → Has (rows_of book.entries rows) r → r.length < next
   pub ready : IsReady graph next (rows_of book.entries rows) (Stored book.entries (λ s. Has near s ⊎ IsWaiting far next s))
@@ -117,6 +121,7 @@ pub record IsPast (graph : FlowGraph) (room most : ℕ) (base : List Row) (rows 
   pub split : rows_of book.entries rows ≡ base ++ past
   pub long : (r : Row) → Has past r → (r.length ≡ suc most) × (r.level ≡ suc most) × ¬ (Known base r.node)
   pub laid_out : IsLaidOut graph rows book (length rows)
+  pub linked : AreLinked graph most book.entries rows
   pub placed : (s : Reach) → Offers s → IsPlaced graph book.entries s
   pub later : (s : Reach) → Offers s → most < s.length
   pub closing : IsClosing graph (length rows) (rows_of book.entries rows) (Stored book.entries Offers)

@@ -52,7 +52,7 @@ HasRow items reach = (n : ℕ) × IsRowOf items reach n
 
 -- past the most a length and a level are one more than it
 abbrev pub capped_if : Bool → ℕ → Reach → Reach
-capped_if true most reach = record { fact = reach.fact; at = reach.at; call = reach.call; length = suc most; level = suc most }
+capped_if true most reach = record { fact = reach.fact; at = reach.at; call = reach.call; length = suc most; level = suc most; origin = reach.origin }
 capped_if false most reach = reach
 
 -- what is stored of an offer

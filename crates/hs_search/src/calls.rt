@@ -69,6 +69,19 @@ impl Calls {
         }
     }
 
+    /// The first node of the call of that number.
+    pub(crate) fn first(&self, call: u32) -> Node
+        requires known { call < length self.now.entries.items.items }
+        ensures { result ≡ call_at self.now.entries.items.items call }
+    {
+        let first = self.entries.item(call as usize);
+        Node {
+            at: first.key,
+            fact: first.value,
+            entered: first.value,
+        }
+    }
+
     /// The number of the call that begins so. It gets one if it has none.
     pub(crate) fn number(&mut self, entry: Node) -> Result<u32, NoMemory>
         requires known { entry.at < length self.old.entries.heads.items }

@@ -11,20 +11,21 @@ ghost use Rattle.hs_search.specs.declared.reach.Reach.{Reach};
 use crate::calls::Calls;
 use crate::graph::{Graph, Node};
 use crate::lists::Lists;
-use crate::reach::Reach;
+use crate::reach::{Origin, Reach};
 use hs_base::NoMemory;
 
-/// Offers the nodes that are one step on. The buffer of nodes is lent.
+/// Offers the nodes that are one step on from the row of that number, counted from 1. The buffer of nodes is lent.
 pub(crate) fn offer_steps<G: Graph>(
     graph: &G,
     node: Node,
+    up: u32,
     from: Reach,
     nodes: &mut Vec<Node>,
     near: &mut Vec<Reach>,
 ) -> Result<(), NoMemory>
     requires within { node.at < (G.flow graph.now).count }
     requires small { from.length ≤ 1000001 × (from.level ≤ 1000001) }
-    ensures { OnOk result (near.new.items ≡ near.old.items ++ map (step_on from) ((G.flow graph.now).steps node)) }
+    ensures { OnOk result (near.new.items ≡ near.old.items ++ map (step_on up from) ((G.flow graph.now).steps node)) }
 {
     nodes.clear();
     graph.steps(node, nodes)?;
@@ -35,6 +36,7 @@ pub(crate) fn offer_steps<G: Graph>(
             call: from.call,
             length: from.length + 1,
             level: from.level + 1,
+            origin: Origin { up, last: 0 },
         })?;
     }
     Ok(())
@@ -43,6 +45,7 @@ pub(crate) fn offer_steps<G: Graph>(
 /// Offers what comes after a call that began at the caller and ended at the last row.
 fn offer_return<G: Graph>(
     graph: &G,
+    origin: Origin,
     caller: Node,
     from: Reach,
     last: Node,
@@ -52,7 +55,7 @@ fn offer_return<G: Graph>(
     requires caller_within { caller.at < (G.flow graph.now).count }
     requires last_within { last.at < (G.flow graph.now).count }
     requires small { from.length ≤ 1000001 × (from.level ≤ 1000001) × (end.level ≤ 1000001) }
-    ensures { OnOk result (jumps.new.items ≡ jumps.old.items ++ listed (option_map (step_back from end) ((G.flow graph.now).leaves caller last))) }
+    ensures { OnOk result (jumps.new.items ≡ jumps.old.items ++ listed (option_map (step_back origin from end) ((G.flow graph.now).leaves caller last))) }
 {
     if let Some(node) = graph.leaves(caller, last) {
         jumps.push(Reach {
@@ -61,18 +64,20 @@ fn offer_return<G: Graph>(
             call: from.call,
             length: from.length + end.level + 2,
             level: from.level + end.level + 2,
+            origin,
         })?;
     }
     Ok(())
 }
 
-/// Offers the returns of a call to one of its callers, from each of its ends.
+/// Offers the returns of a call to one of its callers, from each of its ends. The caller's row has that number, counted from 1.
 fn offer_ends<G: Graph>(
     graph: &G,
     rows: &Lists<Reach>,
     calls: &Calls,
     call: u32,
     caller: Node,
+    up: u32,
     from: Reach,
     jumps: &mut Vec<Reach>,
 ) -> Result<(), NoMemory>
@@ -81,24 +86,29 @@ fn offer_ends<G: Graph>(
     requires small { from.length ≤ 1000001 × (from.level ≤ 1000001) }
     requires fit { AreFit (G.flow graph.now).count (length calls.now.entries.items.items) rows.now.items.items }
     requires rows { AreRows rows.now.items.items calls.now.ends.items.items }
-    ensures { OnOk result (Gathers calls.now.ends.items.items call (MakesEnd (G.flow graph.now) calls.now.entries.items.items rows.now.items.items caller from) jumps.old.items jumps.new.items) }
+    ensures { OnOk result (Gathers calls.now.ends.items.items call (MakesEnd (G.flow graph.now) calls.now.entries.items.items rows.now.items.items caller up from) jumps.old.items jumps.new.items) }
 {
     let mut number = calls.ends.last(call);
     'ends: while number > 0 {
         let end = calls.ends.item((number - 1) as usize);
         let last = rows.item(end.value as usize).value;
-        offer_return(graph, caller, from, calls.node(last), last, jumps)?;
+        let origin = Origin {
+            up,
+            last: end.value + 1,
+        };
+        offer_return(graph, origin, caller, from, calls.node(last), last, jumps)?;
         number = end.link;
     }
     Ok(())
 }
 
-/// Offers the returns of a call that ends there, to each of its callers.
+/// Offers the returns of a call that ends there, to each of its callers. The end's row has that number, counted from 1.
 fn offer_callers<G: Graph>(
     graph: &G,
     rows: &Lists<Reach>,
     calls: &Calls,
     last: Node,
+    end_number: u32,
     end: Reach,
     jumps: &mut Vec<Reach>,
 ) -> Result<(), NoMemory>
@@ -107,13 +117,17 @@ fn offer_callers<G: Graph>(
     requires small { end.level ≤ 1000001 }
     requires fit { AreFit (G.flow graph.now).count (length calls.now.entries.items.items) rows.now.items.items }
     requires rows { AreRows rows.now.items.items calls.now.callers.items.items }
-    ensures { OnOk result (Gathers calls.now.callers.items.items end.call (MakesCaller (G.flow graph.now) calls.now.entries.items.items rows.now.items.items last end) jumps.old.items jumps.new.items) }
+    ensures { OnOk result (Gathers calls.now.callers.items.items end.call (MakesCaller (G.flow graph.now) calls.now.entries.items.items rows.now.items.items last end_number end) jumps.old.items jumps.new.items) }
 {
     let mut number = calls.callers.last(end.call);
     'callers: while number > 0 {
         let call = calls.callers.item((number - 1) as usize);
         let caller = rows.item(call.value as usize).value;
-        offer_return(graph, calls.node(caller), caller, last, end, jumps)?;
+        let origin = Origin {
+            up: call.value + 1,
+            last: end_number,
+        };
+        offer_return(graph, origin, calls.node(caller), caller, last, end, jumps)?;
         number = call.link;
     }
     Ok(())
@@ -143,15 +157,17 @@ fn offer_call<G: Graph>(
         return Ok(());
     };
     let call = calls.number(entry)?;
+    let up = number as u32 + 1;
     near.push(Reach {
         fact: entry.fact,
         at: entry.at,
         call,
         length: from.length + 1,
         level: 0,
+        origin: Origin { up, last: 0 },
     })?;
     calls.callers.push(call, number as u32)?;
-    offer_ends(graph, rows, calls, call, node, from, jumps)
+    offer_ends(graph, rows, calls, call, node, up, from, jumps)
 }
 
 /// Offers the returns of a call that may end at a row.
@@ -177,7 +193,7 @@ fn offer_end<G: Graph>(
         return Ok(());
     }
     calls.ends.push(from.call, number as u32)?;
-    offer_callers(graph, rows, calls, node, from, jumps)
+    offer_callers(graph, rows, calls, node, number as u32 + 1, from, jumps)
 }
 
 /// Offers all that a row brings, and lists the row as a caller or an end.
@@ -198,7 +214,7 @@ pub(crate) fn expand<G: Graph>(
 {
     let from = rows.item(number).value;
     let node = calls.node(from);
-    offer_steps(graph, node, from, nodes, near)?;
+    offer_steps(graph, node, number as u32 + 1, from, nodes, near)?;
     offer_call(graph, rows, number, node, from, calls, near, jumps)?;
     offer_end(graph, rows, number, node, from, calls, jumps)
 }

@@ -7,6 +7,15 @@ ghost use Rattle.hs_search.specs.declared.reach.SearchEnd.TheVariants.{NoMemory 
 use crate::lists::Lists;
 use hs_base::NoMemory;
 
+/// By which rows a row was reached. Rows are counted from 1.
+#[derive(Clone, Copy)]
+pub(crate) struct Origin {
+    /// The row that steps to it, that enters its call, or that went on after a call. 0 for the start.
+    pub up: u32,
+    /// The row at which that call ended, or 0 if there was none.
+    pub last: u32,
+}
+
 /// A node and a length: of the chain that offers it, or of a shortest one.
 #[derive(Clone, Copy)]
 pub(crate) struct Reach {
@@ -20,6 +29,8 @@ pub(crate) struct Reach {
     pub length: u32,
     /// How many of them come after the first one of the call.
     pub level: u32,
+    /// Its link to the rows before it.
+    pub origin: Origin,
 }
 
 /// Why a search finds nothing.
@@ -76,6 +87,7 @@ fn cap(reach: Reach, most: u32) -> Reach
             call: reach.call,
             length: most + 1,
             level: most + 1,
+            origin: reach.origin,
         }
     } else {
         reach

@@ -11,7 +11,7 @@ use crate::calls::Calls;
 use crate::graph::{Graph, Node};
 use crate::lists::Lists;
 use crate::offering::expand_from;
-use crate::reach::{Reach, SearchEnd, take_each, take_listed};
+use crate::reach::{Origin, Reach, SearchEnd, take_each, take_listed};
 use hs_base::NoMemory;
 use std::alloc::Global;
 
@@ -135,6 +135,7 @@ fn begin<G: Graph>(alloc: Global, graph: &G, most: u32) -> Result<Search, NoMemo
         call,
         length: 1,
         level: 0,
+        origin: Origin { up: 0, last: 0 },
     })?;
     Ok(Search {
         rows: Lists::new(alloc, count)?,

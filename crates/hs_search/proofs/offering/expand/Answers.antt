@@ -1,4 +1,4 @@
-use Rattle.std.proofs.Common.{◌≡◌, sym, ◌∙◌, subst, refl}
+use Rattle.std.proofs.Common.{◌≡◌, sym, ◌∙◌, subst, refl, add-one}
 use Rattle.hs_search.proofs.Calling.{placed_kept}
 use Rattle.hs_search.proofs.Entering.{call_offered}
 use Rattle.hs_search.proofs.Expanding.{OnOk-then, after_fit, after_rows, ends_rows, expanded, fit_of}
@@ -65,7 +65,7 @@ returns-clause-expanded g c =
     (expanded graph (g.G.Graph.framed c.args.graph.now) c.args.rows.now.items.items c.args.number c.item.result.now c.node-node.result
     (book_of c.args.calls.now) (book_of c.offer_call.new.calls) (book_of c.offer_end.new.calls) c.args.near.now.items c.offer_steps.new.near.items
     c.offer_call.new.near.items c.args.jumps.now.items c.offer_call.new.jumps.items c.offer_end.new.jumps.items c.item.ensures c.requires.laid_out
-    c.node-node.ensures c.in_ok-offer_steps.ensures c.in_ok-offer_call.ensures.offered ended)) c.offer_end.result c.offer_end.ensures.offered
+    c.node-node.ensures (rw add-one at c.in_ok-offer_steps.ensures) c.in_ok-offer_call.ensures.offered ended)) c.offer_end.result c.offer_end.ensures.offered
 
 pub offer_steps-requires-clause-small : goal.offer_steps-requires-clause-small
 offer_steps-requires-clause-small g c =

@@ -8,7 +8,7 @@ abbrev pub invariant-callers : goal.invariant-callers
 invariant-callers g l = record {
   walk : IsWalk l.calls.callers.items.items l.end.call l.number;
   gathers : GathersFrom l.calls.callers.items.items l.end.call
-      (MakesCaller (g.G.Graph.flow l.graph) l.calls.entries.items.items l.rows.items.items l.last l.end) l.number l.fn.jumps.items l.jumps.items;
+      (MakesCaller (g.G.Graph.flow l.graph) l.calls.entries.items.items l.rows.items.items l.last l.end_number l.end) l.number l.fn.jumps.items l.jumps.items;
 }
 
 abbrev pub decreases-callers : goal.decreases-callers

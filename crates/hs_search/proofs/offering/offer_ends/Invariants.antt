@@ -8,7 +8,7 @@ abbrev pub invariant-ends : goal.invariant-ends
 invariant-ends g l = record {
   walk : IsWalk l.calls.ends.items.items l.call l.number;
   gathers : GathersFrom l.calls.ends.items.items l.call
-      (MakesEnd (g.G.Graph.flow l.graph) l.calls.entries.items.items l.rows.items.items l.caller l.from) l.number l.fn.jumps.items l.jumps.items;
+      (MakesEnd (g.G.Graph.flow l.graph) l.calls.entries.items.items l.rows.items.items l.caller l.up l.from) l.number l.fn.jumps.items l.jumps.items;
 }
 
 abbrev pub decreases-ends : goal.decreases-ends
