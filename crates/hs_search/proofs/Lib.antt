@@ -7,6 +7,7 @@ mod Entering
 mod Expanding
 mod Expansions
 mod Gathering
+mod Hashed
 mod Linking
 mod Listing
 mod Making

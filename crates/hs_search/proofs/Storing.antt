@@ -5,15 +5,11 @@ use Rattle.hs_search.proofs.Listing.{walk_back, walk_own}
 use Rattle.hs_search.specs.Laws.Membership.{Has-left, Has-either, Has-last}
 use Rattle.hs_search.specs.Graphs.{Has}
 use Rattle.hs_search.specs.Listing.{IsIndex, IsWalk, Seen}
-use Rattle.hs_search.specs.Storing.{HasRow, IsListed, IsTakenList, Takes, TakesEach, TakesListed, Taking, none_taken, one_known, one_added}
+use Rattle.hs_search.specs.Storing.{HasRow, IsListed, IsOther, IsTakenList, Takes, TakesEach, TakesListed, Taking, none_taken, one_known, one_added}
 use Rattle.hs_search.specs.declared.lists.Item.{Item}
 use Rattle.hs_search.specs.declared.reach.Reach.{Reach}
 use Rattle.hs_search.specs.declared.reach.SearchEnd.{SearchEnd}
 use Rattle.hs_search.specs.declared.reach.SearchEnd.TheVariants.{Limit, NoMemory}
-
--- another fact, or another call
-abbrev pub IsOther : Reach → ℕ → Item Reach → Type 0
-IsOther reach n it = it.value.fact ≡ reach.fact → it.value.call ≡ reach.call → ⊥
 
 -- once all are seen
 pub none_has : (items : List (Item Reach)) (reach : Reach) → Seen items reach.at 0 (IsOther reach) → ¬ HasRow items reach

@@ -5,6 +5,7 @@ pub mod Comparing
 pub mod Deciding
 pub mod Finding
 pub mod Graphs
+pub mod Hashing
 pub mod Judging
 pub mod Laws
 pub mod Layout

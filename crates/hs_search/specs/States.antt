@@ -14,12 +14,12 @@ use Rattle.hs_search.specs.declared.searching.Search.{Search}
 
 -- how many keys the lists have
 pub record IsWide (graph : FlowGraph) (most : ℕ) (search : Search) : Type 0 where
-  pub rows : length search.rows.heads.items ≡ graph.count
+  pub rows : length search.rows.lists.heads.items ≡ graph.count
   pub calls : length search.calls.entries.heads.items ≡ graph.count
 
 -- what holds before the round of a length
 pub record IsRound (graph : FlowGraph) (room most next : ℕ) (search : Search) : Type 0 where
-  pub between : IsBetween graph room most next search.latest search.rows.items.items (book_of search.calls) search.near.items search.far.items.items
+  pub between : IsBetween graph room most next search.latest search.rows.lists.items.items (book_of search.calls) search.near.items search.far.items.items
   pub jumps : search.jumps.items ≡ []
   pub wide : IsWide graph most search
 
@@ -33,7 +33,7 @@ pub record IsEnded (graph : FlowGraph) (room most : ℕ) (search : Search) : Typ
 pub record IsPassing (graph : FlowGraph) (room most : ℕ) (search : Search) : Type 0 where
   -- the rows with lengths up to the most
   pub base : List Row
-  pub past : IsPast graph room most base search.rows.items.items (book_of search.calls) (λ s. Has search.near.items s ⊎ Has search.jumps.items s)
+  pub past : IsPast graph room most base search.rows.lists.items.items (book_of search.calls) (λ s. Has search.near.items s ⊎ Has search.jumps.items s)
   pub wide : IsWide graph most search
 
 -- no offer is left

@@ -50,6 +50,10 @@ pub record IsRowOf (items : List (Item Reach)) (reach : Reach) (n : ℕ) : Type 
 abbrev pub HasRow : List (Item Reach) → Reach → Type 0
 HasRow items reach = (n : ℕ) × IsRowOf items reach n
 
+-- another fact, or another call
+abbrev pub IsOther : Reach → ℕ → Item Reach → Type 0
+IsOther reach n it = it.value.fact ≡ reach.fact → it.value.call ≡ reach.call → ⊥
+
 -- past the most a length and a level are one more than it
 abbrev pub capped_if : Bool → ℕ → Reach → Reach
 capped_if true most reach = record { fact = reach.fact; at = reach.at; call = reach.call; length = suc most; level = suc most; origin = reach.origin }

@@ -87,9 +87,9 @@ pub fn search<G: Graph>(
     ensures limit { result ≡ Err Limit → IsTooMany (G.flow graph.now) room }
 {
     let search = explore(alloc, graph, room, most)?;
-    let sorted = sort(alloc, &search.rows, graph.count())?;
+    let sorted = sort(alloc, &search.rows.lists, graph.count())?;
     Ok(Found {
-        rows: search.rows,
+        rows: search.rows.into_lists(),
         entries: search.calls.entries,
         order: sorted.order,
         starts: sorted.starts,

@@ -5,6 +5,7 @@ mod calls;
 mod finding;
 mod found;
 mod graph;
+mod hashing;
 mod judging;
 mod lists;
 mod offering;

@@ -1,6 +1,6 @@
 //! Items by a key, the newest first. `specs/Listing.antt` says what is kept.
 
-ghost use Rattle.std.specs.Prelude.{◌≡◌, ◌<◌, ◌≤◌, ◌++◌, ◌∷◌, ◌^◌, [], length, slice_get, Some, suc, OnOk, IfOk};
+ghost use Rattle.std.specs.Prelude.{◌≡◌, ◌<◌, ◌≤◌, ◌++◌, ◌∷◌, ◌^◌, [], length, slice_get, Some, suc, OnOk, OnErr, IfOk};
 ghost use Rattle.hs_search.specs.Listing.{IsIndex, last_in};
 
 use hs_base::NoMemory;
@@ -81,6 +81,7 @@ impl<T: Copy> Lists<T> {
     pub(crate) fn push(&mut self, key: u32, value: T) -> Result<(), NoMemory>
         requires known { key < length self.old.heads.items }
         ensures items { OnOk result (self.new.items.items ≡ self.old.items.items ++ (record { key = key; link = last_in key self.old.items.items; value = value }) ∷ []) }
+        ensures unchanged { OnErr result (self.new.items.items ≡ self.old.items.items) }
         ensures wide { length self.new.heads.items ≡ length self.old.heads.items }
         ensures one { length self.new.items.items ≤ suc (length self.old.items.items) }
     {

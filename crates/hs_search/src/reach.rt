@@ -1,9 +1,10 @@
 //! Nodes as the search stores them, and the rows of those that are reached. `specs/Storing.antt` says what is stored.
 
-ghost use Rattle.std.specs.Prelude.{◌≡◌, ◌<◌, ◌≤◌, ◌^◌, length, true, false, IfSome, IfNone};
-ghost use Rattle.hs_search.specs.Storing.{AllBelow, AllListedBelow, HasRow, IsRowOf, Takes, TakesEach, TakesListed, capped};
+ghost use Rattle.std.specs.Prelude.{◌≡◌, ◌<◌, ◌≤◌, ◌^◌, length};
+ghost use Rattle.hs_search.specs.Storing.{AllBelow, AllListedBelow, Takes, TakesEach, TakesListed, capped};
 ghost use Rattle.hs_search.specs.declared.reach.SearchEnd.TheVariants.{NoMemory as no_memory};
 
+use crate::hashing::{Place, Rows};
 use crate::lists::Lists;
 use hs_base::NoMemory;
 
@@ -50,31 +51,6 @@ impl From<NoMemory> for SearchEnd {
     }
 }
 
-/// Whether two nodes of one operation are the same.
-fn is_same(row: &Reach, reach: Reach) -> bool
-    ensures same { result ≡ true → (row.now.fact ≡ reach.fact) × (row.now.call ≡ reach.call) }
-    ensures other { result ≡ false → row.now.fact ≡ reach.fact → row.now.call ≡ reach.call → ⊥ }
-{
-    row.fact == reach.fact && row.call == reach.call
-}
-
-/// The row of the same node, if there is one.
-fn find(rows: &Lists<Reach>, reach: Reach) -> Option<usize>
-    requires known { reach.at < length rows.now.heads.items }
-    ensures some { IfSome result (IsRowOf rows.now.items.items reach) }
-    ensures none { IfNone result (¬ (HasRow rows.now.items.items reach)) }
-{
-    let mut number = rows.last(reach.at);
-    'rows: while number > 0 {
-        let row = rows.item((number - 1) as usize);
-        if is_same(&row.value, reach) {
-            return Some((number - 1) as usize);
-        }
-        number = row.link;
-    }
-    None
-}
-
 /// The node with its length, or with one more than the most if it is longer.
 fn cap(reach: Reach, most: u32) -> Reach
     requires short { most ≤ 1000000 }
@@ -95,33 +71,33 @@ fn cap(reach: Reach, most: u32) -> Reach
 }
 
 /// Makes a row of an offer, if its node has none.
-fn take(rows: &mut Lists<Reach>, offer: Reach, room: usize, most: u32) -> Result<(), SearchEnd>
-    requires known { offer.at < length rows.old.heads.items }
+fn take(rows: &mut Rows, offer: Reach, room: usize, most: u32) -> Result<(), SearchEnd>
+    requires known { offer.at < length rows.old.lists.heads.items }
     requires short { most ≤ 1000000 }
-    ensures taken { Takes room most offer rows.old.items.items rows.new.items.items result }
-    ensures wide { length rows.new.heads.items ≡ length rows.old.heads.items }
+    ensures taken { Takes room most offer rows.old.lists.items.items rows.new.lists.items.items result }
+    ensures wide { length rows.new.lists.heads.items ≡ length rows.old.lists.heads.items }
 {
-    if find(rows, offer).is_some() {
+    let Place::Nowhere(leaving) = rows.find(offer) else {
         return Ok(());
-    }
+    };
     if rows.len() >= room {
         return Err(SearchEnd::Limit);
     }
-    rows.push(offer.at, cap(offer, most))?;
+    rows.push(offer.at, cap(offer, most), leaving)?;
     Ok(())
 }
 
 /// Makes rows of offers.
 pub(crate) fn take_each(
-    rows: &mut Lists<Reach>,
+    rows: &mut Rows,
     offers: &[Reach],
     room: usize,
     most: u32,
 ) -> Result<(), SearchEnd>
-    requires known { AllBelow (length rows.old.heads.items) offers.now }
+    requires known { AllBelow (length rows.old.lists.heads.items) offers.now }
     requires short { most ≤ 1000000 }
-    ensures taken { TakesEach room most offers.now rows.old.items.items rows.new.items.items result }
-    ensures wide { length rows.new.heads.items ≡ length rows.old.heads.items }
+    ensures taken { TakesEach room most offers.now rows.old.lists.items.items rows.new.lists.items.items result }
+    ensures wide { length rows.new.lists.heads.items ≡ length rows.old.lists.heads.items }
 {
     for offer in offers {
         take(rows, *offer, room, most)?;
@@ -131,16 +107,16 @@ pub(crate) fn take_each(
 
 /// Makes rows of the offers that are listed by a key.
 pub(crate) fn take_listed(
-    rows: &mut Lists<Reach>,
+    rows: &mut Rows,
     offers: &Lists<Reach>,
     key: u32,
     room: usize,
     most: u32,
 ) -> Result<(), SearchEnd>
-    requires known { AllListedBelow (length rows.old.heads.items) offers.now.items.items }
+    requires known { AllListedBelow (length rows.old.lists.heads.items) offers.now.items.items }
     requires short { most ≤ 1000000 }
-    ensures taken { TakesListed room most offers.now.items.items key rows.old.items.items rows.new.items.items result }
-    ensures wide { length rows.new.heads.items ≡ length rows.old.heads.items }
+    ensures taken { TakesListed room most offers.now.items.items key rows.old.lists.items.items rows.new.lists.items.items result }
+    ensures wide { length rows.new.lists.heads.items ≡ length rows.old.lists.heads.items }
 {
     let mut number = offers.newest(key);
     'offers: while number > 0 {

@@ -9,6 +9,7 @@ ghost use Rattle.hs_search.specs.Storing.{AllBelow, AllListedBelow, rows_of};
 
 use crate::calls::Calls;
 use crate::graph::{Graph, Node};
+use crate::hashing::Rows;
 use crate::lists::Lists;
 use crate::offering::expand_from;
 use crate::reach::{Origin, Reach, SearchEnd, take_each, take_listed};
@@ -19,7 +20,7 @@ use std::alloc::Global;
 #[derive(Drop)]
 pub(crate) struct Search {
     /// The nodes that were found, listed by operation.
-    pub rows: Lists<Reach>,
+    pub rows: Rows,
     /// Their calls.
     pub calls: Calls,
     /// A buffer for the steps of one node.
@@ -77,19 +78,19 @@ fn later(a: u32, b: u32) -> u32
 
 /// Takes the offers of a round: those of the last round, and those that are listed by a number.
 fn take_waiting(
-    rows: &mut Lists<Reach>,
+    rows: &mut Rows,
     near: &mut Vec<Reach>,
     far: &Lists<Reach>,
     key: u32,
     room: usize,
     most: u32,
 ) -> Result<(), SearchEnd>
-    requires near { AllBelow (length rows.old.heads.items) near.old.items }
-    requires far { AllListedBelow (length rows.old.heads.items) far.now.items.items }
+    requires near { AllBelow (length rows.old.lists.heads.items) near.old.items }
+    requires far { AllListedBelow (length rows.old.lists.heads.items) far.now.items.items }
     requires short { most ≤ 1000000 }
-    ensures taken { TakesAll room most (Waits near.old.items far.now.items.items key) rows.old.items.items rows.new.items.items result }
+    ensures taken { TakesAll room most (Waits near.old.items far.now.items.items key) rows.old.lists.items.items rows.new.lists.items.items result }
     ensures empty { OnOk result (near.new.items ≡ []) }
-    ensures wide { length rows.new.heads.items ≡ length rows.old.heads.items }
+    ensures wide { length rows.new.lists.heads.items ≡ length rows.old.lists.heads.items }
 {
     take_each(rows, near.as_slice(), room, most)?;
     near.clear();
@@ -98,19 +99,19 @@ fn take_waiting(
 
 /// Takes the offers of a pass past the most.
 fn take_offers(
-    rows: &mut Lists<Reach>,
+    rows: &mut Rows,
     near: &mut Vec<Reach>,
     jumps: &mut Vec<Reach>,
     room: usize,
     most: u32,
 ) -> Result<(), SearchEnd>
-    requires near { AllBelow (length rows.old.heads.items) near.old.items }
-    requires jumps { AllBelow (length rows.old.heads.items) jumps.old.items }
+    requires near { AllBelow (length rows.old.lists.heads.items) near.old.items }
+    requires jumps { AllBelow (length rows.old.lists.heads.items) jumps.old.items }
     requires short { most ≤ 1000000 }
-    ensures taken { TakesAll room most (λ s. Has near.old.items s ⊎ Has jumps.old.items s) rows.old.items.items rows.new.items.items result }
+    ensures taken { TakesAll room most (λ s. Has near.old.items s ⊎ Has jumps.old.items s) rows.old.lists.items.items rows.new.lists.items.items result }
     ensures near_empty { OnOk result (near.new.items ≡ []) }
     ensures jumps_empty { OnOk result (jumps.new.items ≡ []) }
-    ensures wide { length rows.new.heads.items ≡ length rows.old.heads.items }
+    ensures wide { length rows.new.lists.heads.items ≡ length rows.old.lists.heads.items }
 {
     take_each(rows, near.as_slice(), room, most)?;
     take_each(rows, jumps.as_slice(), room, most)?;
@@ -138,7 +139,7 @@ fn begin<G: Graph>(alloc: Global, graph: &G, most: u32) -> Result<Search, NoMemo
         origin: Origin { up: 0, last: 0 },
     })?;
     Ok(Search {
-        rows: Lists::new(alloc, count)?,
+        rows: Rows::new(alloc, count)?,
         calls,
         nodes: Vec::new(alloc),
         near,
@@ -170,9 +171,10 @@ fn round<G: Graph>(
         room,
         most,
     )?;
+    let rows = &search.rows;
     expand_from(
         graph,
-        &search.rows,
+        &rows.lists,
         first,
         &mut search.calls,
         &mut search.nodes,
@@ -221,9 +223,10 @@ fn pass<G: Graph>(graph: &G, search: &mut Search, room: usize, most: u32) -> Res
         room,
         most,
     )?;
+    let rows = &search.rows;
     expand_from(
         graph,
-        &search.rows,
+        &rows.lists,
         first,
         &mut search.calls,
         &mut search.nodes,
@@ -253,9 +256,10 @@ fn first_pass<G: Graph>(
         room,
         most,
     )?;
+    let rows = &search.rows;
     expand_from(
         graph,
-        &search.rows,
+        &rows.lists,
         first,
         &mut search.calls,
         &mut search.nodes,

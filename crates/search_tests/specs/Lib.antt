@@ -1,1 +1,2 @@
 pub mod Helper
+pub mod Many

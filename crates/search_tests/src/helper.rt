@@ -94,7 +94,7 @@ fn found(alloc: Global, room: usize, most: u32) -> Result<Found, SearchEnd>
 }
 
 /// Whether a pair has that operation, that fact, that entered fact and that length.
-fn is_so(pair: Pair, row: (u32, u64, u64, u32)) -> bool {
+pub(crate) fn is_so(pair: Pair, row: (u32, u64, u64, u32)) -> bool {
     let (at, fact, entered, length) = row;
     pair.node.at == at
         && pair.node.fact == fact

@@ -3,3 +3,5 @@
 
 #[cfg(test)]
 mod helper;
+#[cfg(test)]
+mod many;

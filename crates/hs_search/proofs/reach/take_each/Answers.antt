@@ -5,7 +5,7 @@ use Rattle.hs_search.specs.Storing.{none_taken}
 use Rattle.hs_search.proofs.reach.take_each.Goals as goal
 
 pub loop-offer-init : goal.loop-offer-init
-loop-offer-init c = record { taking = none_taken c.args.rows.now.items.items; wide = refl }
+loop-offer-init c = record { taking = none_taken c.args.rows.now.lists.items.items; wide = refl }
 
 pub take-requires-clause-known : goal.take-requires-clause-known
 take-requires-clause-known c =
@@ -16,15 +16,15 @@ pub returns-in_err-take-clause-taken : goal.returns-in_err-take-clause-taken
 returns-in_err-take-clause-taken c =
     let inside : c.loop-offer.offer-index < length c.args.offers.now = search rules in
     let is : c.from_residual.result ≡ Err c.in_err-take.field-0.0 = search rules in
-    rw is (each_full c.args.room c.args.most c.args.offers.now (take c.loop-offer.offer-index c.args.offers.now) _ c.args.rows.now.items.items
-    c.loop-offer.rows.items.items c.take.new.rows.items.items c.in_err-take.field-0.0 c.loop-offer.invariant.taking
+    rw is (each_full c.args.room c.args.most c.args.offers.now (take c.loop-offer.offer-index c.args.offers.now) _ c.args.rows.now.lists.items.items
+    c.loop-offer.rows.lists.items.items c.take.new.rows.lists.items.items c.in_err-take.field-0.0 c.loop-offer.invariant.taking
     (take_Has c.args.offers.now c.loop-offer.offer-index) (Has-index c.args.offers.now c.loop-offer.offer-index _ inside) c.in_err-take.ensures.taken)
 
 pub loop-offer-preserved : goal.loop-offer-preserved
 loop-offer-preserved c =
     let inside : c.loop-offer.offer-index < length c.args.offers.now = search rules in
     record {
-      taking = taking_next c.args.room c.args.most c.args.offers.now c.loop-offer.offer-index _ c.args.rows.now.items.items c.loop-offer.rows.items.items
-          c.take.new.rows.items.items _ inside c.loop-offer.invariant.taking c.in_ok-take.ensures.taken;
+      taking = taking_next c.args.room c.args.most c.args.offers.now c.loop-offer.offer-index _ c.args.rows.now.lists.items.items c.loop-offer.rows.lists.items.items
+          c.take.new.rows.lists.items.items _ inside c.loop-offer.invariant.taking c.in_ok-take.ensures.taken;
       wide = c.take.ensures.wide ∙ c.loop-offer.invariant.wide;
     }

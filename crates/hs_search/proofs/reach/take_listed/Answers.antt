@@ -8,7 +8,7 @@ pub offers-init : goal.offers-init
 offers-init c =
     let all = walk_first c.args.offers.now.items.items c.args.key c.newest-number.result (λ n it. Has [] it.value) c.newest-number.ensures in
     record {
-      taken = taken_first c.args.room c.args.most c.args.offers.now.items.items c.args.key c.newest-number.result c.args.rows.now.items.items all.1;
+      taken = taken_first c.args.room c.args.most c.args.offers.now.items.items c.args.key c.newest-number.result c.args.rows.now.lists.items.items all.1;
       walk = all.0;
       wide = refl;
     }
@@ -19,7 +19,7 @@ returns-in_err-take-clause-taken c =
     let is : c.from_residual.result ≡ Err c.in_err-take.field-0.0 = search rules in
     let own = walk_own c.args.offers.now.items.items c.args.key c.offers.number c.item-offer.result.now c.offers.invariant.walk some c.item-offer.ensures in
     rw is (listed_full c.args.room c.args.most c.args.offers.now.items.items c.args.key c.offers.invariant.taken.taken c.item-offer.result.now.value
-    c.args.rows.now.items.items c.offers.rows.items.items c.take.new.rows.items.items c.in_err-take.field-0.0 c.offers.invariant.taken.taking
+    c.args.rows.now.lists.items.items c.offers.rows.lists.items.items c.take.new.rows.lists.items.items c.in_err-take.field-0.0 c.offers.invariant.taken.taking
     c.offers.invariant.taken.each (listed_at c.args.offers.now.items.items c.args.key (c.offers.number - 1) c.item-offer.result.now c.item-offer.ensures own)
     c.in_err-take.ensures.taken)
 
@@ -27,13 +27,13 @@ pub offers-smaller : goal.offers-smaller
 offers-smaller c =
     let some : 0 < c.offers.number = search rules in
     (from_more c.args.room c.args.most c.args.offers.now.heads.items c.args.offers.now.items.items c.args.key c.offers.number c.item-offer.result.now
-    c.args.rows.now.items.items c.offers.rows.items.items c.take.new.rows.items.items _ c.args.offers.now.right c.offers.invariant.walk
+    c.args.rows.now.lists.items.items c.offers.rows.lists.items.items c.take.new.rows.lists.items.items _ c.args.offers.now.right c.offers.invariant.walk
     c.offers.invariant.taken some c.item-offer.ensures c.in_ok-take.ensures.taken).2
 
 pub offers-preserved : goal.offers-preserved
 offers-preserved c =
     let some : 0 < c.offers.number = search rules in
     let all = from_more c.args.room c.args.most c.args.offers.now.heads.items c.args.offers.now.items.items c.args.key c.offers.number
-    c.item-offer.result.now c.args.rows.now.items.items c.offers.rows.items.items c.take.new.rows.items.items _ c.args.offers.now.right
+    c.item-offer.result.now c.args.rows.now.lists.items.items c.offers.rows.lists.items.items c.take.new.rows.lists.items.items _ c.args.offers.now.right
     c.offers.invariant.walk c.offers.invariant.taken some c.item-offer.ensures c.in_ok-take.ensures.taken in
     record { taken = all.0; walk = all.1; wide = c.take.ensures.wide ∙ c.offers.invariant.wide }

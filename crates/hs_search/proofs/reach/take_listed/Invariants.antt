@@ -6,9 +6,9 @@ use Rattle.hs_search.proofs.reach.take_listed.Given as goal
 -- those of the key from here on are taken
 abbrev pub invariant-offers : goal.invariant-offers
 invariant-offers l = record {
-  taken : IsTakenFrom l.room l.most l.offers.items.items l.key l.number l.fn.rows.items.items l.rows.items.items;
+  taken : IsTakenFrom l.room l.most l.offers.items.items l.key l.number l.fn.rows.lists.items.items l.rows.lists.items.items;
   walk : IsWalk l.offers.items.items l.key l.number;
-  wide : length l.rows.heads.items ≡ length l.fn.rows.heads.items;
+  wide : length l.rows.lists.heads.items ≡ length l.fn.rows.lists.heads.items;
 }
 
 abbrev pub decreases-offers : goal.decreases-offers

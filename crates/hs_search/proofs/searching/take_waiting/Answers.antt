@@ -7,12 +7,12 @@ pub returns-in_err-take_each-clause-taken : goal.returns-in_err-take_each-clause
 returns-in_err-take_each-clause-taken c =
     let is : c.from_residual.result ≡ Err c.in_err-take_each.field-0.0 = search rules in
     rw is (takes_left c.args.room c.args.most c.args.near.now.items c.as_slice.result.now
-    (IsListed c.args.far.now.items.items c.args.key) c.args.rows.now.items.items
-    c.take_each.new.rows.items.items c.take_each.new.rows.items.items c.in_err-take_each.field-0.0
+    (IsListed c.args.far.now.items.items c.args.key) c.args.rows.now.lists.items.items
+    c.take_each.new.rows.lists.items.items c.take_each.new.rows.lists.items.items c.in_err-take_each.field-0.0
     c.as_slice.ensures.value c.in_err-take_each.ensures.taken)
 
 pub returns-clause-taken : goal.returns-clause-taken
 returns-clause-taken c =
-    takes_listed c.args.room c.args.most c.args.near.now.items c.args.far.now.items.items c.args.key c.args.rows.now.items.items
-    c.take_each.new.rows.items.items c.take_listed.new.rows.items.items c.take_listed.result
+    takes_listed c.args.room c.args.most c.args.near.now.items c.args.far.now.items.items c.args.key c.args.rows.now.lists.items.items
+    c.take_each.new.rows.lists.items.items c.take_listed.new.rows.lists.items.items c.take_listed.result
     (rw c.as_slice.ensures.value at c.in_ok-take_each.ensures.taken) c.take_listed.ensures.taken
