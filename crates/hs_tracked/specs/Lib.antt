@@ -9,6 +9,7 @@ pub mod Copies
 pub mod Entering
 pub mod Going
 pub mod Leaving
+pub mod Listing
 pub mod Loading
 pub mod Making
 pub mod Moving
