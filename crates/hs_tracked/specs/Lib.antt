@@ -9,6 +9,7 @@ pub mod Copies
 pub mod Entering
 pub mod Going
 pub mod Leaving
+pub mod ListedCalls
 pub mod Listing
 pub mod Loading
 pub mod Making
@@ -23,6 +24,7 @@ pub mod Right
 pub mod Routines
 pub mod Setting
 pub mod Shifting
+pub mod Standing
 pub mod Starting
 pub mod Storing
 pub mod Tracking

@@ -189,7 +189,7 @@ module _ (count : ℕ) where
       on (inl so) = old (ap value_of_slot so)
       on (inr so) = subst (IsValueListed count) (same_value so.1) is
 
-  set_listed : (x : Variable) (new : Value) (machine : Machine) → IsValueListed count new → AreListedIn machine → AreListedIn (with_value x new machine)
+  pub set_listed : (x : Variable) (new : Value) (machine : Machine) → IsValueListed count new → AreListedIn machine → AreListedIn (with_value x new machine)
   set_listed (name.Global g) new machine is are = record { variables = by_variable; blocks = are.blocks; objects = are.objects }
     where
       by_variable : (y : Variable) (v : Value) → value_of (with_value (name.Global g) new machine) y ≡ Some v → IsValueListed count v
