@@ -26,6 +26,7 @@ pub mod Setting
 pub mod Shifting
 pub mod Standing
 pub mod Starting
+pub mod Stepping
 pub mod Storing
 pub mod Tracking
 pub mod Within

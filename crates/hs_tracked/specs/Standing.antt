@@ -24,7 +24,7 @@ use Rattle.hs_facts.specs.Names.{parameter_count, taken as taken_by}
 use Rattle.hs_facts.specs.Rounds.{HoldsIn}
 use Rattle.hs_flow.specs.Calls.{Callee, base_of}
 use Rattle.hs_flow.specs.Laws.Parameters.{parameters_taken}
-use Rattle.hs_flow.specs.Programs.{parameters_of}
+use Rattle.hs_flow.specs.Programs.{parameters_of, scope_at}
 use Rattle.hs_kinds.specs.Points.{IsTypedCode}
 use Rattle.hs_kinds.specs.Starts.{code_is_typed}
 use Rattle.hs_meaning.specs.Machine.{Machine}
@@ -131,8 +131,14 @@ module _ (whole : WholeCode) (answers : Answers) (exact : IsExact whole answers)
           ∙ call_deep (program whole answers exact are) typed (may_of whole answers exact are) (sets_of whole answers exact are) (impact_of whole)
           (exact_told whole answers exact are) w ws waits fact
 
+      pub call_deep_noted : waits.its.places - taken_by (scope_at whole w.here.fn) (op.Call w.called) ≡ length (below w.callee.parameters w.here.stack)
+      call_deep_noted =
+          ap (λ k. waits.its.places - k) (sym (parameters_taken whole w.called w.here.fn))
+          ∙ ap (λ n. n - length (parameters_of whole w.called))
+          (deep w.here w.machine ws fact waits.its waits.there ∙ sym (is_at w.here w.machine ws fact waits.its waits.there).deep) ∙ call_low
+
       -- what the function may do is what is known of it
-      of_callee : IsCallee whole w.called (known.of w.called)
+      pub of_callee : IsCallee whole w.called (known.of w.called)
       of_callee = knowledge.functions w.called called_low
 
       pub within_callee : IsWithin (may_of whole answers exact are w.called) (does (known.of w.called))

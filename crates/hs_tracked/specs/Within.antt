@@ -1,11 +1,11 @@
 -- A step of the machine inside a call keeps all tracked (own).
---     Goes             the call goes on, and all that it has is tracked
---     IsOrdinary       an operation that is no routine, no call and no return
---     within_tracked   the step
+--     IsOrdinary                  an operation that is no routine, no call and no return
+--     GoesTracked whole known ..  the call goes on, and all that it has is tracked
+--     within_tracked              the step
 -- What lasted still does, if the block could not move after the step and got no new cells by it.
 use Rattle.std.proofs.Common.{◌≡◌, ◌<◌, ◌⊎◌, inl, inr, ℕ, zero, suc, pos, ◌-◌, ◌==◌, Bool, true, false, ◌&&◌, List, [], ◌∷◌, ◌++◌, length, map, Option, Some, None, refl, sym, ap, ◌∙◌, subst, arith, slice_get, ◌||◌, if◌then◌else◌}
 use Rattle.std.specs.List.{AllByRecursion}
-use Rattle.hs_calls.specs.Calls.{Here, Wait, moved, point_of, steady_in, waiting_of}
+use Rattle.hs_calls.specs.Calls.{Here, Wait, lasts_to as lasts_from, moved, point_of, steady_in, waiting_of}
 use Rattle.hs_calls.specs.Changing.{since}
 use Rattle.hs_calls.specs.Stacks.{RanTo}
 use Rattle.hs_chains.specs.Knowledge.{Knowledge}
@@ -79,6 +79,24 @@ use Rattle.hs_truth.specs.Owing.{steady_since}
 use Rattle.hs_truth.specs.Places.{at_place, under_top}
 use Rattle.hs_types.specs.declared.integer.Integer.{Integer}
 
+-- an operation that is no routine, no call and no return
+abbrev pub IsOrdinary : Op → Type 0
+IsOrdinary (op.Routine place) = ⊥
+IsOrdinary (op.Call fn) = ⊥
+IsOrdinary op.Return = ⊥
+IsOrdinary _ = Unit {0}
+
+-- the value of that place is there, as the kinds of the stack say
+abbrev pub IsBrought : Here → ℕ → Type 0
+IsBrought here place = (k : ℕ) × (place ≡ suc k) × (it : Value × List Value) × (picked k here.stack ≡ Some it)
+
+-- The call goes on from that machine, and all that it has is tracked.
+abbrev pub GoesTracked : WholeCode → Knowledge → Here → Machine → List Wait → Point → State → Type 0
+GoesTracked whole known here before ws next t =
+    (at : ℕ) × (stack : List Value) × (later : List Bool) × (next ≡ point_of (moved here at stack (lasts_from here before t.machine)) ws later)
+    × AreTracked whole known (moved here at stack (lasts_from here before t.machine)) t.machine ws
+    × AreBytesTracked whole known (moved here at stack (lasts_from here before t.machine)) t.machine ws
+
 module _ (whole : WholeCode) (known : Knowledge) (E : Outcome → State → Type 0) (ends : (outcome : Outcome) (s : State) → E outcome s)
     (here : Here) (ws : List Wait) (choices : List Bool) (its : Placed) (s : State) (deep : its.places ≡ length here.stack)
     (is_at : IsAt whole known here its) (right : AreRight whole known here s.machine) (are : AreTracked whole known here s.machine ws)
@@ -92,15 +110,12 @@ module _ (whole : WholeCode) (known : Knowledge) (E : Outcome → State → Type
   kinds = scope_at whole here.fn
 
   -- what lasts after a step to that machine
-  abbrev pub lasts_to : Machine → ℕ → Bool
-  lasts_to after = λ k. here.lasting k && steady_in s.machine after k
+  abbrev lasts_to : Machine → ℕ → Bool
+  lasts_to after = lasts_from here s.machine after
 
   -- The call goes on, and all that it has is tracked.
-  abbrev pub Goes : Point → State → Type 0
-  Goes next t =
-      (at : ℕ) × (stack : List Value) × (later : List Bool) × (next ≡ point_of (moved here at stack (lasts_to t.machine)) ws later)
-      × AreTracked whole known (moved here at stack (lasts_to t.machine)) t.machine ws
-      × AreBytesTracked whole known (moved here at stack (lasts_to t.machine)) t.machine ws
+  abbrev Goes : Point → State → Type 0
+  Goes = GoesTracked whole known here s.machine ws
 
   -- the point, with that stack
   abbrev pub point_on : List Value → Point
@@ -633,11 +648,7 @@ module _ (whole : WholeCode) (known : Knowledge) (E : Outcome → State → Type
 
   -- ---- a value that is brought to the top
 
-  -- the value of that place is there, as the kinds of the stack say
-  abbrev pub IsBrought : ℕ → Type 0
-  IsBrought place = (k : ℕ) × (place ≡ suc k) × (it : Value × List Value) × (picked k here.stack ≡ Some it)
-
-  bring_goes : (place : ℕ) → its.op ≡ op.Bring place → IsBrought place → (stack : List Value) → here.stack ≡ stack → StepOn (op.Bring place) stack
+  bring_goes : (place : ℕ) → its.op ≡ op.Bring place → IsBrought here place → (stack : List Value) → here.stack ≡ stack → StepOn (op.Bring place) stack
   bring_goes place is it stack so = (
     suc here.at,
     brought place stack,
@@ -653,14 +664,7 @@ module _ (whole : WholeCode) (known : Knowledge) (E : Outcome → State → Type
 
   -- ---- all of them
 
-  -- an operation that is no routine, no call and no return
-  abbrev pub IsOrdinary : Op → Type 0
-  IsOrdinary (op.Routine place) = ⊥
-  IsOrdinary (op.Call fn) = ⊥
-  IsOrdinary op.Return = ⊥
-  IsOrdinary _ = Unit {0}
-
-  on_stack_so : (a_slot : (x : Variable) → its.op ≡ op.Set x → IsSlot s.machine x) (brings : (place : ℕ) → its.op ≡ op.Bring place → IsBrought place) (o : Op)
+  on_stack_so : (a_slot : (x : Variable) → its.op ≡ op.Set x → IsSlot s.machine x) (brings : (place : ℕ) → its.op ≡ op.Bring place → IsBrought here place) (o : Op)
       → its.op ≡ o → IsOrdinary o → (stack : List Value) → here.stack ≡ stack → StepOn o stack
   on_stack_so a_slot brings (op.Num bits) is plain stack so =
       push_goes (op.Num bits) is tt tt stack (takes_none (op.Num bits) refl stack so) refl (number bits) tt stack
@@ -695,6 +699,6 @@ module _ (whole : WholeCode) (known : Knowledge) (E : Outcome → State → Type
   on_stack_so a_slot brings (op.Bring place) is plain stack so = bring_goes place is (brings place is) stack so
 
   -- The step of such an operation, as the machine does it.
-  pub within_tracked : ((x : Variable) → its.op ≡ op.Set x → IsSlot s.machine x) → ((place : ℕ) → its.op ≡ op.Bring place → IsBrought place) → (o : Op)
+  pub within_tracked : ((x : Variable) → its.op ≡ op.Set x → IsSlot s.machine x) → ((place : ℕ) → its.op ≡ op.Bring place → IsBrought here place) → (o : Op)
       → its.op ≡ o → IsOrdinary o → RanTo E Goes (by_stack program its.at (point_of here ws choices) o here.stack s)
   within_tracked a_slot brings o is plain = on_stack_so a_slot brings o is plain here.stack refl
