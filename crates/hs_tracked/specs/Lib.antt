@@ -8,6 +8,7 @@ pub mod Cells
 pub mod Copies
 pub mod Entering
 pub mod Going
+pub mod Kinds
 pub mod Leaving
 pub mod ListedCalls
 pub mod Listing
@@ -28,5 +29,6 @@ pub mod Standing
 pub mod Starting
 pub mod Stepping
 pub mod Storing
+pub mod Tagging
 pub mod Tracking
 pub mod Within
