@@ -104,7 +104,8 @@ class_there program f function place it found there no_slot points =
 -- ---- variables as a call begins
 
 -- a variable that is there is a slot without a value, or an object
-pub binding_there : (types : TypeTable) (k : ℕ) (variables : List VariableDecl) (place : ℕ) (it : VariableDecl) → slice_get variables place ≡ Some it → (z : Bool)
+pub binding_there : (types : TypeTable) (k : ℕ) (variables : List VariableDecl) (place : ℕ) (it : VariableDecl) → slice_get variables place ≡ Some it
+    → (z : Bool)
     → is_slot types it ≡ z
     → ((z ≡ true) × (slice_get (bindings types k variables) place ≡ Some (slot None)))
     ⊎ ((z ≡ false) × (o : ℕ) × (slice_get (bindings types k variables) place ≡ Some (object_at o)))

@@ -2,21 +2,19 @@
 --     IsOfKinds here machine ws     kinds are right over code with tags
 --     fit_kinds                     so the variables fit the function of the call
 --     within_kinds, entered_kinds, returned_kinds, main_kinds      a step keeps it, and a run begins so
-use Rattle.std.proofs.Common.{◌≡◌, ◌≤◌, ◌+◌, ◌++◌, ℕ, zero, suc, ◌==◌, Bool, true, false, ◌||◌, List, [], ◌∷◌, length, map, slice_get, Option, Some, None, refl, sym, ap, ◌∙◌, subst, true≢false, arith}
+use Rattle.std.proofs.Common.{◌≡◌, ◌≤◌, ◌+◌, ◌++◌, ℕ, suc, ◌==◌, Bool, true, false, List, [], ◌∷◌, length, map, slice_get, Option, Some, None, sym, ap, ◌∙◌, subst, true≢false, arith}
 use Rattle.std.proofs.lemmas.Option.{same_Some}
 use Rattle.hs_base.specs.declared.pos.Pos.{Pos}
-use Rattle.hs_calls.specs.Calls.{Here, IsWait, Wait, beginning, lasts_to, moved, point_of, resumed, waiting_of}
+use Rattle.hs_calls.specs.Calls.{Here, IsWait, Wait, beginning, moved, point_of, resumed}
 use Rattle.hs_calls.specs.Stacks.{RanTo, is_inside}
 use Rattle.hs_code.specs.Codes.{IsCode}
 use Rattle.hs_code.specs.declared.function_code.FunctionCode.{FunctionCode}
 use Rattle.hs_code.specs.declared.function_code.Placed.{Placed}
-use Rattle.hs_code.specs.declared.op.Object.{Object}
-use Rattle.hs_code.specs.declared.op.Object.TheVariants as object
-use Rattle.hs_code.specs.declared.op.Op.{Op}
 use Rattle.hs_code.specs.declared.op.Op.TheVariants as op
-use Rattle.hs_code_run.specs.Codes.{CodeFunction, CodeProgram, Point, code_program, function_with}
-use Rattle.hs_code_run.specs.Runs.{begun, starting_point}
-use Rattle.hs_code_run.specs.Steps.{address_at, arguments_of, below, brought, by_operation, by_stack, case_for, function_called, holds, later_choices, next_choice, onto, onto_if, onward, operates_if, operation_of, routine_arguments, routine_called, stepped_at, taken}
+use Rattle.hs_code.specs.declared.op.Op.{Op}
+use Rattle.hs_code_run.specs.Codes.{CodeFunction, CodeProgram, Point, code_program}
+use Rattle.hs_code_run.specs.Runs.{starting_point}
+use Rattle.hs_code_run.specs.Steps.{address_at, below, brought, by_operation, by_stack, case_for, function_called, holds, later_choices, next_choice, onto, onto_if, onward, operates_if, operation_of, routine_arguments, routine_called, stepped_at, taken}
 use Rattle.hs_facts.specs.Effects.{WholeCode}
 use Rattle.hs_flow.specs.Programs.{scope_at, variables_in}
 use Rattle.hs_heap.specs.declared.decision.Decision.{Decision}
@@ -31,7 +29,7 @@ use Rattle.hs_meaning.specs.Machine.{Done, Machine, done, stopped}
 use Rattle.hs_meaning.specs.Operations as operation
 use Rattle.hs_meaning.specs.Operations.{Operation}
 use Rattle.hs_meaning.specs.Runs.{starting}
-use Rattle.hs_meaning.specs.Steps.{Ran, State, Step, acts, give, over, perform, ran_at, then_with, turn, used, went}
+use Rattle.hs_meaning.specs.Steps.{Ran, State, acts, give, over, perform, ran_at, then_with, turn, used, went}
 use Rattle.hs_meaning.specs.Values.{Value}
 use Rattle.hs_meaning.specs.declared.input.Input.{Input}
 use Rattle.hs_meaning.specs.declared.outcome.Outcome.{Outcome}

@@ -23,6 +23,7 @@ pub mod Restoring
 pub mod Returning
 pub mod Right
 pub mod Routines
+pub mod Runs
 pub mod Setting
 pub mod Shifting
 pub mod Standing

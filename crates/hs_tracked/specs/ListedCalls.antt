@@ -1,11 +1,10 @@
 -- The begin of a call keeps each pointer in memory of a class of the program (own).
 --     access_there       a parameter that is an object and has a pointer is reached through a class of the program
 --     begun_listed       the machine with which the call begins
-use Rattle.std.proofs.Common.{◌≡◌, ◌≤◌, ◌<◌, ◌⊎◌, inl, inr, ℕ, zero, suc, pos, ◌+◌, Bool, true, false, List, [], ◌∷◌, length, take, slice_get, slice_set, Option, Some, None, refl, sym, ap, ◌∙◌, subst, arith}
+use Rattle.std.proofs.Common.{◌≡◌, ◌≤◌, ◌<◌, ◌⊎◌, inl, inr, ℕ, suc, pos, ◌+◌, Bool, true, false, List, [], ◌∷◌, length, take, slice_get, Option, Some, None, refl, sym, ◌∙◌, subst, arith}
 use Rattle.std.specs.List.{AllByRecursion}
 use Rattle.hs_base.specs.Entries.{all_appended, set_other}
 use Rattle.hs_facts.specs.Effects.{WholeCode}
-use Rattle.hs_heap.specs.declared.cell.Cell.{Cell}
 use Rattle.hs_heap.specs.declared.cell.Pointer.TheVariants.{Fixed}
 use Rattle.hs_hiding.specs.Holding.{OnDone, value_of}
 use Rattle.hs_hiding.specs.Lists.{and_so, unless_so}
@@ -13,7 +12,7 @@ use Rattle.hs_lowering.specs.Laws.Listing.{placed_in}
 use Rattle.hs_meaning.specs.Accesses.{put_in_object, stored, use_stops, with_cells_at}
 use Rattle.hs_meaning.specs.Classes.{class_of_type, classes_of, same_class}
 use Rattle.hs_meaning.specs.Frames.{given_all, given_to, has_frame, in_frame, opened, opened_if}
-use Rattle.hs_meaning.specs.Machine.{Binding, Done, Machine, Object, done, object_at, slot}
+use Rattle.hs_meaning.specs.Machine.{Binding, Machine, Object, done, object_at, slot}
 use Rattle.hs_meaning.specs.Objects.{bindings, objects_for}
 use Rattle.hs_meaning.specs.Settings.{Setting, access_by, access_of_type, class_number, setting_of}
 use Rattle.hs_meaning.specs.Values.{Access, Value, cells_for, length_of, store_stop}
@@ -25,8 +24,8 @@ use Rattle.hs_tracked.specs.Starting.{IsAccessListed}
 use Rattle.hs_tree.specs.Classes.{is_slot}
 use Rattle.hs_tree.specs.Kinds.{is_pointer, number_kind}
 use Rattle.hs_tree.specs.Trees.{TypedFunction}
-use Rattle.hs_tree.specs.declared.head.Variable.{Variable}
 use Rattle.hs_tree.specs.declared.head.Variable.TheVariants as name
+use Rattle.hs_tree.specs.declared.head.Variable.{Variable}
 use Rattle.hs_tree.specs.declared.head.VariableDecl.{VariableDecl}
 use Rattle.hs_types.specs.declared.integer.Integer.{Integer}
 

@@ -4,9 +4,9 @@
 --     right                       what the rules of the flow ask of must facts is so
 --     call_low                    at a call, as many values are below the arguments as the analysis knows
 --     is_return                   a return, seen from the call that waits for it
-use Rattle.std.proofs.Common.{◌≡◌, ◌<◌, ◌-◌, ℕ, Bool, true, false, List, [], ◌∷◌, length, map, slice_get, Option, Some, None, refl, sym, ap, ◌∙◌, subst, arith, true≢false}
+use Rattle.std.proofs.Common.{◌≡◌, ◌<◌, ◌-◌, ℕ, false, List, [], ◌∷◌, length, slice_get, Some, refl, sym, ap, ◌∙◌, subst, arith}
 use Rattle.std.proofs.lemmas.Option.{same_Some}
-use Rattle.hs_calls.specs.Calls.{Here, Wait, IsWait, fixed_in}
+use Rattle.hs_calls.specs.Calls.{Here, Wait, IsWait}
 use Rattle.hs_chains.specs.Knowledge.{IsCallee, IsKnowledge, Knowledge, places_of}
 use Rattle.hs_code.specs.Codes as codes
 use Rattle.hs_code.specs.Codes.{IsCode}
@@ -14,7 +14,7 @@ use Rattle.hs_code.specs.Stacks.{Signature}
 use Rattle.hs_code.specs.declared.function_code.FunctionCode.{FunctionCode}
 use Rattle.hs_code.specs.declared.function_code.Placed.{Placed}
 use Rattle.hs_code.specs.declared.op.Op.TheVariants as op
-use Rattle.hs_code_run.specs.Codes.{CodeFunction, CodeProgram, scope_of}
+use Rattle.hs_code_run.specs.Codes.{CodeFunction, scope_of}
 use Rattle.hs_code_run.specs.Steps.{below}
 use Rattle.hs_effects.specs.Answers.{Answers, IsExact}
 use Rattle.hs_facts.specs.Effects as effect
@@ -22,7 +22,7 @@ use Rattle.hs_facts.specs.Effects.{Effect, HasEffect, HoldsAt, WholeCode, impact
 use Rattle.hs_facts.specs.MustFacts.{MustFact}
 use Rattle.hs_facts.specs.Names.{parameter_count, taken as taken_by}
 use Rattle.hs_facts.specs.Rounds.{HoldsIn}
-use Rattle.hs_flow.specs.Calls.{Callee, base_of}
+use Rattle.hs_flow.specs.Calls.{base_of}
 use Rattle.hs_flow.specs.Laws.Parameters.{parameters_taken}
 use Rattle.hs_flow.specs.Programs.{parameters_of, scope_at}
 use Rattle.hs_kinds.specs.Points.{IsTypedCode}

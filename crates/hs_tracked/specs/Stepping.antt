@@ -5,7 +5,7 @@
 --     entered_followed     the begin of a call
 --     returned_followed    a return to the call that waits
 -- What is known of each call of a run (`IsKnown`) is a premise here, and so are the kinds of the variables of its function.
-use Rattle.std.proofs.Common.{◌≡◌, ℕ, suc, Bool, true, false, List, [], ◌∷◌, length, slice_get, Option, Some, None, refl, sym, ap, ◌∙◌, subst, ◌⊎◌, inl, inr, true≢false}
+use Rattle.std.proofs.Common.{◌≡◌, ℕ, suc, Bool, true, false, List, [], ◌∷◌, length, slice_get, Option, Some, None, refl, sym, ap, ◌∙◌, subst, inl, inr, true≢false}
 use Rattle.std.specs.List.{AllByRecursion}
 use Rattle.hs_base.specs.declared.pos.Pos.{Pos}
 use Rattle.hs_calls.specs.Calls.{Here, IsWait, Wait, beginning, lasts_to, moved, point_of, resumed}
@@ -21,10 +21,9 @@ use Rattle.hs_code_run.specs.Codes.{CodeFunction, Point, function_with}
 use Rattle.hs_code_run.specs.Steps.{arguments_of, below, by_stack, holds, onward, operates_if, routine_called, taken, access_of, routine_arguments}
 use Rattle.hs_effects.specs.Answers.{Answers, IsExact}
 use Rattle.hs_facts.specs.Effects.{WholeCode, impact_of}
-use Rattle.hs_facts.specs.Names.{taken as taken_by, makes_handle}
+use Rattle.hs_facts.specs.Names.{makes_handle}
 use Rattle.hs_flow.specs.Calls.{base_of}
 use Rattle.hs_flow.specs.Programs.{scope_at, parameters_of}
-use Rattle.hs_heap.specs.declared.cell.Pointer.TheVariants.{Nil, Fixed, Handle, Spot}
 use Rattle.hs_hiding.specs.Holding.{OnDone, value_of}
 use Rattle.hs_meaning.specs.Classes.{classes_of}
 use Rattle.hs_meaning.specs.Frames.{closed, opened}
@@ -40,7 +39,7 @@ use Rattle.hs_tracked.specs.Bytes.{AreBytesTracked, bytes_begun}
 use Rattle.hs_tracked.specs.Going.{IsAt}
 use Rattle.hs_tracked.specs.ListedCalls.{begun_listed}
 use Rattle.hs_tracked.specs.Listing.{ArePointListed, IsOpListed, in_call, in_machine, ordinary_listed, returned_listed, AreListedIn}
-use Rattle.hs_tracked.specs.Making.{HasNoFacts, IsFresh, IsGiven, Gets}
+use Rattle.hs_tracked.specs.Making.{HasNoFacts, IsGiven, Gets}
 use Rattle.hs_tracked.specs.Reading.{bytes_over}
 use Rattle.hs_tracked.specs.Restorable.{AreListed, FitKinds, IsListed, IsValueListed}
 use Rattle.hs_tracked.specs.Returning.{returned, since_after, values as values_left, IsReturn}
@@ -54,7 +53,7 @@ use Rattle.hs_tree.specs.Fitting.{Fits}
 use Rattle.hs_tree.specs.declared.function.BoundRoutine.{BoundRoutine}
 use Rattle.hs_tree.specs.declared.function.Prototype.{Prototype}
 use Rattle.hs_tree.specs.declared.head.Variable.{Variable}
-use Rattle.hs_true.specs.Exact.{FoundIn, code_of, exact_told, found_of, may_of, program, restore_told, sets_of}
+use Rattle.hs_true.specs.Exact.{FoundIn, code_of, exact_told, may_of, program, restore_told, sets_of}
 use Rattle.hs_true.specs.Facts.{is_brought, on_machine, slot_of}
 use Rattle.hs_truth.specs.Places.{all_below, all_taken}
 
@@ -134,7 +133,8 @@ module _ (whole : WholeCode) (known : Knowledge) (knowledge : IsKnowledge whole 
       },
     )
 
-    ordinary_followed : IsOrdinary its.op → RanTo AnyEnd GoesOn (by_stack (program whole answers exact are) its.at (point_of here ws choices) its.op here.stack s)
+    ordinary_followed : IsOrdinary its.op
+        → RanTo AnyEnd GoesOn (by_stack (program whole answers exact are) its.at (point_of here ws choices) its.op here.stack s)
     ordinary_followed plain =
         both (by_stack (program whole answers exact are) its.at (point_of here ws choices) its.op here.stack s)
         (within_tracked whole known AnyEnd (λ outcome t. tt) here ws choices its s places_noted at_here right_here now.tracked now.bytes

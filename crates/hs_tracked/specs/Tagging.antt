@@ -6,18 +6,17 @@
 --     same_number                         functions with the same code have the same number
 -- Two functions of a program may have one code, and what is known of the kinds of values names a function by its code alone. Over code with tags it is the
 -- function of the call.
-use Rattle.std.proofs.Common.{◌≡◌, ◌≤◌, ◌<◌, ◌⊎◌, inl, inr, ℕ, zero, suc, ◌+◌, List, [], ◌∷◌, ◌++◌, length, slice_get, Option, Some, None, refl, sym, ap, ◌∙◌, subst, arith}
+use Rattle.std.proofs.Common.{◌≡◌, ◌≤◌, ◌<◌, ◌⊎◌, inl, inr, ℕ, zero, suc, ◌+◌, List, [], ◌∷◌, ◌++◌, length, slice_get, Some, sym, ap, ◌∙◌, subst, arith}
 use Rattle.std.proofs.lemmas.Option.{none-some, same_Some}
 use Rattle.hs_base.specs.Entries.{entry_stays, last_either}
 use Rattle.hs_code.specs.Codes.{AreCodesOf, IsCodeOf, IsInRange, scope_of}
 use Rattle.hs_code.specs.Following.{IsNextOf}
 use Rattle.hs_code.specs.Stacks.{HasOperands, IsStacked, Kind, Reaches, Scope, begins, goes, kinds_after_at}
-use Rattle.hs_code.specs.declared.function_code.Case.{Case}
 use Rattle.hs_code.specs.declared.function_code.FunctionCode.{FunctionCode}
 use Rattle.hs_code.specs.declared.function_code.Placed.{Placed}
 use Rattle.hs_code.specs.declared.op.Object.TheVariants as object
-use Rattle.hs_code.specs.declared.op.Op.{Op}
 use Rattle.hs_code.specs.declared.op.Op.TheVariants as op
+use Rattle.hs_code.specs.declared.op.Op.{Op}
 use Rattle.hs_code_run.specs.Codes.{CodeFunction, function_with, functions_with}
 use Rattle.hs_tree.specs.Trees.{TypedFunction, TypedProgram}
 use Rattle.hs_tree.specs.declared.class.Class.{Class}

@@ -664,7 +664,8 @@ module _ (whole : WholeCode) (known : Knowledge) (E : Outcome → State → Type
 
   -- ---- all of them
 
-  on_stack_so : (a_slot : (x : Variable) → its.op ≡ op.Set x → IsSlot s.machine x) (brings : (place : ℕ) → its.op ≡ op.Bring place → IsBrought here place) (o : Op)
+  on_stack_so : (a_slot : (x : Variable) → its.op ≡ op.Set x → IsSlot s.machine x)
+      (brings : (place : ℕ) → its.op ≡ op.Bring place → IsBrought here place) (o : Op)
       → its.op ≡ o → IsOrdinary o → (stack : List Value) → here.stack ≡ stack → StepOn o stack
   on_stack_so a_slot brings (op.Num bits) is plain stack so =
       push_goes (op.Num bits) is tt tt stack (takes_none (op.Num bits) refl stack so) refl (number bits) tt stack
