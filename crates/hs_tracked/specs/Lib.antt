@@ -14,6 +14,7 @@ pub mod ListedCalls
 pub mod Listing
 pub mod Loading
 pub mod Making
+pub mod Misuses
 pub mod Moving
 pub mod Over
 pub mod Passing
@@ -32,4 +33,5 @@ pub mod Stepping
 pub mod Storing
 pub mod Tagging
 pub mod Tracking
+pub mod Using
 pub mod Within

@@ -41,7 +41,6 @@ use Rattle.hs_tracked.specs.Tracking.{AreTracked}
 use Rattle.hs_tree.specs.Fitting.{Fits}
 use Rattle.hs_true.specs.Exact.{exact_told, may_of, program, sets_of}
 use Rattle.hs_true.specs.Facts as facts
-use Rattle.hs_true.specs.Facts.{Fact}
 use Rattle.hs_truth.specs.Good.{Good}
 use Rattle.hs_truth.specs.Starting.{begun_good}
 

@@ -18,7 +18,7 @@ use Rattle.hs_code_run.specs.Codes.{CodeFunction, scope_of}
 use Rattle.hs_code_run.specs.Steps.{below}
 use Rattle.hs_effects.specs.Answers.{Answers, IsExact}
 use Rattle.hs_facts.specs.Effects as effect
-use Rattle.hs_facts.specs.Effects.{Effect, HasEffect, HoldsAt, WholeCode, impact_of}
+use Rattle.hs_facts.specs.Effects.{HoldsAt, WholeCode, impact_of}
 use Rattle.hs_facts.specs.MustFacts.{MustFact}
 use Rattle.hs_facts.specs.Names.{parameter_count, taken as taken_by}
 use Rattle.hs_facts.specs.Rounds.{HoldsIn}
