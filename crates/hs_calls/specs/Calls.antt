@@ -4,7 +4,7 @@
 --     waiting_of, point_of          what of them a point of the run has
 --     beginning, resumed            a call that begins, and one to which a function has returned
 --     IsWait program w              it waits at a call of that function
---     is_steady, steady_in          what a step may leave of a block that could not move ever since the call began
+--     steady_in, lasts_to           what a step may leave of a block that could not move ever since the call began
 use Rattle.std.specs.Prelude.{◌≡◌, ℕ, suc, Bool, false, not, ◌&&◌, ◌||◌, List, [], ◌∷◌, map, slice_get, Option, Some, None}
 use Rattle.hs_code.specs.declared.function_code.Placed.{Placed}
 use Rattle.hs_code.specs.declared.op.Op.TheVariants as op
@@ -78,6 +78,10 @@ present_in machine n = is_present_if (block_at machine.blocks n)
 -- It cannot move after a step, and has got no new cells by it: so a block that lasts and is present was present when the call began.
 abbrev pub steady_in : Machine → Machine → ℕ → Bool
 steady_in before after n = fixed_in after n && (present_in before n || not (present_in after n))
+
+-- the blocks that could not move ever since the call began, after a step from that machine to another one
+abbrev pub lasts_to : Here → Machine → Machine → ℕ → Bool
+lasts_to here before after = λ n. here.lasting n && steady_in before after n
 
 -- ---- how calls go on
 

@@ -66,8 +66,8 @@ module _ (program : CodeProgram) (may : ℕ → May) where
 
   -- of a call that goes on
   stays_so : (here : Here) (ws : List Wait) (choices : List Bool) (s : State) (next : Point) (t : State) → HoldsOf here s.machine ws
-      → InCall here ws next → Since (may here.fn) s.machine.blocks t.machine.blocks → Stays program HoldsOf AnyEnd here ws next t
-  stays_so here ws choices s next t holds is blocks = (is.0, is.1, here.lasting, is.2, is.3, (holds.0, later ws holds.1))
+      → InCall here ws next → Since (may here.fn) s.machine.blocks t.machine.blocks → Stays program HoldsOf AnyEnd here s.machine ws next t
+  stays_so here ws choices s next t holds is blocks = (is.0, is.1, is.2, is.3, (holds.0, later ws holds.1))
     where
       later : (ws : List Wait) → SinceCall here s.machine ws → SinceCall here t.machine ws
       later [] so = tt
@@ -119,7 +119,7 @@ module _ (program : CodeProgram) (may : ℕ → May) where
           within = λ here ws choices its s there inside stack.
               let holds : HoldsOf here s.machine ws = first_of here s.machine ws stack in
               ran_so AnyEnd (λ next t. InCall here ws next × Since (may here.fn) s.machine.blocks t.machine.blocks)
-              (Stays program HoldsOf AnyEnd here ws) (by_stack program its.at (point_of here ws choices) its.op here.stack s)
+              (Stays program HoldsOf AnyEnd here s.machine ws) (by_stack program its.at (point_of here ws choices) its.op here.stack s)
               (λ next t is. stays_so here ws choices s next t holds is.0 is.1)
               (ran_both AnyEnd (λ next t. InCall here ws next) (λ next t. Since (may here.fn) s.machine.blocks t.machine.blocks)
               (by_stack program its.at (point_of here ws choices) its.op here.stack s)

@@ -6,7 +6,7 @@
 -- `P here machine ws` speaks of one call: of its point, of the machine, and of the calls that wait below it. No step touches a call that waits, but for
 -- a return; so what held of it when it called is all that the rule carries.
 use Rattle.std.proofs.Common.{◌≡◌, ◌⊎◌, inl, inr, ℕ, zero, suc, Bool, true, false, List, [], ◌∷◌, slice_get, Option, Some, None, refl, sym, subst}
-use Rattle.hs_calls.specs.Calls.{Here, Wait, IsWait, point_of, moved, beginning, resumed}
+use Rattle.hs_calls.specs.Calls.{Here, Wait, IsWait, point_of, moved, lasts_to, beginning, resumed}
 use Rattle.hs_code.specs.declared.function_code.Placed.{Placed}
 use Rattle.hs_code.specs.declared.op.Op.{Op}
 use Rattle.hs_code.specs.declared.op.Op.TheVariants as op
@@ -46,18 +46,18 @@ module _ (program : CodeProgram) (P : Here → Machine → List Wait → Type 0)
   Stack here machine [] = P here machine []
   Stack here machine (w ∷ ws) = P here machine (w ∷ ws) × IsWait program w × Stack w.here w.machine ws
 
-  -- the call goes on
-  abbrev pub Stays : Here → List Wait → Point → State → Type 0
-  Stays here ws next t =
-      (at : ℕ) × (stack : List Value) × (lasting : ℕ → Bool) × (choices : List Bool) × (next ≡ point_of (moved here at stack lasting) ws choices)
-      × P (moved here at stack lasting) t.machine ws
+  -- the call goes on from that machine
+  abbrev pub Stays : Here → Machine → List Wait → Point → State → Type 0
+  Stays here before ws next t =
+      (at : ℕ) × (stack : List Value) × (choices : List Bool) × (next ≡ point_of (moved here at stack (lasts_to here before t.machine)) ws choices)
+      × P (moved here at stack (lasts_to here before t.machine)) t.machine ws
 
   -- what P owes
   pub record Rules : Type 0 where
     -- an operation of the function
     pub within : (here : Here) (ws : List Wait) (choices : List Bool) (its : Placed) (s : State) → slice_get here.function.code.ops here.at ≡ Some its
         → is_inside its.op ≡ true → Stack here s.machine ws
-        → RanTo E (Stays here ws) (by_stack program its.at (point_of here ws choices) its.op here.stack s)
+        → RanTo E (Stays here s.machine ws) (by_stack program its.at (point_of here ws choices) its.op here.stack s)
     -- the begin of a call
     pub entered : (here : Here) (ws : List Wait) (its : Placed) (fn : ℕ) (function : CodeFunction) (s : State)
         → IsWait program (record { here = here; machine = s.machine; called = fn; callee = function }) → Stack here s.machine ws
@@ -81,9 +81,15 @@ module _ (program : CodeProgram) (P : Here → Machine → List Wait → Type 0)
   restack here new machine after [] stack is = is
   restack here new machine after (w ∷ ws) stack is = (is, stack.1, stack.2)
 
-  stays_goes : (here : Here) (ws : List Wait) (machine : Machine) (r : Ran Point) → Stack here machine ws → RanTo E (Stays here ws) r → RanTo E Goes r
-  stays_goes here ws machine (went next t) stack is =
-      (moved here is.0 is.1 is.2, ws, is.3, is.4, restack here (moved here is.0 is.1 is.2) machine t.machine ws stack is.5)
+  stays_goes : (here : Here) (ws : List Wait) (machine : Machine) (r : Ran Point) → Stack here machine ws → RanTo E (Stays here machine ws) r
+      → RanTo E Goes r
+  stays_goes here ws machine (went next t) stack is = (
+    moved here is.0 is.1 (lasts_to here machine t.machine),
+    ws,
+    is.2,
+    is.3,
+    restack here (moved here is.0 is.1 (lasts_to here machine t.machine)) machine t.machine ws stack is.4,
+  )
   stays_goes here ws machine (over outcome t) stack is = is
 
   outside : (its : Op) → is_inside its ≡ false → ((fn : ℕ) × (its ≡ op.Call fn)) ⊎ (its ≡ op.Return)

@@ -77,7 +77,7 @@ module _ (program : CodeProgram) (may : ℕ → May) (sets : ℕ → ℕ → Boo
 
   -- the call goes on
   abbrev GoesOn : Point → State → Type 0
-  GoesOn = Stays program (Good program may sets impact) E here ws
+  GoesOn = Stays program (Good program may sets impact) E here s.machine ws
 
   module _ (p : ℕ) (is : its.op ≡ op.Routine p) (it : BoundRoutine) (found : slice_get program.setting.routines p ≡ Some it) (prototype : Prototype)
       (proto : it.prototype ≡ Some prototype) (held : holds (length prototype.parameters) here.stack ≡ true) where

@@ -104,7 +104,8 @@ class_there program f function place it found there no_slot points =
 -- ---- variables as a call begins
 
 -- a variable that is there is a slot without a value, or an object
-binding_there : (types : TypeTable) (k : ℕ) (variables : List VariableDecl) (place : ℕ) (it : VariableDecl) → slice_get variables place ≡ Some it → (z : Bool)
+pub binding_there : (types : TypeTable) (k : ℕ) (variables : List VariableDecl) (place : ℕ) (it : VariableDecl) → slice_get variables place ≡ Some it
+    → (z : Bool)
     → is_slot types it ≡ z
     → ((z ≡ true) × (slice_get (bindings types k variables) place ≡ Some (slot None)))
     ⊎ ((z ≡ false) × (o : ℕ) × (slice_get (bindings types k variables) place ≡ Some (object_at o)))
@@ -139,7 +140,8 @@ binding_there types k (one ∷ rest) (suc place) it there z is =
         ⊎ ((z ≡ false) × (o : ℕ) × (slice_get (if first then slot None ∷ bindings types k rest else object_at k ∷ bindings types (suc k) rest) (suc place)
         ≡ Some (object_at o)))) (sym so) objects
 
-taken_there : (n : ℕ) (variables : List VariableDecl) (place : ℕ) (it : VariableDecl) → slice_get (take n variables) place ≡ Some it
+-- a parameter is a variable
+pub taken_there : (n : ℕ) (variables : List VariableDecl) (place : ℕ) (it : VariableDecl) → slice_get (take n variables) place ≡ Some it
     → slice_get variables place ≡ Some it
 taken_there zero variables place it there = absurd (none-some it there)
 taken_there (suc n) [] place it there = there

@@ -1,6 +1,8 @@
 -- A Bring: the value of a place goes to the top, and each value above it one place down (own).
---     bring       the rows `bring_top`, `bring_down`, `bring_stays`
-use Rattle.std.proofs.Common.{◌≡◌, ◌<◌, ℕ, zero, suc, ◌-◌, Bool, true, List, [], ◌∷◌, length, Option, Some, None, refl, sym, ap, ◌∙◌, subst, arith}
+--     bring         the rows `bring_top`, `bring_down`, `bring_stays`
+--     bytes_bring   the same rows, for state bytes
+use Rattle.std.proofs.Common.{◌≡◌, ◌<◌, ℕ, zero, suc, ◌-◌, Bool, true, List, [], ◌∷◌, length, Option, Some, None, refl, sym, ap, ◌∙◌, subst, arith, ◌≤◌, ◌⊎◌, inl, inr, nat_lt, ◌==◌, false}
+use Rattle.std.proofs.lemmas.Bool.Decides.{nat_tests}
 use Rattle.hs_calls.specs.Calls.{Here, Wait, moved}
 use Rattle.hs_chains.specs.Knowledge.{Knowledge}
 use Rattle.hs_code.specs.Stacks.{Scope}
@@ -8,9 +10,12 @@ use Rattle.hs_code.specs.declared.function_code.Placed.{Placed}
 use Rattle.hs_code.specs.declared.op.Op.TheVariants as op
 use Rattle.hs_code_run.specs.Steps.{picked, under}
 use Rattle.hs_facts.specs.Effects.{WholeCode}
+use Rattle.hs_facts.specs.MustFacts.{MustFact, Saved, Keeper, on_stack, in_slot}
+use Rattle.hs_flow.specs.Among.{Among}
 use Rattle.hs_flow.specs.Given.{Given}
 use Rattle.hs_flow.specs.Laws.Coming as rows
 use Rattle.hs_flow.specs.Laws.Staying.{is_below_of}
+use Rattle.hs_flow.specs.Next.{at_slot, next_of}
 use Rattle.hs_flow.specs.Programs.{scope_at}
 use Rattle.hs_flow.specs.Slots.{is_below}
 use Rattle.hs_flow.specs.declared.fact.FactStatus.TheVariants as status
@@ -18,10 +23,14 @@ use Rattle.hs_flow.specs.declared.fact.Slot as flow_slot
 use Rattle.hs_flow.specs.declared.fact.Slot.TheVariants as slot
 use Rattle.hs_meaning.specs.Machine.{Machine}
 use Rattle.hs_meaning.specs.Values.{Value}
+use Rattle.hs_tracked.specs.Bytes.{AreBytesTracked, IsAccounted, bytes_go}
 use Rattle.hs_tracked.specs.Going.{IsAt, Leaves, leads, value_goes}
 use Rattle.hs_tracked.specs.Moving.{same_machine}
-use Rattle.hs_tracked.specs.Passing.{Passes, ClassesPass, PlacesPass, goes_on, pass_value, pass_places, pass_blocks, pass_objects}
+use Rattle.hs_tracked.specs.Passing.{Passes, ClassesPass, PlacesPass, goes_on, pass_value, pass_places, pass_blocks, pass_objects, Brings}
 use Rattle.hs_tracked.specs.Tracking.{TrackedPlaces, Tracked, AreTracked}
+use Rattle.hs_tree.specs.declared.head.Variable.{Variable}
+use Rattle.hs_true.specs.Picking.{Picks, picked_is, picks_above, picks_below, picks_length, picks_low, picks_value}
+use Rattle.hs_truth.specs.Places.{the_top, under_top}
 
 module _ (whole : WholeCode) (known : Knowledge) (here : Here) (machine : Machine) (ws : List Wait) (its : Placed) (is_at : IsAt whole known here its)
     (lasting : ℕ → Bool) (lasts : (n : ℕ) → here.lasting n ≡ true → lasting n ≡ true) (place : ℕ) (is : its.op ≡ op.Bring place) (stack : List Value) where
@@ -154,3 +163,161 @@ module _ (whole : WholeCode) (known : Knowledge) (here : Here) (machine : Machin
 
       places : TrackedPlaces whole known next machine ws (v ∷ others)
       places = (subst (λ i. Tracked whole known next machine ws (slot.Place i) v) top both.0, both.1)
+
+  -- ---- state bytes
+
+  module _ (deep : its.places ≡ length here.stack) (v : Value) (others : List Value) (picks : Picks (its.places - place) here.stack v others) where
+    -- the place of the value
+    abbrev low : ℕ
+    low = its.places - place
+
+    -- the call after it
+    abbrev later : Here
+    later = moved here (suc here.at) (v ∷ others) lasting
+
+    low_is : low ≤ length others
+    low_is = picks_low low here.stack v others picks
+
+    many : its.places ≡ suc (length others)
+    many = deep ∙ picks_length low here.stack v others picks
+
+    places_are : facts.places ≡ its.places
+    places_are = is_at.deep ∙ sym deep
+
+    -- a byte that is accounted for
+    abbrev Came : Keeper → Type 1
+    Came = IsAccounted whole known here machine ws its is_at deep lasting (op.Bring place) is (suc here.at) (v ∷ others) refl machine
+
+    -- the fact of the one slot gives that of the other
+    abbrev RuleOf : flow_slot.Slot → flow_slot.Slot → Type 0
+    RuleOf of to =
+        Among (next_of kinds (length whole.classes) facts (op.Bring place) (at_slot status.SavedPurgeable of)) (at_slot status.SavedPurgeable to)
+
+    carried : (of to : flow_slot.Slot) → RuleOf of to
+        → Brings whole known here later machine machine ws of to status.SavedPurgeable status.SavedPurgeable
+    carried of to rule =
+        leads whole known here machine ws its is_at (op.Bring place) is (suc here.at) (v ∷ others) lasting refl machine of to status.SavedPurgeable
+        status.SavedPurgeable rule
+
+    -- what Bring says of a byte on the stack
+    abbrev BringGives : (MustFact → Type 0) → Variable → ℕ → Type 0
+    BringGives R x i =
+        ((i < low) × R (Saved (on_stack i) x))
+        ⊎ ((i ≡ its.places - 1) × R (Saved (on_stack low) x))
+        ⊎ ((at : ℕ) × (low ≤ at) × (suc at < its.places) × ((i ≡ at) × R (Saved (on_stack (suc at)) x)))
+
+    at_low : (R : MustFact → Type 0) (x : Variable) (i : ℕ) → i < low → BringGives R x i → R (Saved (on_stack i) x)
+    at_low R x i less (inl old) = old.1
+    at_low R x i less (inr (inl new)) = absurd (omega (less, new.0, many, low_is, arith))
+    at_low R x i less (inr (inr new)) = absurd (omega (less, new.1, new.3.0, arith))
+
+    at_moved : (R : MustFact → Type 0) (x : Variable) (i : ℕ) → low ≤ i → i < length others → BringGives R x i → R (Saved (on_stack (suc i)) x)
+    at_moved R x i high less (inl old) = absurd (omega (high, old.0, arith))
+    at_moved R x i high less (inr (inl new)) = absurd (omega (less, new.0, many, arith))
+    at_moved R x i high less (inr (inr new)) = subst (λ n. R (Saved (on_stack (suc n)) x)) (sym new.3.0) new.3.1
+
+    at_top : (R : MustFact → Type 0) (x : Variable) (i : ℕ) → i ≡ length others → BringGives R x i → R (Saved (on_stack low) x)
+    at_top R x i top (inl old) = absurd (omega (top, old.0, low_is, arith))
+    at_top R x i top (inr (inl new)) = new.1
+    at_top R x i top (inr (inr new)) = absurd (omega (top, new.2, new.3.0, many, arith))
+
+    at_none : (R : MustFact → Type 0) (x : Variable) (i : ℕ) → length others < i → BringGives R x i → ⊥
+    at_none R x i high (inl old) = omega (high, old.0, low_is, arith)
+    at_none R x i high (inr (inl new)) = omega (high, new.0, many, arith)
+    at_none R x i high (inr (inr new)) = omega (high, new.2, new.3.0, many, arith)
+
+    -- where a place is
+    data InBring (i : ℕ) : Type 0 where
+      is_low : i < low → InBring i
+      is_moved : low ≤ i → i < length others → InBring i
+      is_top : i ≡ length others → InBring i
+      is_high : length others < i → InBring i
+
+    in_bring : (i : ℕ) → InBring i
+    in_bring i = by_low (nat_lt i low) refl
+      where
+        by_top : low ≤ i → (z : Bool) → nat_lt i (length others) ≡ z → (y : Bool) → (i == length others) ≡ y → InBring i
+        by_top high true less y so = is_moved high (grind (less, nat_tests, arith))
+        by_top high false less true so = is_top (grind (so, nat_tests, arith))
+        by_top high false less false so = is_high (grind (less, so, nat_tests, arith))
+
+        by_low : (z : Bool) → nat_lt i low ≡ z → InBring i
+        by_low true so = is_low (grind (so, nat_tests, arith))
+        by_low false so = by_top (grind (so, nat_tests, arith)) (nat_lt i (length others)) refl (i == length others) refl
+
+    on_bring : (i : ℕ) → InBring i → Came (on_stack i)
+    on_bring i (is_low less) =
+        inl (
+          on_stack i,
+          record {
+            gives = λ code R x given. at_low R x i less given;
+            held = λ byte held.
+                sym (under_top i v others (omega (less, low_is, arith)) ∙ picks_below low here.stack v others picks i less) ∙ held;
+            brings = carried (slot.Place i) (slot.Place i)
+                (rows.bring_stays kinds (length whole.classes) facts place status.SavedPurgeable (slot.Place i)
+                (is_below_of (facts.places - place) i (subst (λ n. i < n - place) (sym places_are) less)));
+          },
+        )
+    on_bring i (is_moved high less) =
+        inl (
+          on_stack (suc i),
+          record {
+            gives = λ code R x given. at_moved R x i high less given;
+            held = λ byte held. sym (under_top i v others less ∙ picks_above low here.stack v others picks i high less) ∙ held;
+            brings = carried (slot.Place (suc i)) (slot.Place i)
+                (subst (λ n. RuleOf (slot.Place (suc i)) (slot.Place n)) (one_down i)
+                (rows.bring_down kinds (length whole.classes) facts place (suc i) status.SavedPurgeable
+                (subst (λ n. n - place < suc i) (sym places_are) (omega (high, arith)))));
+          },
+        )
+      where
+        one_down : (n : ℕ) → suc n - 1 ≡ n
+        one_down n = omega arith
+    on_bring i (is_top top) =
+        inl (
+          on_stack low,
+          record {
+            gives = λ code R x given. at_top R x i top given;
+            held = λ byte held. picks_value low here.stack v others picks ∙ sym (the_top i v others top) ∙ held;
+            brings = carried (slot.Place low) (slot.Place i)
+                (subst (λ n. RuleOf (slot.Place low) (slot.Place n)) (last top)
+                (subst (λ n. RuleOf (slot.Place (n - place)) (slot.Place (n - 1))) places_are
+                (rows.bring_top kinds (length whole.classes) facts place status.SavedPurgeable)));
+          },
+        )
+      where
+        last : i ≡ length others → its.places - 1 ≡ i
+        last top = omega (top, many, arith)
+    on_bring i (is_high high) = inr (inl (λ code R x given. at_none R x i high given))
+
+    each_bring : (b : Keeper) → Came b
+    each_bring (on_stack i) = on_bring i (in_bring i)
+    each_bring (in_slot b) =
+        inl (
+          in_slot b,
+          record {
+            gives = λ code R x given. by_bring R x given;
+            held = λ byte held. held;
+            brings = carried (slot.Variable b) (slot.Variable b)
+                (rows.bring_stays kinds (length whole.classes) facts place status.SavedPurgeable (slot.Variable b) refl);
+          },
+        )
+      where
+        by_bring : (R : MustFact → Type 0) (x : Variable)
+            → (Unit {0} × R (Saved (in_slot b) x)) ⊎ (⊥ ⊎ ((at : ℕ) × (low ≤ at) × (suc at < its.places) × ⊥)) → R (Saved (in_slot b) x)
+        by_bring R x (inl old) = old.1
+        by_bring R x (inr (inl new)) = absurd new
+        by_bring R x (inr (inr new)) = absurd new.3
+
+    bytes_brought : AreBytesTracked whole known here machine ws → AreBytesTracked whole known later machine ws
+    bytes_brought are =
+        bytes_go whole known here machine ws its is_at deep lasting (op.Bring place) is (suc here.at) (v ∷ others) refl machine each_bring are
+
+  -- State bytes go with their places.
+  pub bytes_bring : its.places ≡ length here.stack → (k : ℕ) → place ≡ suc k → (v : Value) (others : List Value) → picked k here.stack ≡ Some (v, others)
+      → stack ≡ v ∷ others → AreBytesTracked whole known here machine ws → AreBytesTracked whole known next machine ws
+  bytes_bring deep k same_place v others found so are =
+      subst (λ st. AreBytesTracked whole known (moved here (suc here.at) st lasting) machine ws) (sym so)
+      (bytes_brought deep v others
+      (subst (λ n. Picks n here.stack v others) (ap (λ n. length here.stack - n) (sym same_place) ∙ ap (λ n. n - place) (sym deep))
+      (picked_is k here.stack (v, others) found)) are)

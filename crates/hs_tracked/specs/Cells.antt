@@ -3,16 +3,20 @@
 --     cells_read                   the cells that a pointer reaches
 --     objects_ended                the cells after the objects of a call have ended
 --     blocks_written, objects_written      the cells after others are put where a pointer reaches
+--     cells_shifted                a decision of the schedule changes no cell
 --     each_block, each_object, each_cell       what holds of cells, from what holds of them
-use Rattle.std.proofs.Common.{◌≡◌, ℤ, ℕ, zero, suc, ◌+◌, ◌-◌, List, [], ◌∷◌, ◌++◌, take, drop, length, slice_get, Option, Some, None, refl}
+use Rattle.std.proofs.Common.{◌≡◌, ℤ, ℕ, zero, suc, ◌+◌, ◌-◌, Bool, true, false, if◌then◌else◌, List, [], ◌∷◌, ◌++◌, take, drop, length, slice_get, Option, Some, None, refl}
 use Rattle.std.proofs.lemmas.Option.{none-some}
 use Rattle.std.specs.List.{AllByRecursion}
 use Rattle.hs_base.specs.Entries.{all_at, all_appended}
 use Rattle.hs_heap.specs.Blocks.{Block}
 use Rattle.hs_heap.specs.Memory.{block_at}
+use Rattle.hs_heap.specs.Shift.{Powers, is_moved, is_purged, shift_from}
 use Rattle.hs_heap.specs.declared.cell.Cell.{Cell}
-use Rattle.hs_heap.specs.declared.cell.Pointer.{Pointer}
 use Rattle.hs_heap.specs.declared.cell.Pointer.TheVariants.{Nil, Fixed, Handle, Spot}
+use Rattle.hs_heap.specs.declared.cell.Pointer.{Pointer}
+use Rattle.hs_heap.specs.declared.decision.Decision.{Decision}
+use Rattle.hs_heap.specs.declared.presence.Presence.TheVariants.{Purged}
 use Rattle.hs_hiding.specs.Lists.{all_set, all_take, all_drop}
 use Rattle.hs_meaning.specs.Accesses.{start_at, cells_from, with_cells_from, cells_of_object, cells_of_block, cells_at, put_in_object, put_in_block, with_cells_at}
 use Rattle.hs_meaning.specs.Frames.{without_objects}
@@ -106,6 +110,22 @@ module _ (P : Cell → Type 0) where
   objects_ended (object_at place ∷ rest) machine are =
       objects_ended rest (with_object place ended_object machine)
       (all_set (λ it. AllByRecursion P it.cells) machine.objects place ended_object are tt)
+
+-- ---- a decision of the schedule
+
+-- It moves and purges blocks, and changes no cell.
+pub cells_shifted : (P : List Cell → Type 0) (powers : Powers) (decision : Decision) (k : ℕ) (blocks : List Block)
+    → AllByRecursion (λ block. P block.cells) blocks → AllByRecursion (λ block. P block.cells) (shift_from powers decision k blocks)
+cells_shifted P powers decision k [] are = tt
+cells_shifted P powers decision k (block ∷ blocks) are =
+    (by_bits (is_purged powers decision k block) (is_moved powers decision k block), cells_shifted P powers decision (suc k) blocks are.1)
+  where
+    by_bits : (purged moved : Bool)
+        → P (if purged then record block { epoch = block.epoch + 1; presence = Purged }
+        else if moved then record block { epoch = block.epoch + 1 } else block).cells
+    by_bits true moved = are.0
+    by_bits false true = are.0
+    by_bits false false = are.0
 
 -- ---- from one to another
 

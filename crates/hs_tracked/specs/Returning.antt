@@ -72,7 +72,7 @@ module _ (whole : WholeCode) (known : Knowledge) (here : Here) (machine : Machin
   same_blocks = (closed_same w.machine.locals machine).blocks
 
   -- variables of the caller, and globals that the function does not assign
-  values : (x : Variable) → assigned callee x ≡ false → value_of after x ≡ value_of w.machine x
+  pub values : (x : Variable) → assigned callee x ≡ false → value_of after x ≡ value_of w.machine x
   values (name.Local l) none = refl
   values (name.Global g) none =
       ap value_of_slot (ap (λ gs. slice_get gs g) (closed_same w.machine.locals machine).globals ∙ is.globals g none)
@@ -130,7 +130,7 @@ module _ (whole : WholeCode) (known : Knowledge) (here : Here) (machine : Machin
 
   -- ---- what the caller has left
 
-  since_after : Since (does callee) w.machine.blocks after.blocks
+  pub since_after : Since (does callee) w.machine.blocks after.blocks
   since_after = subst (Since (does callee) w.machine.blocks) (sym same_blocks) is.since
 
   places_below : (k : ℕ) (stack : List Value) → TrackedPlaces whole known w.here w.machine ws stack

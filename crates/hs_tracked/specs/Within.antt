@@ -1,90 +1,121 @@
 -- A step of the machine inside a call keeps all tracked (own).
---     Goes             the call goes on, and all that it has is tracked
---     IsOrdinary       an operation that is no Step, Shift, Bring or routine, no call and no return
---     within_tracked   the step
+--     IsOrdinary                  an operation that is no routine, no call and no return
+--     GoesTracked whole known ..  the call goes on, and all that it has is tracked
+--     within_tracked              the step
 -- What lasted still does, if the block could not move after the step and got no new cells by it.
-use Rattle.std.proofs.Common.{◌≡◌, ◌<◌, ◌⊎◌, inl, inr, ℕ, zero, suc, pos, ◌-◌, ◌==◌, Bool, true, false, ◌&&◌, List, [], ◌∷◌, ◌++◌, length, map, Option, Some, None, refl, sym, ap, ◌∙◌, subst, arith}
-use Rattle.hs_calls.specs.Calls.{Here, Wait, moved, point_of, steady_in, waiting_of}
+use Rattle.std.proofs.Common.{◌≡◌, ◌<◌, ◌⊎◌, inl, inr, ℕ, zero, suc, pos, ◌-◌, ◌==◌, Bool, true, false, ◌&&◌, List, [], ◌∷◌, ◌++◌, length, map, Option, Some, None, refl, sym, ap, ◌∙◌, subst, arith, slice_get, ◌||◌, if◌then◌else◌}
+use Rattle.std.specs.List.{AllByRecursion}
+use Rattle.hs_calls.specs.Calls.{Here, Wait, lasts_to as lasts_from, moved, point_of, steady_in, waiting_of}
+use Rattle.hs_calls.specs.Changing.{since}
 use Rattle.hs_calls.specs.Stacks.{RanTo}
 use Rattle.hs_chains.specs.Knowledge.{Knowledge}
 use Rattle.hs_code.specs.Following.{IsNext}
 use Rattle.hs_code.specs.Stacks.{Scope}
 use Rattle.hs_code.specs.declared.function_code.Placed.{Placed}
-use Rattle.hs_code.specs.declared.op.Binary.{Binary}
+use Rattle.hs_code.specs.declared.op.Access as code_access
+use Rattle.hs_code.specs.declared.op.Access.TheVariants as access
 use Rattle.hs_code.specs.declared.op.Binary.TheVariants as binary
+use Rattle.hs_code.specs.declared.op.Binary.{Binary}
 use Rattle.hs_code.specs.declared.op.Goal.{Goal}
-use Rattle.hs_code.specs.declared.op.Object.{Object}
 use Rattle.hs_code.specs.declared.op.Object.TheVariants as object
-use Rattle.hs_code.specs.declared.op.Op.{Op}
+use Rattle.hs_code.specs.declared.op.Object.{Object}
 use Rattle.hs_code.specs.declared.op.Op.TheVariants as op
-use Rattle.hs_code.specs.declared.op.Unary.{Unary}
+use Rattle.hs_code.specs.declared.op.Op.{Op}
 use Rattle.hs_code.specs.declared.op.Unary.TheVariants as unary
-use Rattle.hs_code_run.specs.Codes.{CodeProgram, Point}
+use Rattle.hs_code.specs.declared.op.Unary.{Unary}
+use Rattle.hs_code_run.specs.Codes.{CodeProgram, Point, code_program}
 use Rattle.hs_code_run.specs.Laws.Depths.Control.{case_follows}
-use Rattle.hs_code_run.specs.Steps.{access_of, by_stack, case_for, later_choices, next_choice, onto, onto_if, onward}
+use Rattle.hs_code_run.specs.Steps.{access_of, by_stack, case_for, later_choices, next_choice, onto, onto_if, onward, brought, on_top, picked}
 use Rattle.hs_facts.specs.Effects.{WholeCode}
 use Rattle.hs_facts.specs.Names.{taken as taken_by}
 use Rattle.hs_flow.specs.Laws.Staying.{LeavesSlots}
+use Rattle.hs_flow.specs.Next.{purges_in}
 use Rattle.hs_flow.specs.Programs.{scope_at}
 use Rattle.hs_flow.specs.declared.fact.Slot.TheVariants as slot
+use Rattle.hs_heap.specs.Blocks.{master_of, Block}
+use Rattle.hs_heap.specs.Memory.{block_at}
+use Rattle.hs_heap.specs.Shift.{shift as shift_blocks}
+use Rattle.hs_heap.specs.declared.cell.Cell.{Cell}
 use Rattle.hs_heap.specs.declared.cell.Pointer.TheVariants.{Nil, Fixed, Handle, Spot}
+use Rattle.hs_heap.specs.declared.cell.Pointer.{Pointer}
+use Rattle.hs_heap.specs.declared.decision.Decision.{Decision}
 use Rattle.hs_hiding.specs.Holding.{value_of}
 use Rattle.hs_meaning.specs.Accesses.{by_stop, cells_at, with_cells_at, use_stops, master_in, master_pointer}
-use Rattle.hs_meaning.specs.Evaluation.{address_of, located}
+use Rattle.hs_meaning.specs.Evaluation.{address_of, located, decided_by, powers_of}
+use Rattle.hs_meaning.specs.Laws.Changes.Accesses.{with_cells_at_stays}
 use Rattle.hs_meaning.specs.Machine as machines
-use Rattle.hs_meaning.specs.Machine.{Machine, Binding, binding_of, with_value}
+use Rattle.hs_meaning.specs.Machine.{Machine, Binding, binding_of, with_value, with_blocks}
 use Rattle.hs_meaning.specs.Objects.{object_of_base}
 use Rattle.hs_meaning.specs.Operations.{converted_value, slot_stop}
-use Rattle.hs_meaning.specs.Steps.{State, Step, give, ran_at, then_with, turn_from, used}
+use Rattle.hs_meaning.specs.Pointers.{moved_by, moved_stop, stride_bytes}
+use Rattle.hs_meaning.specs.Steps.{State, Step, give, ran_at, then_with, turn_from, used, after_decision, decided, either, next_decision}
 use Rattle.hs_meaning.specs.Stops.{first_stop, Stops, heap_stop}
-use Rattle.hs_meaning.specs.Values.{Value, number, pointer, state, structure, bits_in, number_stop, or_nothing, value_in, length_of, load_stops, store_stop, cells_for}
+use Rattle.hs_meaning.specs.Values.{Value, number, pointer, state, structure, bits_in, number_stop, or_nothing, value_in, length_of, load_stops, store_stop, cells_for, pointer_in, pointer_stop}
 use Rattle.hs_meaning.specs.declared.outcome.Outcome.{Outcome}
 use Rattle.hs_meaning.specs.declared.outcome.Stop.{Stop}
 use Rattle.hs_sound_heap.specs.Roles.{nothing}
-use Rattle.hs_sound_heap.specs.Since.{Since, since_refl}
+use Rattle.hs_sound_heap.specs.Shifts.{shifting, shift_since}
+use Rattle.hs_sound_heap.specs.Since.{Since, since_refl, May}
+use Rattle.hs_tracked.specs.Bringing.{bring, bytes_bring}
 use Rattle.hs_tracked.specs.Bytes.{AreBytesTracked, BringsNoByte, bytes_stay}
+use Rattle.hs_tracked.specs.Cells.{cells_shifted}
 use Rattle.hs_tracked.specs.Copies.{bytes_conv, bytes_dup, bytes_get, bytes_set, bytes_tuck}
 use Rattle.hs_tracked.specs.Going.{IsAt}
-use Rattle.hs_tracked.specs.Moving.{drops, dup, get, pushes, tuck, offset}
+use Rattle.hs_tracked.specs.Loading.{load_cells, load_master}
+use Rattle.hs_tracked.specs.Moving.{drops, dup, get, pushes, tuck, offset, step}
 use Rattle.hs_tracked.specs.Right.{AreRight}
 use Rattle.hs_tracked.specs.Setting.{set}
-use Rattle.hs_tracked.specs.Tracking.{Tracked, TrackedPlaces, AreTracked}
+use Rattle.hs_tracked.specs.Shifting.{shift}
+use Rattle.hs_tracked.specs.Storing.{store, values_written}
+use Rattle.hs_tracked.specs.Tracking.{Tracked, TrackedPlaces, AreTracked, TrackedCells}
 use Rattle.hs_tree.specs.declared.constant.Base.TheVariants as base
+use Rattle.hs_tree.specs.declared.function.BoundRoutine.{BoundRoutine}
+use Rattle.hs_tree.specs.declared.head.Variable.TheVariants as name
 use Rattle.hs_tree.specs.declared.head.Variable.{Variable}
 use Rattle.hs_tree.specs.declared.operators.Comparison.{Comparison}
+use Rattle.hs_tree.specs.declared.operators.Stride.{Stride}
 use Rattle.hs_true.specs.Setting.{IsSlot, blocks_stay}
 use Rattle.hs_truth.specs.Owing.{steady_since}
 use Rattle.hs_truth.specs.Places.{at_place, under_top}
-use Rattle.hs_meaning.specs.Pointers.{moved_by, moved_stop}
-use Rattle.hs_tracked.specs.Loading.{load_cells, load_master}
-use Rattle.hs_tracked.specs.Storing.{store, values_written}
-use Rattle.hs_heap.specs.Blocks.{master_of, Block}
-use Rattle.hs_heap.specs.Memory.{block_at}
-use Rattle.hs_heap.specs.declared.cell.Pointer.{Pointer}
-use Rattle.hs_meaning.specs.Laws.Changes.Accesses.{with_cells_at_stays}
-use Rattle.hs_calls.specs.Changing.{since}
-use Rattle.hs_code.specs.declared.op.Access.TheVariants as access
-use Rattle.hs_code.specs.declared.op.Access as code_access
 use Rattle.hs_types.specs.declared.integer.Integer.{Integer}
 
-module _ (whole : WholeCode) (known : Knowledge) (program : CodeProgram) (E : Outcome → State → Type 0) (ends : (outcome : Outcome) (s : State) → E outcome s)
+-- an operation that is no routine, no call and no return
+abbrev pub IsOrdinary : Op → Type 0
+IsOrdinary (op.Routine place) = ⊥
+IsOrdinary (op.Call fn) = ⊥
+IsOrdinary op.Return = ⊥
+IsOrdinary _ = Unit {0}
+
+-- the value of that place is there, as the kinds of the stack say
+abbrev pub IsBrought : Here → ℕ → Type 0
+IsBrought here place = (k : ℕ) × (place ≡ suc k) × (it : Value × List Value) × (picked k here.stack ≡ Some it)
+
+-- The call goes on from that machine, and all that it has is tracked.
+abbrev pub GoesTracked : WholeCode → Knowledge → Here → Machine → List Wait → Point → State → Type 0
+GoesTracked whole known here before ws next t =
+    (at : ℕ) × (stack : List Value) × (later : List Bool) × (next ≡ point_of (moved here at stack (lasts_from here before t.machine)) ws later)
+    × AreTracked whole known (moved here at stack (lasts_from here before t.machine)) t.machine ws
+    × AreBytesTracked whole known (moved here at stack (lasts_from here before t.machine)) t.machine ws
+
+module _ (whole : WholeCode) (known : Knowledge) (E : Outcome → State → Type 0) (ends : (outcome : Outcome) (s : State) → E outcome s)
     (here : Here) (ws : List Wait) (choices : List Bool) (its : Placed) (s : State) (deep : its.places ≡ length here.stack)
     (is_at : IsAt whole known here its) (right : AreRight whole known here s.machine) (are : AreTracked whole known here s.machine ws)
     (bytes : AreBytesTracked whole known here s.machine ws) where
+  -- the program with its code
+  abbrev pub program : CodeProgram
+  program = code_program whole.program whole.functions
+
   -- what the kinds of the operations depend on
   abbrev kinds : Scope
   kinds = scope_at whole here.fn
 
   -- what lasts after a step to that machine
-  abbrev pub lasts_to : Machine → ℕ → Bool
-  lasts_to after = λ k. here.lasting k && steady_in s.machine after k
+  abbrev lasts_to : Machine → ℕ → Bool
+  lasts_to after = lasts_from here s.machine after
 
   -- The call goes on, and all that it has is tracked.
-  abbrev pub Goes : Point → State → Type 0
-  Goes next t =
-      (at : ℕ) × (stack : List Value) × (later : List Bool) × (next ≡ point_of (moved here at stack (lasts_to t.machine)) ws later)
-      × AreTracked whole known (moved here at stack (lasts_to t.machine)) t.machine ws
-      × AreBytesTracked whole known (moved here at stack (lasts_to t.machine)) t.machine ws
+  abbrev Goes : Point → State → Type 0
+  Goes = GoesTracked whole known here s.machine ws
 
   -- the point, with that stack
   abbrev pub point_on : List Value → Point
@@ -95,10 +126,14 @@ module _ (whole : WholeCode) (known : Knowledge) (program : CodeProgram) (E : Ou
   abbrev pub StepOn : Op → List Value → Type 0
   StepOn o stack = RanTo E Goes (by_stack program its.at (point_on stack) o stack s)
 
-  -- what lasted still does
+  -- what lasted still does, if nothing is unlocked
+  lasts_since : (may : May) → may.unlocks ≡ false → (after : Machine) → Since may s.machine.blocks after.blocks → (n : ℕ) → here.lasting n ≡ true
+      → lasts_to after n ≡ true
+  lasts_since may none after since n lasted =
+      ap (λ z. z && steady_in s.machine after n) lasted ∙ steady_since may s.machine after n since none (right.lasts n lasted)
+
   still_lasts : (after : Machine) → Since nothing s.machine.blocks after.blocks → (n : ℕ) → here.lasting n ≡ true → lasts_to after n ≡ true
-  still_lasts after since n lasted =
-      ap (λ z. z && steady_in s.machine after n) lasted ∙ steady_since nothing s.machine after n since refl (right.lasts n lasted)
+  still_lasts = lasts_since nothing refl
 
   same_lasts : (n : ℕ) → here.lasting n ≡ true → lasts_to s.machine n ≡ true
   same_lasts = still_lasts s.machine (since_refl nothing s.machine.blocks)
@@ -525,53 +560,146 @@ module _ (whole : WholeCode) (known : Knowledge) (program : CodeProgram) (E : Ou
       by_first (Some why) stops more = ends _ _
       by_first None fits more = by_later fits (first_stop more)
 
+  module _ (stride : Stride) (pointer_first : Bool) (is : its.op ≡ op.Step stride pointer_first) (top under : Value) (rest : List Value)
+      (so : here.stack ≡ top ∷ under ∷ rest) where
+    -- the value is the pointer, and the other one the number, which is tested first
+    stepped_goes : (v by : Value) → (if pointer_first then under else top) ≡ v → (why : Option Stop)
+        → RanTo E Goes (then_with (λ value. give (onward (point_on (top ∷ under ∷ rest)) (value ∷ rest)))
+        (ran_at its.at s (by_stop (first_stop (why ∷ pointer_stop v ∷ moved_stop (stride_bytes stride (bits_in by)) (pointer_in v) ∷ []))
+        (pointer (moved_by (stride_bytes stride (bits_in by)) (pointer_in v))) s.machine s.machine)))
+    stepped_goes v by is_pointer (Some why) = ends _ _
+    stepped_goes (number bits) by is_pointer None = ends _ _
+    stepped_goes (state byte) by is_pointer None = ends _ _
+    stepped_goes (structure cells) by is_pointer None = ends _ _
+    stepped_goes (pointer p) by is_pointer None = by_why (moved_stop (stride_bytes stride (bits_in by)) p) refl
+      where
+        by_why : (why : Option Stop) → moved_stop (stride_bytes stride (bits_in by)) p ≡ why
+            → RanTo E Goes (then_with (λ value. give (onward (point_on (top ∷ under ∷ rest)) (value ∷ rest)))
+            (ran_at its.at s (by_stop (first_stop (why ∷ [])) (pointer (moved_by (stride_bytes stride (bits_in by)) p)) s.machine s.machine)))
+        by_why (Some why) stops = ends _ _
+        by_why None goes = (
+          suc here.at,
+          pointer (moved_by (stride_bytes stride (bits_in by)) p) ∷ rest,
+          choices,
+          refl,
+          step whole known here s.machine ws its is_at (lasts_to s.machine) same_lasts stride pointer_first is top under rest so p is_pointer
+              (stride_bytes stride (bits_in by)) goes are,
+          bytes_same (op.Step stride pointer_first) is tt tt rest (takes_two (op.Step stride pointer_first) refl top under rest so) (suc here.at)
+              (pointer (moved_by (stride_bytes stride (bits_in by)) p) ∷ rest) refl
+              (λ i low. under_top i (pointer (moved_by (stride_bytes stride (bits_in by)) p)) rest low),
+        )
+
+  step_goes : (stride : Stride) (pointer_first : Bool) → its.op ≡ op.Step stride pointer_first → (stack : List Value) → here.stack ≡ stack
+      → StepOn (op.Step stride pointer_first) stack
+  step_goes stride pointer_first is [] so = ends _ _
+  step_goes stride pointer_first is (top ∷ []) so = ends _ _
+  step_goes stride true is (top ∷ under ∷ rest) so = stepped_goes stride true is top under rest so under top refl (number_stop top)
+  step_goes stride false is (top ∷ under ∷ rest) so = stepped_goes stride false is top under rest so top under refl (number_stop under)
+
+  -- ---- a decision of the schedule
+
+  module _ (place : ℕ) (is : its.op ≡ op.Shift place) (stack : List Value) (so : here.stack ≡ stack) where
+    -- blocks may have moved, and no cell is another one
+    shift_to : (after : Machine) (schedule : List Decision)
+        → Since (shifting (purges_in (slice_get program.setting.routines place))) s.machine.blocks after.blocks
+        → ((x : Variable) → value_of after x ≡ value_of s.machine x)
+        → ((P : List Cell → Type 0) → AllByRecursion (λ block. P block.cells) s.machine.blocks → AllByRecursion (λ block. P block.cells) after.blocks)
+        → after.objects ≡ s.machine.objects
+        → Goes (onward (point_on stack) stack) (record s { machine = after; schedule = schedule })
+    shift_to after schedule since values cells objects = (
+      suc here.at,
+      stack,
+      choices,
+      refl,
+      subst (λ st. AreTracked whole known (moved here (suc here.at) st (lasts_to after)) after ws) so
+          (shift whole known here s.machine after ws its is_at right (lasts_to after) after_lasts place is since values
+          (cells (TrackedCells whole known (moved here (suc here.at) here.stack (lasts_to after)) after ws)) objects are),
+      subst (λ st. AreBytesTracked whole known (moved here (suc here.at) st (lasts_to after)) after ws) so
+          (bytes_stay whole known here s.machine ws its is_at deep (lasts_to after) (op.Shift place) is (suc here.at) here.stack refl after tt tt
+          (record { places = λ i low. refl; values = values }) bytes),
+    )
+      where
+        after_lasts : (n : ℕ) → here.lasting n ≡ true → lasts_to after n ≡ true
+        after_lasts = lasts_since (shifting (purges_in (slice_get program.setting.routines place))) refl after since
+
+    shift_goes : (found : Option BoundRoutine) → slice_get program.setting.routines place ≡ found
+        → RanTo E Goes (then_with (λ it. give (onward (point_on stack) stack)) (decided_by found s))
+    shift_goes None found =
+        shift_to s.machine s.schedule (since_refl (shifting (purges_in (slice_get program.setting.routines place))) s.machine.blocks) (λ x. refl)
+        (λ P cells. cells) refl
+    shift_goes (Some it) found = by_powers (it.routine.moves || it.routine.purges)
+      where
+        after : Machine
+        after = with_blocks (shift_blocks (powers_of it) (next_decision s.schedule) s.machine.blocks) s.machine
+
+        values : (x : Variable) → value_of after x ≡ value_of s.machine x
+        values (name.Global g) = refl
+        values (name.Local i) = refl
+
+        by_powers : (z : Bool) → RanTo E Goes (then_with (λ it. give (onward (point_on stack) stack)) (either z (decided (powers_of it)) (give tt) s))
+        by_powers false =
+            shift_to s.machine s.schedule (since_refl (shifting (purges_in (slice_get program.setting.routines place))) s.machine.blocks) (λ x. refl)
+            (λ P cells. cells) refl
+        by_powers true =
+            shift_to after (after_decision (powers_of it) s).schedule
+            (subst (λ f. Since (shifting (purges_in f)) s.machine.blocks after.blocks) (sym found)
+            (shift_since (powers_of it) (next_decision s.schedule) s.machine.blocks)) values
+            (λ P cells. cells_shifted P (powers_of it) (next_decision s.schedule) 1 s.machine.blocks cells) refl
+
+  -- ---- a value that is brought to the top
+
+  bring_goes : (place : ℕ) → its.op ≡ op.Bring place → IsBrought here place → (stack : List Value) → here.stack ≡ stack → StepOn (op.Bring place) stack
+  bring_goes place is it stack so = (
+    suc here.at,
+    brought place stack,
+    choices,
+    refl,
+    bring whole known here s.machine ws its is_at (lasts_to s.machine) same_lasts place is (brought place stack) it.0 it.1 it.2.0 it.2.1 it.3 new are,
+    bytes_bring whole known here s.machine ws its is_at (lasts_to s.machine) same_lasts place is (brought place stack) deep it.0 it.1 it.2.0 it.2.1
+        it.3 new bytes,
+  )
+    where
+      new : brought place stack ≡ it.2.0 ∷ it.2.1
+      new = ap (brought place) (sym so) ∙ ap (λ n. brought n here.stack) it.1 ∙ ap (on_top here.stack) it.3
+
   -- ---- all of them
 
-  -- an operation that is no Step, Shift, Bring or routine, no call and no return
-  abbrev pub IsOrdinary : Op → Type 0
-  IsOrdinary (op.Step stride pointer_first) = ⊥
-  IsOrdinary (op.Shift place) = ⊥
-  IsOrdinary (op.Routine place) = ⊥
-  IsOrdinary (op.Call fn) = ⊥
-  IsOrdinary op.Return = ⊥
-  IsOrdinary (op.Bring place) = ⊥
-  IsOrdinary _ = Unit {0}
-
-  on_stack_so : (a_slot : (x : Variable) → its.op ≡ op.Set x → IsSlot s.machine x) (o : Op) → its.op ≡ o → IsOrdinary o → (stack : List Value)
-      → here.stack ≡ stack → StepOn o stack
-  on_stack_so a_slot (op.Num bits) is plain stack so =
+  on_stack_so : (a_slot : (x : Variable) → its.op ≡ op.Set x → IsSlot s.machine x)
+      (brings : (place : ℕ) → its.op ≡ op.Bring place → IsBrought here place) (o : Op)
+      → its.op ≡ o → IsOrdinary o → (stack : List Value) → here.stack ≡ stack → StepOn o stack
+  on_stack_so a_slot brings (op.Num bits) is plain stack so =
       push_goes (op.Num bits) is tt tt stack (takes_none (op.Num bits) refl stack so) refl (number bits) tt stack
-  on_stack_so a_slot op.Nil is plain stack so = push_goes op.Nil is tt tt stack (takes_none op.Nil refl stack so) refl (pointer Nil) tt stack
-  on_stack_so a_slot (op.Address o) is plain stack so = address_goes o is stack so
-  on_stack_so a_slot (op.Get x) is plain stack so = get_goes x is stack so
-  on_stack_so a_slot (op.Set x) is plain stack so = set_goes x is (a_slot x is) stack so
-  on_stack_so a_slot op.Drop is plain stack so = drop_one is stack so
-  on_stack_so a_slot op.Dup is plain stack so = dup_goes is stack so
-  on_stack_so a_slot op.Tuck is plain stack so = tuck_goes is stack so
-  on_stack_so a_slot (op.Conv kind) is plain stack so = conv_goes kind is stack so
-  on_stack_so a_slot (op.Unary u) is plain stack so = sign_goes u is stack so
-  on_stack_so a_slot (op.Binary b kind) is plain stack so = binary_goes b kind is stack so
-  on_stack_so a_slot op.IsNil is plain stack so = is_nil_goes is stack so
-  on_stack_so a_slot (op.Compare c) is plain stack so = compare_goes c is stack so
-  on_stack_so a_slot (op.Difference size) is plain stack so = difference_goes size is stack so
-  on_stack_so a_slot (op.Jump target) is plain stack so =
+  on_stack_so a_slot brings op.Nil is plain stack so = push_goes op.Nil is tt tt stack (takes_none op.Nil refl stack so) refl (pointer Nil) tt stack
+  on_stack_so a_slot brings (op.Address o) is plain stack so = address_goes o is stack so
+  on_stack_so a_slot brings (op.Get x) is plain stack so = get_goes x is stack so
+  on_stack_so a_slot brings (op.Set x) is plain stack so = set_goes x is (a_slot x is) stack so
+  on_stack_so a_slot brings op.Drop is plain stack so = drop_one is stack so
+  on_stack_so a_slot brings op.Dup is plain stack so = dup_goes is stack so
+  on_stack_so a_slot brings op.Tuck is plain stack so = tuck_goes is stack so
+  on_stack_so a_slot brings (op.Conv kind) is plain stack so = conv_goes kind is stack so
+  on_stack_so a_slot brings (op.Unary u) is plain stack so = sign_goes u is stack so
+  on_stack_so a_slot brings (op.Binary b kind) is plain stack so = binary_goes b kind is stack so
+  on_stack_so a_slot brings op.IsNil is plain stack so = is_nil_goes is stack so
+  on_stack_so a_slot brings (op.Compare c) is plain stack so = compare_goes c is stack so
+  on_stack_so a_slot brings (op.Difference size) is plain stack so = difference_goes size is stack so
+  on_stack_so a_slot brings (op.Jump target) is plain stack so =
       drop_goes (op.Jump target) is tt tt stack (takes_none (op.Jump target) refl stack so) target refl choices s.turns
-  on_stack_so a_slot (op.Zero target) is plain stack so = zero_goes target is stack so
-  on_stack_so a_slot (op.Choose goal) is plain stack so = choose_goes goal is stack so
-  on_stack_so a_slot op.Turn is plain stack so = turn_goes is stack so s.turns
-  on_stack_so a_slot op.Mark is plain stack so = drop_goes op.Mark is tt tt stack (takes_none op.Mark refl stack so) (suc here.at) refl choices s.turns
-  on_stack_so a_slot (op.Pick target) is plain stack so = pick_goes target is stack so (next_choice choices)
-  on_stack_so a_slot (op.Load reached) is plain stack so = load_goes reached is stack so
-  on_stack_so a_slot (op.Store reached) is plain stack so = store_goes reached is stack so
-  on_stack_so a_slot (op.Offset by) is plain stack so = offset_goes by is stack so
-  on_stack_so a_slot (op.Step stride pointer_first) is plain stack so = absurd plain
-  on_stack_so a_slot (op.Shift place) is plain stack so = absurd plain
-  on_stack_so a_slot (op.Routine place) is plain stack so = absurd plain
-  on_stack_so a_slot (op.Call fn) is plain stack so = absurd plain
-  on_stack_so a_slot op.Return is plain stack so = absurd plain
-  on_stack_so a_slot (op.Bring place) is plain stack so = absurd plain
+  on_stack_so a_slot brings (op.Zero target) is plain stack so = zero_goes target is stack so
+  on_stack_so a_slot brings (op.Choose goal) is plain stack so = choose_goes goal is stack so
+  on_stack_so a_slot brings op.Turn is plain stack so = turn_goes is stack so s.turns
+  on_stack_so a_slot brings op.Mark is plain stack so = drop_goes op.Mark is tt tt stack (takes_none op.Mark refl stack so) (suc here.at) refl choices s.turns
+  on_stack_so a_slot brings (op.Pick target) is plain stack so = pick_goes target is stack so (next_choice choices)
+  on_stack_so a_slot brings (op.Load reached) is plain stack so = load_goes reached is stack so
+  on_stack_so a_slot brings (op.Store reached) is plain stack so = store_goes reached is stack so
+  on_stack_so a_slot brings (op.Offset by) is plain stack so = offset_goes by is stack so
+  on_stack_so a_slot brings (op.Step stride pointer_first) is plain stack so = step_goes stride pointer_first is stack so
+  on_stack_so a_slot brings (op.Shift place) is plain stack so = shift_goes place is stack so (slice_get program.setting.routines place) refl
+  on_stack_so a_slot brings (op.Routine place) is plain stack so = absurd plain
+  on_stack_so a_slot brings (op.Call fn) is plain stack so = absurd plain
+  on_stack_so a_slot brings op.Return is plain stack so = absurd plain
+  on_stack_so a_slot brings (op.Bring place) is plain stack so = bring_goes place is (brings place is) stack so
 
   -- The step of such an operation, as the machine does it.
-  pub within_tracked : ((x : Variable) → its.op ≡ op.Set x → IsSlot s.machine x) → (o : Op) → its.op ≡ o → IsOrdinary o
-      → RanTo E Goes (by_stack program its.at (point_of here ws choices) o here.stack s)
-  within_tracked a_slot o is plain = on_stack_so a_slot o is plain here.stack refl
+  pub within_tracked : ((x : Variable) → its.op ≡ op.Set x → IsSlot s.machine x) → ((place : ℕ) → its.op ≡ op.Bring place → IsBrought here place) → (o : Op)
+      → its.op ≡ o → IsOrdinary o → RanTo E Goes (by_stack program its.at (point_of here ws choices) o here.stack s)
+  within_tracked a_slot brings o is plain = on_stack_so a_slot brings o is plain here.stack refl

@@ -2,9 +2,9 @@
 --     pushes, keeps_stack, drops      those that leave the machine as it is
 --     used_goes                       a value that is used as a number
 --     bare_operates                   those that take values and leave one
-use Rattle.std.proofs.Common.{◌≡◌, ◌-◌, inr, ℕ, suc, Bool, true, false, List, ◌∷◌, length, Option, Some, None, refl, sym, ap, ◌∙◌, subst, arith, ◌&&◌, slice_get, map}
+use Rattle.std.proofs.Common.{◌≡◌, ◌-◌, inr, ℕ, suc, Bool, true, false, List, ◌∷◌, length, Option, Some, None, refl, sym, ap, ◌∙◌, subst, arith, slice_get, map}
 use Rattle.std.specs.List.{AllByRecursion}
-use Rattle.hs_calls.specs.Calls.{Here, Wait, point_of, waiting_of, steady_in}
+use Rattle.hs_calls.specs.Calls.{Here, Wait, point_of, waiting_of}
 use Rattle.hs_calls.specs.Changing.{since}
 use Rattle.hs_calls.specs.Stacks.{RanTo, Stays}
 use Rattle.hs_code.specs.Following.{IsNext}
@@ -49,7 +49,7 @@ module _ (program : CodeProgram) (may : ℕ → May) (sets : ℕ → ℕ → Boo
 
   -- the call goes on
   abbrev pub GoesOn : Point → State → Type 0
-  GoesOn = Stays program (Good program may sets impact) E here ws
+  GoesOn = Stays program (Good program may sets impact) E here s.machine ws
 
   -- the facts of a table row that is empty
   abbrev pub Bare : Op → Type 1
@@ -72,7 +72,6 @@ module _ (program : CodeProgram) (may : ℕ → May) (sets : ℕ → ℕ → Boo
   on_same at stack later turns follows lack sound = (
     at,
     stack,
-    λ k. here.lasting k && steady_in s.machine s.machine k,
     later,
     refl,
     same_good program may sets impact here ws its s.machine good there at stack follows lack sound,

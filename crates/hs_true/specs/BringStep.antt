@@ -47,7 +47,7 @@ module _ (program : CodeProgram) (may : ℕ → May) (sets : ℕ → ℕ → Boo
 
   -- the call goes on
   abbrev GoesOn : Point → State → Type 0
-  GoesOn = Stays program (Good program may sets impact) E here ws
+  GoesOn = Stays program (Good program may sets impact) E here s.machine ws
 
   same_number : (a b : ℕ) → (a == b) ≡ true → a ≡ b
   same_number a b is = grind (is, nat_tests, arith)

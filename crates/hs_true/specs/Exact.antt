@@ -58,7 +58,7 @@ found_in (f ∷ functions) (c ∷ its) zero function is = (f, c, refl, refl, sam
 found_in (f ∷ functions) (c ∷ its) (suc fn) function is = found_in functions its fn function is
 
 -- the signatures are those of the functions
-signatures : (program : TypedProgram) (classes : List Class) (functions : List TypedFunction) (its : List FunctionCode)
+pub signatures : (program : TypedProgram) (classes : List Class) (functions : List TypedFunction) (its : List FunctionCode)
     → AreCodesOf program classes functions its → map signature_of (functions_with functions its) ≡ map codes.signature_of functions
 signatures program classes [] [] are = refl
 signatures program classes [] (code ∷ its) are = absurd are
@@ -67,7 +67,7 @@ signatures program classes (function ∷ functions) (code ∷ its) are =
     ap (λ rest. codes.signature_of function ∷ rest) (signatures program classes functions its are.1)
 
 -- the code of each is in range
-code_of : (program : TypedProgram) (classes : List Class) (functions : List TypedFunction) (its : List FunctionCode) → AreCodesOf program classes functions its
+pub code_of : (program : TypedProgram) (classes : List Class) (functions : List TypedFunction) (its : List FunctionCode) → AreCodesOf program classes functions its
     → (fn : ℕ) (f : TypedFunction) (c : FunctionCode) → slice_get functions fn ≡ Some f → slice_get its fn ≡ Some c → IsCodeOf program classes f c
 code_of program classes [] its are fn f c is so = absurd (none-some f is)
 code_of program classes (one ∷ functions) [] are fn f c is so = absurd (none-some c so)
@@ -111,7 +111,7 @@ module _ (whole : WholeCode) (answers : Answers) (exact : IsExact whole answers)
 
   -- ---- effects
 
-  says : (f : ℕ) (its : Effect) → has_effect f its ≡ true → HasEffect whole f its
+  pub says : (f : ℕ) (its : Effect) → has_effect f its ≡ true → HasEffect whole f its
   says f its is = (exact.effects f its (less_is f (length whole.functions) parts.0)).0 parts.1
     where
       parts : (nat_lt f (length whole.functions) ≡ true) × (has answers.effects f (number_of its) ≡ true)
@@ -122,7 +122,7 @@ module _ (whole : WholeCode) (answers : Answers) (exact : IsExact whole answers)
       both_so (nat_lt f (length whole.functions)) (has answers.effects f (number_of its)) (less_so f (length whole.functions) low)
       ((exact.effects f its low).1 effect_is)
 
-  says_set : (f g : ℕ) → sets_of f g ≡ true → (f < length whole.functions) × (g < length whole.program.globals) × Assigns whole f g
+  pub says_set : (f g : ℕ) → sets_of f g ≡ true → (f < length whole.functions) × (g < length whole.program.globals) × Assigns whole f g
   says_set f g is = (less_is f (length whole.functions) first.0, less_is g (length whole.program.globals) second.0, assigns)
     where
       first : (nat_lt f (length whole.functions) ≡ true) × ((nat_lt g (length whole.program.globals) && has answers.assigned f g) ≡ true)
@@ -151,10 +151,10 @@ module _ (whole : WholeCode) (answers : Answers) (exact : IsExact whole answers)
           × (function_with f c ≡ function) → FoundIn whole fn function
       on it = record { function = it.0; code = it.1; of_function = it.2; of_code = it.3; same = it.4 }
 
-  low_of : (fn : ℕ) (function : CodeFunction) → FoundIn whole fn function → fn < length whole.functions
+  pub low_of : (fn : ℕ) (function : CodeFunction) → FoundIn whole fn function → fn < length whole.functions
   low_of fn function found = slice_get_within whole.functions fn found.code found.of_code
 
-  placed_of : (fn : ℕ) (function : CodeFunction) (found : FoundIn whole fn function) (at : ℕ) (its : Placed)
+  pub placed_of : (fn : ℕ) (function : CodeFunction) (found : FoundIn whole fn function) (at : ℕ) (its : Placed)
       → slice_get function.code.ops at ≡ Some its → placed_in whole fn at ≡ Some its
   placed_of fn function found at its there =
       ap (λ c. slice_get (ops_in c) at) found.of_code ∙ ap (λ (f : CodeFunction). slice_get f.code.ops at) found.same ∙ there
@@ -288,14 +288,14 @@ module _ (whole : WholeCode) (answers : Answers) (exact : IsExact whole answers)
   role_told fn r other own =
       record { moves = λ y. absurd cc; purges = λ y. absurd cc; unlocks = λ y. absurd cc; marks = λ y. absurd cc; disposes = λ y. absurd cc }
 
-  scope_is : (fn : ℕ) (function : CodeFunction) (f : FoundIn whole fn function)
+  pub scope_is : (fn : ℕ) (function : CodeFunction) (f : FoundIn whole fn function)
       → codes.scope_of whole.program f.function ≡ scope_of program (function_with f.function f.code)
   scope_is fn function f =
       ap (λ (all : List Signature). record (codes.scope_of whole.program f.function) { functions = all })
       (sym (signatures whole.program whole.classes whole.program.functions whole.functions are))
 
   -- a restore is one in every round, also if all that calls do counts
-  restore_told : (fn : ℕ) (function : CodeFunction) → slice_get program.functions fn ≡ Some function → (at : ℕ) (its : Placed)
+  pub restore_told : (fn : ℕ) (function : CodeFunction) → slice_get program.functions fn ≡ Some function → (at : ℕ) (its : Placed)
       → slice_get function.code.ops at ≡ Some its → (p : ℕ) → its.op ≡ op.Routine p → IsRestoreAt whole fn at → (round : ℕ)
       → IsRestore (HoldsIn (scope_of program function) function.code (impact_of whole) round at)
       (its.places - taken_by (scope_of program function) (op.Routine p)) (suc (its.places - taken_by (scope_of program function) (op.Routine p)))

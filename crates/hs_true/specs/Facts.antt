@@ -6,7 +6,7 @@ use Rattle.std.proofs.Common.{◌≡◌, ◌-◌, ℕ, zero, suc, Bool, true, Li
 use Rattle.std.proofs.lemmas.List.{length-map, length-reverse}
 use Rattle.std.proofs.lemmas.Option.{same_Some}
 use Rattle.hs_base.specs.declared.pos.Pos.{Pos}
-use Rattle.hs_calls.specs.Calls.{Here, moved, Wait, point_of, IsWait, beginning, resumed}
+use Rattle.hs_calls.specs.Calls.{Here, moved, Wait, point_of, lasts_to, IsWait, beginning, resumed}
 use Rattle.hs_calls.specs.Stacks as calls
 use Rattle.hs_calls.specs.Stacks.{RanTo, Stays, is_inside, Stack, Rules, Goes}
 use Rattle.hs_code.specs.Stacks as kind
@@ -83,7 +83,7 @@ module _ (program : CodeProgram) (typed : IsTypedCode program) (may : ℕ → Ma
     has = operands program typed (point_of here ws choices) s kinds
 
     -- it notes how many values are on the stack
-    deep_of : its.places ≡ length here.stack
+    pub deep_of : its.places ≡ length here.stack
     deep_of =
         ap (λ (o : Placed). o.places) (same_Some its has.its (sym there ∙ has.there)) ∙ has.noted
         ∙ sym (kinds_count kinds.call.kinds here.stack kinds.call.values)
@@ -96,7 +96,7 @@ module _ (program : CodeProgram) (typed : IsTypedCode program) (may : ℕ → Ma
         (stepped_suits program typed (point_of here ws choices) s kinds).suited
 
     -- a Set is of a slot
-    slot_of : (x : Variable) → its.op ≡ op.Set x → IsSlot s.machine x
+    pub slot_of : (x : Variable) → its.op ≡ op.Set x → IsSlot s.machine x
     slot_of x is =
         by_binding (binding_of x s.machine) refl
         (subst (Suits program (point_of here ws choices) s (stepped_suits program typed (point_of here ws choices) s kinds).function) is suits).3
@@ -119,43 +119,59 @@ module _ (program : CodeProgram) (typed : IsTypedCode program) (may : ℕ → Ma
         rest_none None is = refl
         rest_none (Some it) is = absurd cc
 
+    some_after : None ≡ Some has.after → ⊥
+    some_after so = cc
+
+    after_bring : (place : ℕ) → its.op ≡ op.Bring place
+        → kinds_after (scope_of program kinds.call.function) (op.Bring place) kinds.call.kinds ≡ Some has.after
+    after_bring place is =
+        sym (ap (λ o. kinds_after (scope_of program kinds.call.function) o kinds.call.kinds)
+        (ap (λ (o : Placed). o.op) (same_Some has.its its (sym has.there ∙ there)) ∙ is)) ∙ has.operands
+
+    never_empty : (k : ℕ) → its.op ≡ op.Bring (suc k) → picked k here.stack ≡ None → ⊥
+    never_empty k is none =
+        some_after (sym (ap kind.brought (picked_there k kinds.call.kinds here.stack kinds.call.values none)) ∙ after_bring (suc k) is)
+
+    -- so a Bring finds its value
+    pub is_brought : (place : ℕ) → its.op ≡ op.Bring place
+        → (k : ℕ) × (place ≡ suc k) × (it : Value × List Value) × (picked k here.stack ≡ Some it)
+    is_brought zero is = absurd (some_after (after_bring zero is))
+    is_brought (suc k) is = by_found (picked k here.stack) refl
+      where
+        by_found : (found : Option (Value × List Value)) → picked k here.stack ≡ found
+            → (n : ℕ) × (suc k ≡ suc n) × (it : Value × List Value) × (picked n here.stack ≡ Some it)
+        by_found None so = absurd (never_empty k is so)
+        by_found (Some it) so = (k, refl, it, so)
+
     brings : (E : Outcome → State → Type 0) (ends : (outcome : Outcome) (t : State) → E outcome t) (good : Good program may sets impact here s.machine ws)
         (place : ℕ) → its.op ≡ op.Bring place
-        → Stays program (Good program may sets impact) E here ws (onward (point_of here ws choices) (brought place here.stack)) s
-    brings E ends good zero is =
-        absurd (none_some (sym (ap (λ o. kinds_after (scope_of program kinds.call.function) o kinds.call.kinds)
-        (ap (λ (o : Placed). o.op) (same_Some has.its its (sym has.there ∙ there)) ∙ is)) ∙ has.operands))
-      where
-        none_some : None ≡ Some has.after → ⊥
-        none_some so = cc
+        → Stays program (Good program may sets impact) E here s.machine ws (onward (point_of here ws choices) (brought place here.stack)) s
+    brings E ends good zero is = absurd (some_after (after_bring zero is))
     brings E ends good (suc k) is =
-        bring_goes program may sets impact E ends here ws choices its s good there deep_of k is (picked k here.stack) refl
-        (λ none. none_some (sym (ap kind.brought (picked_there k kinds.call.kinds here.stack kinds.call.values none))
-        ∙ ap (λ o. kinds_after (scope_of program kinds.call.function) o kinds.call.kinds)
-        (sym (ap (λ (o : Placed). o.op) (same_Some has.its its (sym has.there ∙ there)) ∙ is)) ∙ has.operands))
-      where
-        none_some : None ≡ Some has.after → ⊥
-        none_some so = cc
+        bring_goes program may sets impact E ends here ws choices its s good there deep_of k is (picked k here.stack) refl (never_empty k is)
 
   -- ---- an operation inside a call
 
-  both_stay : (here : Here) (ws : List Wait) (r : Ran Point) → RanTo End (Stays program (Good program may sets impact) End here ws) r
-      → steps.RanTo (IsKindPoint program) r → RanTo End (Stays program Fact End here ws) r
-  both_stay here ws (went next t) g k = (
+  both_stay : (here : Here) (before : Machine) (ws : List Wait) (r : Ran Point)
+      → RanTo End (Stays program (Good program may sets impact) End here before ws) r → steps.RanTo (IsKindPoint program) r
+      → RanTo End (Stays program Fact End here before ws) r
+  both_stay here before ws (went next t) g k = (
     g.0,
     g.1,
     g.2,
     g.3,
-    g.4,
-    record { good = g.5; kinds = to_kinds (moved here g.0 g.1 g.2) ws g.3 t (subst (λ p. IsKindPoint program p t) g.4 k) },
+    record {
+      good = g.4;
+      kinds = to_kinds (moved here g.0 g.1 (lasts_to here before t.machine)) ws g.2 t (subst (λ p. IsKindPoint program p t) g.3 k);
+    },
   )
-  both_stay here ws (over outcome t) g k = tt
+  both_stay here before ws (over outcome t) g k = tt
 
   within : (here : Here) (ws : List Wait) (choices : List Bool) (its : Placed) (s : State) → slice_get here.function.code.ops here.at ≡ Some its
       → is_inside its.op ≡ true → Stack program Fact End here s.machine ws
-      → RanTo End (Stays program Fact End here ws) (by_stack program its.at (point_of here ws choices) its.op here.stack s)
+      → RanTo End (Stays program Fact End here s.machine ws) (by_stack program its.at (point_of here ws choices) its.op here.stack s)
   within here ws choices its s there inside stack =
-      both_stay here ws (by_stack program its.at (point_of here ws choices) its.op here.stack s)
+      both_stay here s.machine ws (by_stack program its.at (point_of here ws choices) its.op here.stack s)
       (within_goes program may sets impact End (λ outcome t. tt) here ws choices its s fact.good there (deep_of here ws choices s its there kinds)
       (λ place is. told.shifts here.fn here.function fact.good.found here.at its there place is)
       (λ p is it found. told.routines here.fn here.function fact.good.found here.at its there p is it found)
@@ -210,7 +226,7 @@ module _ (program : CodeProgram) (typed : IsTypedCode program) (may : ℕ → Ma
   -- ---- the end of a call
 
   -- as many values are left as the call did not take
-  call_deep : (w : Wait) (ws : List Wait) (waits : IsWait program w) → Fact w.here w.machine ws
+  pub call_deep : (w : Wait) (ws : List Wait) (waits : IsWait program w) → Fact w.here w.machine ws
       → waits.its.places - taken_by (scope_of program w.here.function) (op.Call w.called) ≡ length (below w.callee.parameters w.here.stack)
   call_deep w ws waits fact =
       ap (λ k. waits.its.places - k) taken_count ∙ ap (λ n. n - w.callee.parameters) deep ∙ below_length w.callee.parameters w.here.stack held

@@ -103,7 +103,7 @@ module _ (program : CodeProgram) (may : ℕ → May) (sets : ℕ → ℕ → Boo
 
   -- the call goes on
   abbrev GoesOn : Point → State → Type 0
-  GoesOn = Stays program (Good program may sets impact) E here ws
+  GoesOn = Stays program (Good program may sets impact) E here s.machine ws
 
   top_of : (u : Value) (rest : List Value) → here.stack ≡ u ∷ rest → its.places - 1 ≡ length rest
   top_of u rest so = ap (λ n. n - 1) (deep ∙ ap length so) ∙ one_less (length rest)

@@ -57,7 +57,7 @@ module _ (program : CodeProgram) (may : ℕ → May) (sets : ℕ → ℕ → Boo
 
   -- the call goes on
   abbrev GoesOn : Point → State → Type 0
-  GoesOn = Stays program (Good program may sets impact) E here ws
+  GoesOn = Stays program (Good program may sets impact) E here s.machine ws
 
   -- a routine may do what its role does, or it puts back a state byte that was read from its handle
   abbrev pub MayRun : ℕ → BoundRoutine → Type 0
@@ -175,7 +175,6 @@ module _ (program : CodeProgram) (may : ℕ → May) (sets : ℕ → ℕ → Boo
         by_done (done v after) ran = (
           suc here.at,
           v ∷ below count here.stack,
-          λ k. here.lasting k && steady_in s.machine after k,
           choices,
           refl,
           restored_good v after ran restores.0 restores.1,

@@ -59,15 +59,15 @@ module _ (program : CodeProgram) (may : ℕ → May) (sets : ℕ → ℕ → Boo
       (since_of may sets here.fn ws) are its.places x v rest so deep a_slot))
 
   pub set_goes : (v : Value) (rest : List Value) → here.stack ≡ v ∷ rest
-      → RanTo E (Stays program (Good program may sets impact) E here ws) (by_stack program its.at (point_of here ws choices) (op.Set x) here.stack s)
+      → RanTo E (Stays program (Good program may sets impact) E here s.machine ws) (by_stack program its.at (point_of here ws choices) (op.Set x) here.stack s)
   set_goes v rest so =
-      subst (λ stack. RanTo E (Stays program (Good program may sets impact) E (record here { stack = stack }) ws)
+      subst (λ stack. RanTo E (Stays program (Good program may sets impact) E (record here { stack = stack }) s.machine ws)
       (by_stack program its.at (point_of (record here { stack = stack }) ws choices) (op.Set x) stack s)) (sym so) shown
     where
       now : Here
       now = record here { stack = v ∷ rest }
 
-      shown : RanTo E (Stays program (Good program may sets impact) E (record here { stack = v ∷ rest }) ws)
+      shown : RanTo E (Stays program (Good program may sets impact) E (record here { stack = v ∷ rest }) s.machine ws)
           (by_stack program its.at (point_of (record here { stack = v ∷ rest }) ws choices) (op.Set x) (v ∷ rest) s)
       shown =
           operates_good program may sets impact (record here { stack = v ∷ rest }) ws its (set x) 1 s.machine

@@ -76,7 +76,7 @@ module _ (program : CodeProgram) (may : ℕ → May) (sets : ℕ → ℕ → Boo
 
   -- the call goes on
   abbrev GoesOn : Point → State → Type 0
-  GoesOn = Stays program (Good program may sets impact) E here ws
+  GoesOn = Stays program (Good program may sets impact) E here s.machine ws
 
   -- the machine after a decision
   abbrev after_shift : Powers → Machine
@@ -149,7 +149,6 @@ module _ (program : CodeProgram) (may : ℕ → May) (sets : ℕ → ℕ → Boo
       by_powers it true so within = (
         suc here.at,
         here.stack,
-        λ k. here.lasting k && steady_in s.machine (after_shift (powers_of it)) k,
         choices,
         refl,
         shift_good place is (powers_of it) within,

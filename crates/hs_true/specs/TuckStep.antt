@@ -48,7 +48,7 @@ module _ (program : CodeProgram) (may : ℕ → May) (sets : ℕ → ℕ → Boo
 
   -- the call goes on
   abbrev GoesOn : Point → State → Type 0
-  GoesOn = Stays program (Good program may sets impact) E here ws
+  GoesOn = Stays program (Good program may sets impact) E here s.machine ws
 
   -- the three values of the top, and what is below them
   abbrev tucked : Value → Value → List Value → List Value

@@ -68,7 +68,7 @@ module _ (program : CodeProgram) (may : ℕ → May) (sets : ℕ → ℕ → Boo
 
   -- the call goes on
   abbrev GoesOn : Point → State → Type 0
-  GoesOn = Stays program (Good program may sets impact) E here ws
+  GoesOn = Stays program (Good program may sets impact) E here s.machine ws
 
   -- one value at least
   one_value : (stack : List Value) → holds 1 stack ≡ true → (v : Value) × (rest : List Value) × (stack ≡ v ∷ rest)

@@ -168,9 +168,9 @@ module _ (program : CodeProgram) (may : ℕ → May) (sets : ℕ → ℕ → Boo
       → ((g : ℕ) → sets here.fn g ≡ false → slice_get after.globals g ≡ slice_get machine.globals g)
       × SoundAt (scope_of program here.function) here.function.code impact (since_of may sets here.fn ws) its here machine
       (moved here (suc here.at) (v ∷ below count here.stack) (λ k. here.lasting k && steady_in machine after k)) after)
-      → RanTo E (Stays program (Good program may sets impact) E here ws) (operates program at (point_of here ws choices) count operation s)
+      → RanTo E (Stays program (Good program may sets impact) E here machine ws) (operates program at (point_of here ws choices) count operation s)
   operates_good E ends choices at s so permits each =
-      subst (λ m. RanTo E (Stays program (Good program may sets impact) E here ws)
+      subst (λ m. RanTo E (Stays program (Good program may sets impact) E here machine ws)
       (then_with (λ value. give (onward (point_of here ws choices) (value ∷ below count here.stack)))
       (ran_at at s (operate program.setting operation values m))))
       (sym so) (by_done (operate program.setting operation values machine) refl)
@@ -181,12 +181,11 @@ module _ (program : CodeProgram) (may : ℕ → May) (sets : ℕ → ℕ → Boo
           subst (Keeps (since (may here.fn)) machine) is (operate_keeps (since (may here.fn)) program.setting operation values machine permits)
 
       by_done : (result : Done Value) → operate program.setting operation values machine ≡ result
-          → RanTo E (Stays program (Good program may sets impact) E here ws)
+          → RanTo E (Stays program (Good program may sets impact) E here machine ws)
           (then_with (λ value. give (onward (point_of here ws choices) (value ∷ below count here.stack))) (ran_at at s result))
       by_done (done v after) is = (
         suc here.at,
         v ∷ below count here.stack,
-        λ k. here.lasting k && steady_in machine after k,
         choices,
         refl,
         good_after v after is (each v after is).0 (each v after is).1
