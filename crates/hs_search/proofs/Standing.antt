@@ -8,6 +8,7 @@ use Rattle.hs_search.specs.Graphs.{FlowGraph, Has, IsFramed}
 use Rattle.hs_search.specs.Judging.{call_of, entry_by, first_entry, link_by, link_of}
 use Rattle.hs_search.specs.Layout.{IsPlaced}
 use Rattle.hs_search.specs.Links.{AreLinked, HasLink, IsAfter, LinkedBy}
+use Rattle.hs_search.specs.Rivals.{IsJoined, IsRival}
 use Rattle.hs_search.specs.Rounds.{Row, entered_by, returned, stepped}
 use Rattle.hs_search.specs.Searching.{nodes_in}
 use Rattle.hs_search.specs.Storing.{node_of, row_of, rows_of}
@@ -56,6 +57,7 @@ record Stands (graph : FlowGraph) (entries : List (Item ℕ)) (rows : List (Item
   pub at_base : slice_get traces base ≡ Some u
   pub own : u.row.node ≡ graph.entry t.row.node
   pub down : t.down ≡ u.down
+  pub low : u.row.level ≡ 0
 
 abbrev AllStand : FlowGraph → List (Item ℕ) → List (Item Reach) → List Trace → ℕ → Type 0
 AllStand graph entries rows traces n = (k : ℕ) (it : Item Reach) → k < n → slice_get rows k ≡ Some it → Stands graph entries rows traces k it
@@ -72,13 +74,14 @@ stands_more graph entries rows traces more n it s = record {
   at_base = get_left traces more s.base s.u s.at_base;
   own = s.own;
   down = s.down;
+  low = s.low;
 }
 
 -- it begins its call, or that row has a trace
 abbrev Base : FlowGraph → List Trace → Trace → Type 0
 Base graph traces t =
-    (graph.entry t.row.node ≡ t.row.node)
-    ⊎ ((b : ℕ) × (u : Trace) × (slice_get traces b ≡ Some u) × (u.row.node ≡ graph.entry t.row.node) × (t.down ≡ u.down))
+    ((graph.entry t.row.node ≡ t.row.node) × (t.row.level ≡ 0))
+    ⊎ ((b : ℕ) × (u : Trace) × (slice_get traces b ≡ Some u) × (u.row.node ≡ graph.entry t.row.node) × (t.down ≡ u.down) × (u.row.level ≡ 0))
 
 abbrev IsNew : FlowGraph → List (Item ℕ) → List (Item Reach) → List Trace → Item Reach → ℕ → ℕ → ℕ → Type 0
 IsNew graph entries rows traces it up last level =
@@ -109,7 +112,7 @@ new_trace graph framed entries rows placed traces n all it linked = by it.value.
           trace_on s.t y,
           ap (λ r. stepped r y) its.3 ∙ made,
           (s.t, y, s.there, step', ap (λ (r : Row). r.node) (sym made), refl),
-          inr (s.base, s.u, s.at_base, s.own ∙ sym (framed.by_step s.t.row.node y step'), s.down),
+          inr (s.base, s.u, s.at_base, s.own ∙ sym (framed.by_step s.t.row.node y step'), s.down, s.low),
         )
     after up zero x is at (inr (b, enter, made)) =
         let its = found up x at in
@@ -119,14 +122,14 @@ new_trace graph framed entries rows placed traces n all it linked = by it.value.
           trace_in s.t b,
           ap (λ r. entered_by r b) its.3 ∙ made,
           (s.t, b, s.there, enter', begins, ap (λ (r : Row). r.node) (sym made), refl),
-          inl begins,
+          inl (begins, refl),
         )
     after up (suc level) x is at (inr (b, enter, made)) = absurd (let level : 0 ≡ suc level = ap (λ (r : Row). r.level) made ∙ is in cc)
 
     by : (up last level : ℕ) → it.value.level ≡ level → LinkedBy graph (take n (rows_of entries rows)) up last (row_of entries it.value)
         → IsNew graph entries rows traces it up last level
     by zero zero zero is linked =
-        (first_trace graph, linked, (refl, ap (λ (r : Row). r.node) (sym linked), refl), inl framed.at_start)
+        (first_trace graph, linked, (refl, ap (λ (r : Row). r.node) (sym linked), refl), inl (framed.at_start, refl))
     by zero zero (suc level) is linked = absurd (let wrong : 0 ≡ suc level = ap (λ (r : Row). r.level) linked ∙ is in cc)
     by zero (suc last) level is linked = absurd linked
     by (suc up) zero level is linked = after up level linked.0 is linked.1 linked.2
@@ -147,7 +150,7 @@ new_trace graph framed entries rows placed traces n all it linked = by it.value.
           trace_back c.t e.t (graph.entry e.t.row.node) back.0,
           ap (λ r. returned r e.t.row back.0) caller.3 ∙ ap (λ r. returned linked.0 r back.0) end.3 ∙ back.3,
           (c.t, e.t, graph.entry e.t.row.node, back.0, c.there, e.there, enter, refl, leave, call, refl),
-          inr (c.base, c.u, c.at_base, c.own ∙ sym (framed.by_return c.t.row.node e.t.row.node back.0 leave), c.down),
+          inr (c.base, c.u, c.at_base, c.own ∙ sym (framed.by_return c.t.row.node e.t.row.node back.0 leave), c.down, c.low),
         )
 
 -- ---- all rows
@@ -164,7 +167,7 @@ stands_last graph entries rows traces n it long new = by new.3
     made = makes_more graph traces (new.0 ∷ []) it.value.origin.up (link_of it.value) (first_entry entries rows it.value) new.0 new.2
 
     by : Base graph traces new.0 → Stands graph entries rows (traces ++ new.0 ∷ []) n it
-    by (inl own) = record {
+    by (inl (own, low)) = record {
       t = new.0;
       there = last;
       row = new.1;
@@ -174,8 +177,9 @@ stands_last graph entries rows traces n it long new = by new.3
       at_base = last;
       own = sym own;
       down = refl;
+      low = low;
     }
-    by (inr (b, u, at, own, down)) = record {
+    by (inr (b, u, at, own, down, low)) = record {
       t = new.0;
       there = last;
       row = new.1;
@@ -185,15 +189,17 @@ stands_last graph entries rows traces n it long new = by new.3
       at_base = get_left traces (new.0 ∷ []) b u at;
       own = own;
       down = down;
+      low = low;
     }
 
-stand_to : (graph : FlowGraph) → IsFramed graph → (most : ℕ) (entries : List (Item ℕ)) (rows : List (Item Reach))
-    → ((n : ℕ) (it : Item Reach) → slice_get rows n ≡ Some it → IsPlaced graph entries it.value) → AreLinked graph most entries rows
-    → ((n : ℕ) (it : Item Reach) → slice_get rows n ≡ Some it → it.value.length ≤ most) → (n : ℕ) → n ≤ length rows
+stand_to : (graph : FlowGraph) → IsFramed graph → (entries : List (Item ℕ)) (rows : List (Item Reach))
+    → ((n : ℕ) (it : Item Reach) → slice_get rows n ≡ Some it → IsPlaced graph entries it.value)
+    → ((n : ℕ) (it : Item Reach) → slice_get rows n ≡ Some it → HasLink graph (take n (rows_of entries rows)) entries it.value)
+    → (n : ℕ) → n ≤ length rows
     → (traces : List Trace) × (length traces ≡ n) × AllStand graph entries rows traces n
-stand_to graph framed most entries rows placed linked short zero within = ([], refl, λ k it below at. absurd (omega arith))
-stand_to graph framed most entries rows placed linked short (suc n) within =
-    more (stand_to graph framed most entries rows placed linked short n (omega arith)) (get_there rows n (omega arith))
+stand_to graph framed entries rows placed linked zero within = ([], refl, λ k it below at. absurd (omega arith))
+stand_to graph framed entries rows placed linked (suc n) within =
+    more (stand_to graph framed entries rows placed linked n (omega arith)) (get_there rows n (omega arith))
   where
     more : (traces : List Trace) × (length traces ≡ n) × AllStand graph entries rows traces n → (it : Item Reach) × (slice_get rows n ≡ Some it)
         → (traces : List Trace) × (length traces ≡ suc n) × AllStand graph entries rows traces (suc n)
@@ -204,7 +210,7 @@ stand_to graph framed most entries rows placed linked short (suc n) within =
     )
       where
         new : IsNew graph entries rows traces it it.value.origin.up it.value.origin.last it.value.level
-        new = new_trace graph framed entries rows placed traces n all it (linked n it there (short n it there))
+        new = new_trace graph framed entries rows placed traces n all it (linked n it there)
 
         pick : (k : ℕ) (its : Item Reach) → k < suc n → slice_get rows k ≡ Some its → (k ≡ n) ⊎ (k < n) ⊎ (n < k)
             → Stands graph entries rows (traces ++ new.0 ∷ []) k its
@@ -215,31 +221,37 @@ stand_to graph framed most entries rows placed linked short (suc n) within =
         pick k its below at (inr (inl less)) = stands_more graph entries rows traces (new.0 ∷ []) k its (all k its less at)
         pick k its below at (inr (inr past)) = absurd (omega arith)
 
--- each row of the search stands for a trace
-pub traced_linked : (graph : FlowGraph) → IsFramed graph → (most : ℕ) (entries : List (Item ℕ)) (rows : List (Item Reach))
-    → IsOnce (nodes_in (rows_of entries rows)) → ((n : ℕ) (it : Item Reach) → slice_get rows n ≡ Some it → IsPlaced graph entries it.value)
-    → AreLinked graph most entries rows → ((n : ℕ) (it : Item Reach) → slice_get rows n ≡ Some it → it.value.length ≤ most)
-    → (traces : List Trace) × AreTraced graph entries rows traces
-traced_linked graph framed most entries rows once placed linked short =
-    of (stand_to graph framed most entries rows placed linked short (length rows) (omega arith))
+-- each row of the search stands for a trace, and an offer after them does
+pub traced_joined : (graph : FlowGraph) → IsFramed graph → (entries : List (Item ℕ)) (rows all : List (Item Reach)) → IsJoined graph entries rows all
+    → (traces : List Trace) × AreTraced graph entries all traces
+traced_joined graph framed entries rows all joined =
+    of (stand_to graph framed entries all joined.placed joined.linked (length all) (omega arith))
   where
-    of : (traces : List Trace) × (length traces ≡ length rows) × AllStand graph entries rows traces (length rows)
-        → (traces : List Trace) × AreTraced graph entries rows traces
-    of (traces, long, all) = (
+    of : (traces : List Trace) × (length traces ≡ length all) × AllStand graph entries all traces (length all)
+        → (traces : List Trace) × AreTraced graph entries all traces
+    of (traces, long, stand) = (
       traces,
       record {
-        has = λ n it there. let s = all n it (get_within rows n it there) there in (s.t, s.there, s.made);
+        has = λ n it there. let s = stand n it (get_within all n it there) there in (s.t, s.there, s.made);
         shared = λ n m t u at other same. shared n m t u at other same;
       },
     )
       where
         standing : (n : ℕ) (t : Trace) → slice_get traces n ≡ Some t
-            → (it : Item Reach) × (slice_get rows n ≡ Some it) × (s : Stands graph entries rows traces n it) × (s.t ≡ t)
+            → (it : Item Reach) × (slice_get all n ≡ Some it) × (s : Stands graph entries all traces n it) × (s.t ≡ t)
         standing n t at =
-            let within : n < length rows = subst (λ k. n < k) long (get_within traces n t at) in
-            let its = get_there rows n within in
-            let s = all n its.0 within its.1 in
+            let within : n < length all = subst (λ k. n < k) long (get_within traces n t at) in
+            let its = get_there all n within in
+            let s = stand n its.0 within its.1 in
             (its.0, its.1, s, some_is (sym s.there ∙ at))
+
+        -- what begins a call is no offer
+        in_rows : (n : ℕ) (it : Item Reach) → slice_get all n ≡ Some it → it.value.level ≡ 0 → slice_get rows n ≡ Some it
+        in_rows n it at low = from (joined.inside n it at)
+          where
+            from : (slice_get rows n ≡ Some it) ⊎ ((n ≡ length rows) × IsRival entries rows it) → slice_get rows n ≡ Some it
+            from (inl there) = there
+            from (inr rival) = absurd (let high = rival.1.level in omega arith)
 
         shared : (n m : ℕ) (t u : Trace) → trace_at traces n ≡ Some t → trace_at traces m ≡ Some u → graph.entry t.row.node ≡ graph.entry u.row.node
             → t.down ≡ u.down
@@ -254,10 +266,11 @@ traced_linked graph framed most entries rows once placed linked short =
             let base' = standing r.base r.u r.at_base in
             let node : s.u.row.node ≡ r.u.row.node =
             s.own ∙ ap (λ (x : Trace). graph.entry x.row.node) one.3 ∙ same ∙ ap (λ (x : Trace). graph.entry x.row.node) (sym two.3) ∙ sym r.own in
-            let mine : s.u.row.node ≡ node_of entries base.0.value =
-            ap (λ (x : Trace). x.row.node) (sym base.3) ∙ ap (λ (x : Row). x.node) base.2.row in
-            let theirs : r.u.row.node ≡ node_of entries base'.0.value =
-            ap (λ (x : Trace). x.row.node) (sym base'.3) ∙ ap (λ (x : Row). x.node) base'.2.row in
-            let place = one_place entries rows once s.base r.base base.0 base'.0 base.1 base'.1 (sym mine ∙ node ∙ theirs) in
+            let mine : s.u.row ≡ row_of entries base.0.value = ap (λ (x : Trace). x.row) (sym base.3) ∙ base.2.row in
+            let theirs : r.u.row ≡ row_of entries base'.0.value = ap (λ (x : Trace). x.row) (sym base'.3) ∙ base'.2.row in
+            let place = one_place entries rows joined.once s.base r.base base.0 base'.0
+            (in_rows s.base base.0 base.1 (ap (λ (x : Row). x.level) (sym mine) ∙ s.low))
+            (in_rows r.base base'.0 base'.1 (ap (λ (x : Row). x.level) (sym theirs) ∙ r.low))
+            (ap (λ (x : Row). x.node) (sym mine) ∙ node ∙ ap (λ (x : Row). x.node) theirs) in
             let trace : s.u ≡ r.u = some_is (sym s.at_base ∙ subst (λ k. slice_get traces k ≡ Some r.u) (sym place) r.at_base) in
             ap (λ (x : Trace). x.down) (sym one.3) ∙ s.down ∙ ap (λ (x : Trace). x.down) trace ∙ sym r.down ∙ ap (λ (x : Trace). x.down) two.3

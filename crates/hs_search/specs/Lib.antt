@@ -14,6 +14,7 @@ pub mod Links
 pub mod Listing
 pub mod Meeting
 pub mod Orders
+pub mod Rivals
 pub mod Rounds
 pub mod Searching
 pub mod Sorting
