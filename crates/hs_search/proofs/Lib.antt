@@ -1,4 +1,5 @@
 mod Adding
+mod Basing
 mod Beginning
 mod Calling
 mod Closing

@@ -3,15 +3,13 @@ use Rattle.std.proofs.Common.{◌≡◌, ◌<◌, ◌≤◌, ℕ, zero, suc, Lis
 use Rattle.std.proofs.lemmas.Bool.{cases_order}
 use Rattle.hs_search.proofs.Listing.{get_end, get_left, get_there, get_within, some_is}
 use Rattle.hs_search.proofs.Parting.{one_place, row_there, take_below, take_there}
-use Rattle.hs_search.specs.Chains.{IsOnce}
 use Rattle.hs_search.specs.Graphs.{FlowGraph, Has, IsFramed}
 use Rattle.hs_search.specs.Judging.{call_of, entry_by, first_entry, link_by, link_of}
 use Rattle.hs_search.specs.Layout.{IsPlaced}
-use Rattle.hs_search.specs.Links.{AreLinked, HasLink, IsAfter, LinkedBy}
+use Rattle.hs_search.specs.Links.{HasLink, IsAfter, LinkedBy}
 use Rattle.hs_search.specs.Rivals.{IsJoined, IsRival}
 use Rattle.hs_search.specs.Rounds.{Row, entered_by, returned, stepped}
-use Rattle.hs_search.specs.Searching.{nodes_in}
-use Rattle.hs_search.specs.Storing.{node_of, row_of, rows_of}
+use Rattle.hs_search.specs.Storing.{row_of, rows_of}
 use Rattle.hs_search.specs.Traces.{Trace, first_trace, trace_on, trace_in, trace_back}
 use Rattle.hs_search.specs.Tracing.{AreTraced, Makes, trace_at}
 use Rattle.hs_search.specs.declared.graph.Node.{Node}
