@@ -3,6 +3,7 @@ mod Basing
 mod Beginning
 mod Calling
 mod Closing
+mod Comparing
 mod Deciding
 mod Entering
 mod Expanding

@@ -1,17 +1,22 @@
 -- Rows, and after them an offer to a node that has one of them: both chains are compared before one of them stays (own). Rows are counted from 1.
 --     IsRival entries rows it       the offer is not the first row of a call, and has another link than the row of its node
 --     IsJoined graph entries rows all   all are these rows, or these rows and such an offer
+--     with_offer rows offer         these rows, and the offer after them if there is one
+--     OfferFirst, RowFirst          which of the two chains comes first
 --     size_of all n                 the length of the row of that number
 --     place_of nodes x              the number of the node, or 0 if it is not in the list
 --     base_of graph entries rows all n  the row with which the call of that row begins
-use Rattle.std.specs.Prelude.{◌≡◌, ◌≢◌, ◌<◌, ◌⊎◌, ℕ, zero, suc, Bool, true, false, List, [], ◌∷◌, Option, Some, None, length, slice_get, take}
+use Rattle.std.specs.Prelude.{◌≡◌, ◌≢◌, ◌<◌, ◌≤◌, ◌⊎◌, ℕ, zero, suc, Bool, true, false, List, [], ◌∷◌, ◌++◌, Option, Some, None, length, slice_get, take}
 use Rattle.hs_search.specs.Chains.{IsOnce}
+use Rattle.hs_search.specs.Deciding.{Decides}
 use Rattle.hs_search.specs.Graphs.{FlowGraph}
+use Rattle.hs_search.specs.Judging.{Told}
 use Rattle.hs_search.specs.Laws.Nodes.{same_node}
 use Rattle.hs_search.specs.Layout.{IsPlaced}
 use Rattle.hs_search.specs.Links.{HasLink}
+use Rattle.hs_search.specs.Meeting.{AreLower}
 use Rattle.hs_search.specs.Searching.{nodes_in}
-use Rattle.hs_search.specs.Storing.{node_of, rows_of}
+use Rattle.hs_search.specs.Storing.{AllKnown, node_of, rows_of}
 use Rattle.hs_search.specs.declared.graph.Node.{Node}
 use Rattle.hs_search.specs.declared.lists.Item.{Item}
 use Rattle.hs_search.specs.declared.reach.Reach.{Reach}
@@ -29,6 +34,42 @@ pub record IsJoined (graph : FlowGraph) (entries : List (Item ℕ)) (rows all : 
   pub linked : (n : ℕ) (it : Item Reach) → slice_get all n ≡ Some it → HasLink graph (take n (rows_of entries all)) entries it.value
   pub inside : (n : ℕ) (it : Item Reach) → slice_get all n ≡ Some it
       → (slice_get rows n ≡ Some it) ⊎ ((n ≡ length rows) × IsRival entries rows it)
+
+-- ---- both chains
+
+-- the offer as an item
+abbrev pub offer_item : Reach → Item Reach
+offer_item offer = record { key = offer.at; link = 0; value = offer }
+
+abbrev pub with_offer : List (Item Reach) → Option Reach → List (Item Reach)
+with_offer rows None = rows
+with_offer rows (Some offer) = rows ++ offer_item offer ∷ []
+
+-- the stored row at a place
+abbrev pub IsReachAt : List (Item Reach) → ℕ → Reach → Type 0
+IsReachAt all n reach = (it : Item Reach) × (slice_get all n ≡ Some it) × (it.value ≡ reach)
+
+-- of two first rows of a call the chains of their callers are compared, and else those of the row of that number and of the offer
+abbrev pub OfferFirst : ℕ → List (Item ℕ) → List (Item Reach) → Reach → ℕ → Reach → Type 0
+OfferFirst zero entries rows offer n row = Told entries rows offer.origin.up row.origin.up
+OfferFirst (suc level) entries rows offer n row = Told entries (with_offer rows (Some offer)) (suc (length rows)) (suc n)
+
+abbrev pub RowFirst : ℕ → List (Item ℕ) → List (Item Reach) → Reach → ℕ → Reach → Type 0
+RowFirst zero entries rows offer n row = Told entries rows row.origin.up offer.origin.up
+RowFirst (suc level) entries rows offer n row = Told entries (with_offer rows (Some offer)) (suc n) (suc (length rows))
+
+-- it is told for certain
+abbrev pub IsDecided : ℕ → List (Item ℕ) → List (Item Reach) → Reach → ℕ → Reach → Type 0
+IsDecided zero entries rows offer n row = Decides entries rows offer.origin.up row.origin.up
+IsDecided (suc level) entries rows offer n row = Decides entries (with_offer rows (Some offer)) (suc (length rows)) (suc n)
+
+-- what is asked of an offer that is compared
+pub record IsOffered (entries : List (Item ℕ)) (rows : List (Item Reach)) (offer : Reach) : Type 0 where
+  pub lower : AreLower rows
+  pub known : AllKnown (length entries) rows
+  pub call : offer.call < length entries
+  pub up : offer.origin.up ≤ length rows
+  pub last : offer.origin.last ≤ length rows
 
 -- ---- lengths and bases
 

@@ -27,7 +27,7 @@ pub(crate) struct Lists<T: Copy> {
     /// The heads and links say what they should.
     pub ghost right: { IsIndex heads.items items.items },
     /// Numbers of items fit.
-    pub ghost few: { length items.items < 2 ^ 32 },
+    pub ghost few: { suc (length items.items) < 2 ^ 32 },
 }
 
 impl<T: Copy> Lists<T> {
@@ -77,7 +77,7 @@ impl<T: Copy> Lists<T> {
         &self.items[number]
     }
 
-    /// Adds an item. With 2^32 - 1 items there is no memory for another.
+    /// Adds an item. With 2^32 - 2 items there is no memory for another.
     pub(crate) fn push(&mut self, key: u32, value: T) -> Result<(), NoMemory>
         requires known { key < length self.old.heads.items }
         ensures items { OnOk result (self.new.items.items ≡ self.old.items.items ++ (record { key = key; link = last_in key self.old.items.items; value = value }) ∷ []) }
@@ -85,7 +85,7 @@ impl<T: Copy> Lists<T> {
         ensures wide { length self.new.heads.items ≡ length self.old.heads.items }
         ensures one { length self.new.items.items ≤ suc (length self.old.items.items) }
     {
-        if self.items.len() >= u32::MAX as usize {
+        if self.items.len() >= u32::MAX as usize - 1 {
             return Err(NoMemory);
         }
         let link = self.last(key);
