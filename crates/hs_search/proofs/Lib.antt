@@ -21,6 +21,7 @@ mod Past
 mod PuttingOff
 mod Rounding
 mod Rows
+mod Setting
 mod Standing
 mod Storing
 mod Taking

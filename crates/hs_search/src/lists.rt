@@ -1,7 +1,8 @@
 //! Items by a key, the newest first. `specs/Listing.antt` says what is kept.
 
-ghost use Rattle.std.specs.Prelude.{◌≡◌, ◌<◌, ◌≤◌, ◌++◌, ◌∷◌, ◌^◌, [], length, slice_get, Some, suc, OnOk, OnErr, IfOk};
+ghost use Rattle.std.specs.Prelude.{◌≡◌, ◌<◌, ◌≤◌, ◌++◌, ◌∷◌, ◌^◌, [], length, slice_get, slice_set, Some, suc, OnOk, OnErr, IfOk};
 ghost use Rattle.hs_search.specs.Listing.{IsIndex, last_in};
+ghost use Rattle.hs_search.specs.declared.lists.Item.{Item};
 
 use hs_base::NoMemory;
 use std::alloc::Global;
@@ -92,6 +93,20 @@ impl<T: Copy> Lists<T> {
         self.items.push(Item { key, link, value })?;
         self.heads[key as usize] = self.items.len() as u32;
         Ok(())
+    }
+
+    /// Replaces what the item of that number lists.
+    pub(crate) fn set(&mut self, number: usize, value: T)
+        requires known { number < length self.old.items.items }
+        ensures items { (it : Item T) → slice_get self.old.items.items number ≡ Some it → self.new.items.items ≡ slice_set self.old.items.items number (record it { value = value }) }
+        ensures wide { self.new.heads.items ≡ self.old.heads.items }
+    {
+        let item = *self.item(number);
+        self.items[number] = Item {
+            key: item.key,
+            link: item.link,
+            value,
+        };
     }
 
     /// Adds keys, up to that one.
