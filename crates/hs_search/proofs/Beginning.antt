@@ -12,7 +12,7 @@ use Rattle.hs_search.specs.Graphs.{FlowGraph, Has, IsFramed}
 use Rattle.hs_search.specs.Layout.{IsCalls, IsLaidOut, IsPlaced}
 use Rattle.hs_search.specs.Links.{HasLink}
 use Rattle.hs_search.specs.Rounds.{Row, first_row}
-use Rattle.hs_search.specs.Searching.{HasExpanded, IsBetween, IsPast, IsTakenAll, IsWaiting, Stops, Stored, TakesAll, Waits}
+use Rattle.hs_search.specs.Searching.{AreFresh, HasExpanded, IsBetween, IsPast, IsTakenAll, IsWaiting, Stops, Stored, TakesAll, Waits}
 use Rattle.hs_search.specs.Storing.{AllListedBelow, call_at, row_of}
 use Rattle.hs_search.specs.declared.graph.Node.{Node}
 use Rattle.hs_search.specs.declared.lists.Item.{Item}
@@ -121,10 +121,11 @@ far_below graph room most next latest rows book near far width is between n it t
     subst (λ w. it.value.at < w) (sym is) (between.far_right n it there).placed.within
 
 pub laid_taken : (graph : FlowGraph) (room most : ℕ) (Offers : Reach → Type 0) (old mid : List (Item Reach)) (book : Book) → most ≤ 1000000
-    → IsLaidOut graph old book (length old) → ((s : Reach) → Offers s → IsPlaced graph book.entries s) → IsTakenAll room most Offers old mid
-    → (length old ≤ length mid) × IsLaidOut graph mid book (length old)
-laid_taken graph room most Offers old mid book short laid placed taken =
-    let its = grown graph room most book (length old) taken.taken old mid short (omega arith) laid (λ s has. placed s (taken.each s has)) taken.taking in
+    → IsLaidOut graph old book (length old) → AreFresh most old Offers → ((s : Reach) → Offers s → IsPlaced graph book.entries s)
+    → IsTakenAll room most Offers old mid → (length old ≤ length mid) × IsLaidOut graph mid book (length old)
+laid_taken graph room most Offers old mid book short laid fresh placed taken =
+    let its = grown graph room most book (length old) taken.taken old mid short (omega arith) laid (λ s has. placed s (taken.each s has))
+    (λ s has. fresh s (taken.each s has)) taken.taking in
     (subst (λ xs. length old ≤ length xs) (sym its.more) (longer its.layer old), its.laid_out)
   where
     longer : (layer xs : List (Item Reach)) → length xs ≤ length (xs ++ layer)

@@ -27,3 +27,4 @@ mod Storing
 mod Taking
 mod Telling
 mod Tracing
+mod Tying

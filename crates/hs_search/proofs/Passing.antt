@@ -1,14 +1,14 @@
 -- A round of the search, and a pass past the most.
-use Rattle.std.proofs.Common.{◌≡◌, ◌<◌, ◌≤◌, ℕ, suc, List, [], ◌∷◌, ◌++◌, inl, inr, ◌⊎◌, refl, ap, sym, ◌∙◌, Some, subst, arith, length, slice_get, map, true}
+use Rattle.std.proofs.Common.{◌≡◌, ◌<◌, ◌≤◌, ℕ, suc, List, [], ◌∷◌, ◌++◌, inl, inr, ◌⊎◌, refl, ap, sym, ◌∙◌, Some, subst, arith, length, slice_get, map, true, ◌≢◌}
 use Rattle.std.proofs.lemmas.Bool.{cases_order}
 use Rattle.hs_search.proofs.Calling.{placed_kept}
 use Rattle.hs_search.proofs.Closing.{built_within, candidate_within}
 use Rattle.hs_search.proofs.Expansions.{row_kept, rows_at, rows_kept}
 use Rattle.hs_search.proofs.Linking.{link_kept, link_more, linked_next}
-use Rattle.hs_search.specs.Laws.Membership.{Has-left, Has-right, Has-either}
+use Rattle.hs_search.specs.Laws.Membership.{Has-left, Has-right, Has-either, Has-map}
 use Rattle.hs_search.proofs.PuttingOff.{key_or}
 use Rattle.hs_search.proofs.Rounding.{behind, ready_next, ready_same}
-use Rattle.hs_search.proofs.Adding.{past_or, rows_more}
+use Rattle.hs_search.proofs.Adding.{get_Has, past_or, rows_more}
 use Rattle.hs_search.proofs.Taking.{IsGrown, grown, too_many}
 use Rattle.hs_search.specs.Bringing.{Book}
 use Rattle.hs_search.specs.Chains.{IsOnce, IsTooMany}
@@ -16,8 +16,8 @@ use Rattle.hs_search.specs.Graphs.{FlowGraph, Has, IsFramed}
 use Rattle.hs_search.specs.Layout.{IsPlaced}
 use Rattle.hs_search.specs.Links.{HasLink}
 use Rattle.hs_search.specs.Rounds.{Row, AllBrought, IsReady, IsTaken, IsWithin, Known}
-use Rattle.hs_search.specs.Searching.{AreBelow, HasExpanded, IsBetween, IsFarItem, IsPutOff, IsTakenAll, IsWaiting, Stored, Waits, key_of, nodes_in}
-use Rattle.hs_search.specs.Storing.{IsFull, capped, capped_if, node_of, row_of, rows_of}
+use Rattle.hs_search.specs.Searching.{AreBelow, AreFresh, HasExpanded, IsBetween, IsFarItem, IsPutOff, IsTakenAll, IsWaiting, Stored, Waits, key_of, nodes_in}
+use Rattle.hs_search.specs.Storing.{IsFull, IsListed, capped, capped_if, node_of, row_of, rows_of}
 use Rattle.hs_search.specs.declared.lists.Item.{Item}
 use Rattle.hs_search.specs.declared.reach.Reach.{Reach}
 
@@ -27,6 +27,31 @@ map_long f (x ∷ xs) = ap (λ n. suc n) (map_long f xs)
 
 pub rows_long : (entries : List (Item ℕ)) (rows : List (Item Reach)) → length (rows_of entries rows) ≡ length rows
 rows_long entries rows = map_long (λ (it : Item Reach). row_of entries it.value) rows
+
+-- ---- offers that are taken
+
+-- they are longer than the rows
+pub waits_fresh : (graph : FlowGraph) (room most next latest : ℕ) (rows : List (Item Reach)) (book : Book) (near : List Reach) (far : List (Item Reach))
+    (key : ℕ) → next ≤ key → IsBetween graph room most next latest rows book near far → AreFresh most rows (Waits near far key)
+waits_fresh graph room most next latest rows book near far key low between s waits short n it at = by waits
+  where
+    early : it.value.length < next
+    early =
+        between.short (row_of book.entries it.value)
+        (Has-map (λ (i : Item Reach). row_of book.entries i.value) rows it (get_Has rows n it at))
+
+    far_long : (listed : IsListed far key s) → ((most < s.length) × (key_of most s.length ≡ suc most)) ⊎ ((s.length ≤ most) × (key_of most s.length ≡ s.length))
+        → next ≤ s.length
+    far_long listed (inl past) = absurd (let more = past.0 in omega arith)
+    far_long listed (inr within) =
+        let its = between.far_right listed.n listed.it listed.there in
+        let is : key_of most s.length ≡ key = sym (its.key ∙ ap (λ (r : Reach). key_of most r.length) listed.value) ∙ listed.own in
+        let same = within.1 in
+        omega arith
+
+    by : Has near s ⊎ IsListed far key s → it.value.length ≢ s.length
+    by (inl has) = λ is. absurd (let less = early in let long = between.near_long s has in omega arith)
+    by (inr listed) = λ is. absurd (let less = early in let long = far_long listed (key_or most s.length) in omega arith)
 
 -- ---- a round
 
@@ -63,7 +88,8 @@ module _ (graph : FlowGraph) (framed : IsFramed graph) (room most next latest la
 
   grows_to : IsGrown graph room most book (length old) taken.taken old mid
   grows_to =
-      grown graph room most book (length old) taken.taken old mid short (omega arith) between.laid_out (λ s has. waits_placed s (taken.each s has)) taken.taking
+      grown graph room most book (length old) taken.taken old mid short (omega arith) between.laid_out (λ s has. waits_placed s (taken.each s has))
+      (λ s has. waits_fresh graph room most next latest old book near far next (omega arith) between s (taken.each s has)) taken.taking
 
   mid_is : rows_of book.entries mid ≡ rows_of book.entries old ++ rows_of book.entries grows_to.layer
   mid_is = ap (rows_of book.entries) grows_to.more ∙ rows_more book.entries old grows_to.layer
@@ -263,7 +289,8 @@ pub between_full : (graph : FlowGraph) → IsFramed graph → (room most next la
     (far : List (Item Reach)) → most ≤ 1000000 → IsBetween graph room most next latest rows book near far
     → IsFull room most (Waits near far next) rows → IsTooMany graph room
 between_full graph framed room most next latest rows book near far short between full =
-    too_many graph room most book (length rows) (Waits near far next) rows short (omega arith) between.laid_out placed sound within between.once full
+    too_many graph room most book (length rows) (Waits near far next) rows short (omega arith) between.laid_out
+    (waits_fresh graph room most next latest rows book near far next (omega arith) between) placed sound within between.once full
   where
     placed : (s : Reach) → Waits near far next s → IsPlaced graph book.entries s
     placed s (inl has) = between.near_placed s has

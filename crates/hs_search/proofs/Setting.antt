@@ -1,9 +1,9 @@
 -- An item of a list is replaced by another one, of the same key.
-use Rattle.std.proofs.Common.{◌≡◌, ◌≢◌, ◌<◌, ◌≤◌, ℕ, zero, suc, ◌-◌, ◌==◌, Bool, List, [], ◌∷◌, ◌++◌, length, take, drop, slice_get, slice_set, Some, inl, inr, ◌⊎◌, refl, ap, sym, ◌∙◌, subst, arith}
+use Rattle.std.proofs.Common.{◌≡◌, ◌≢◌, ◌<◌, ◌≤◌, ℕ, zero, suc, ◌-◌, ◌==◌, List, [], ◌∷◌, ◌++◌, length, take, drop, slice_get, slice_set, Some, inl, inr, ◌⊎◌, refl, ap, sym, ◌∙◌, subst, arith}
 use Rattle.hs_search.proofs.Hashed.{row_spot, spot_row}
 use Rattle.hs_search.proofs.Listing.{some_is}
 use Rattle.hs_search.specs.Graphs.{Has}
-use Rattle.hs_search.specs.Hashing.{IsHashed, IsHashedRow, count_if, count_in, later_in}
+use Rattle.hs_search.specs.Hashing.{IsHashed, count_if, count_in}
 use Rattle.hs_search.specs.Listing.{IsIndex, last_in, or_first}
 use Rattle.hs_search.specs.Storing.{IsRowOf}
 use Rattle.hs_search.specs.declared.hashing.Spot.{Spot}

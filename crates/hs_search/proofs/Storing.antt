@@ -5,7 +5,7 @@ use Rattle.hs_search.proofs.Listing.{walk_back, walk_own}
 use Rattle.hs_search.specs.Laws.Membership.{Has-left, Has-either, Has-last}
 use Rattle.hs_search.specs.Graphs.{Has}
 use Rattle.hs_search.specs.Listing.{IsIndex, IsWalk, Seen}
-use Rattle.hs_search.specs.Storing.{HasRow, IsListed, IsOther, IsTakenList, Takes, TakesEach, TakesListed, Taking, none_taken, one_known, one_added}
+use Rattle.hs_search.specs.Storing.{HasRow, IsListed, IsOther, IsTakenList, Takes, TakesEach, TakesListed, Taking, none_taken, one_known, one_replaced, one_added}
 use Rattle.hs_search.specs.declared.lists.Item.{Item}
 use Rattle.hs_search.specs.declared.reach.Reach.{Reach}
 use Rattle.hs_search.specs.declared.reach.SearchEnd.{SearchEnd}
@@ -34,7 +34,8 @@ pub taking_more : (room most : ℕ) (offers : List Reach) (reach : Reach) (old m
     → Takes room most reach mid new (Ok done) → Taking room most (offers ++ reach ∷ []) old new
 taking_more room most offers reach old mid new done taking (inl same) =
     subst (Taking room most (offers ++ reach ∷ []) old) (sym same.0) (one_known offers reach old mid taking same.1)
-taking_more room most offers reach old mid new done taking (inr added) = one_added offers reach old mid new taking added
+taking_more room most offers reach old mid new done taking (inr (inl replaced)) = one_replaced offers reach old mid new taking replaced
+taking_more room most offers reach old mid new done taking (inr (inr added)) = one_added offers reach old mid new taking added
 
 pub taking_next : (room most : ℕ) (offers : List Reach) (n : ℕ) (d : Reach) (old mid new : List (Item Reach)) (done : Unit {0}) → n < length offers
     → Taking room most (take n offers) old mid → Takes room most (slice_index_or offers n d) mid new (Ok done) → Taking room most (take (n + 1) offers) old new

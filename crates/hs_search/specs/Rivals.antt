@@ -3,6 +3,7 @@
 --     IsJoined graph entries rows all   all are these rows, or these rows and such an offer
 --     with_offer rows offer         these rows, and the offer after them if there is one
 --     OfferFirst, RowFirst          which of the two chains comes first
+--     Settles entries offer n old new   the row of that number stays, or the offer replaces it
 --     size_of all n                 the length of the row of that number
 --     place_of nodes x              the number of the node, or 0 if it is not in the list
 --     base_of graph entries rows all n  the row with which the call of that row begins
@@ -16,7 +17,7 @@ use Rattle.hs_search.specs.Layout.{IsPlaced}
 use Rattle.hs_search.specs.Links.{HasLink}
 use Rattle.hs_search.specs.Meeting.{AreLower}
 use Rattle.hs_search.specs.Searching.{nodes_in}
-use Rattle.hs_search.specs.Storing.{AllKnown, node_of, rows_of}
+use Rattle.hs_search.specs.Storing.{AllKnown, IsReplaced, node_of, rows_of}
 use Rattle.hs_search.specs.declared.graph.Node.{Node}
 use Rattle.hs_search.specs.declared.lists.Item.{Item}
 use Rattle.hs_search.specs.declared.reach.Reach.{Reach}
@@ -70,6 +71,24 @@ pub record IsOffered (entries : List (Item ℕ)) (rows : List (Item Reach)) (off
   pub call : offer.call < length entries
   pub up : offer.origin.up ≤ length rows
   pub last : offer.origin.last ≤ length rows
+  -- rows of its length come after those that its link names
+  pub after : (n : ℕ) (it : Item Reach) → slice_get rows n ≡ Some it → it.value.length ≡ offer.length → (offer.origin.up ≤ n) × (offer.origin.last ≤ n)
+
+-- of each of these offers, whose lengths are up to the most
+abbrev pub AreOffered : List (Item ℕ) → ℕ → List (Item Reach) → (Reach → Type 0) → Type 0
+AreOffered entries most rows Offers = (s : Reach) → Offers s → IsOffered entries rows s × (s.length ≤ most)
+
+-- the row stays: its chain has another length or the same link, or comes first
+abbrev pub Stays : List (Item ℕ) → List (Item Reach) → Reach → ℕ → Reach → Type 0
+Stays entries rows offer n row =
+    (row.length ≢ offer.length) ⊎ (row.origin ≡ offer.origin)
+    ⊎ (IsDecided offer.level entries rows offer n row → RowFirst offer.level entries rows offer n row)
+
+-- or the offer comes first, and replaces it
+abbrev pub Settles : List (Item ℕ) → Reach → ℕ → List (Item Reach) → List (Item Reach) → Type 0
+Settles entries offer n old new =
+    ((new ≡ old) × ((it : Item Reach) → slice_get old n ≡ Some it → Stays entries old offer n it.value))
+    ⊎ ((is : IsReplaced offer n old new) × OfferFirst offer.level entries old offer n is.row.it.value)
 
 -- ---- lengths and bases
 

@@ -4,7 +4,7 @@
 --     IsWaiting far next s        the offer waits for that round or a later one
 --     IsBetween                   before a round
 --     IsPast                      past the most
-use Rattle.std.specs.Prelude.{◌≡◌, ◌<◌, ◌≤◌, ◌⊎◌, ℕ, suc, nat_lt, Bool, true, false, List, ◌++◌, map, length, slice_get, Some, Result, Ok, Err}
+use Rattle.std.specs.Prelude.{◌≡◌, ◌≢◌, ◌<◌, ◌≤◌, ◌⊎◌, ℕ, suc, nat_lt, Bool, true, false, List, ◌++◌, map, length, slice_get, Some, Result, Ok, Err}
 use Rattle.hs_search.specs.Bringing.{Book}
 use Rattle.hs_search.specs.Chains.{IsOnce, IsTooMany}
 use Rattle.hs_search.specs.Graphs.{FlowGraph, Has}
@@ -45,6 +45,11 @@ abbrev pub TakesAll : ℕ → ℕ → (Reach → Type 0) → List (Item Reach) �
 TakesAll room most Offers old new (Ok _) = IsTakenAll room most Offers old new
 TakesAll room most Offers old new (Err Limit) = IsFull room most Offers old
 TakesAll room most Offers old new (Err NoMemory) = Unit {0}
+
+-- no row has the length of one of these offers, if that is up to the most
+abbrev pub AreFresh : ℕ → List (Item Reach) → (Reach → Type 0) → Type 0
+AreFresh most rows Offers =
+    (s : Reach) → Offers s → s.length ≤ most → (n : ℕ) (it : Item Reach) → slice_get rows n ≡ Some it → it.value.length ≢ s.length
 
 -- those that wait: of the last round, or by their length
 abbrev pub Waits : List Reach → List (Item Reach) → ℕ → Reach → Type 0

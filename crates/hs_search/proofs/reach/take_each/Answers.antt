@@ -1,6 +1,7 @@
 use Rattle.std.proofs.Common.{rules, ◌≡◌, ◌<◌, length, refl, take, ◌∙◌, Err}
 use Rattle.hs_search.specs.Laws.Membership.{Has-index}
 use Rattle.hs_search.proofs.Storing.{each_full, take_Has, taking_next}
+use Rattle.hs_search.proofs.Tying.{if_some, offered_taken}
 use Rattle.hs_search.specs.Storing.{none_taken}
 use Rattle.hs_search.proofs.reach.take_each.Goals as goal
 
@@ -28,3 +29,14 @@ loop-offer-preserved c =
           c.take.new.rows.lists.items.items _ inside c.loop-offer.invariant.taking c.in_ok-take.ensures.taken;
       wide = c.take.ensures.wide ∙ c.loop-offer.invariant.wide;
     }
+
+pub take-requires-clause-offered : goal.take-requires-clause-offered
+take-requires-clause-offered c =
+    let inside : c.loop-offer.offer-index < length c.args.offers.now = search rules in
+    if_some c.args.ties _ _ c.requires.offered (λ calls all.
+    let own = all _ (Has-index c.args.offers.now c.loop-offer.offer-index _ inside) in (
+      offered_taken calls.now.entries.items.items c.args.room c.args.most (take c.loop-offer.offer-index c.args.offers.now)
+          c.args.rows.now.lists.items.items c.loop-offer.rows.lists.items.items c.loop-offer.invariant.taking
+          (λ s has. all s (take_Has c.args.offers.now c.loop-offer.offer-index s has)) _ own.0,
+      own.1,
+    ))

@@ -1,6 +1,7 @@
 use Rattle.std.proofs.Common.{rules, ◌≡◌, ◌<◌, ◌-◌, refl, ◌∙◌, Err, []}
 use Rattle.hs_search.proofs.Listing.{walk_first, walk_own}
 use Rattle.hs_search.proofs.Storing.{taken_first, listed_full, listed_at, from_more}
+use Rattle.hs_search.proofs.Tying.{if_some, offered_taken}
 use Rattle.hs_search.specs.Graphs.{Has}
 use Rattle.hs_search.proofs.reach.take_listed.Goals as goal
 
@@ -37,3 +38,14 @@ offers-preserved c =
     c.item-offer.result.now c.args.rows.now.lists.items.items c.offers.rows.lists.items.items c.take.new.rows.lists.items.items _ c.args.offers.now.right
     c.offers.invariant.walk c.offers.invariant.taken some c.item-offer.ensures c.in_ok-take.ensures.taken in
     record { taken = all.0; walk = all.1; wide = c.take.ensures.wide ∙ c.offers.invariant.wide }
+
+pub take-requires-clause-offered : goal.take-requires-clause-offered
+take-requires-clause-offered c =
+    let some : 0 < c.offers.number = search rules in
+    let own = walk_own c.args.offers.now.items.items c.args.key c.offers.number c.item-offer.result.now c.offers.invariant.walk some c.item-offer.ensures in
+    if_some c.args.ties _ _ c.requires.offered (λ calls all.
+    let its = all _ (listed_at c.args.offers.now.items.items c.args.key (c.offers.number - 1) c.item-offer.result.now c.item-offer.ensures own) in (
+      offered_taken calls.now.entries.items.items c.args.room c.args.most c.offers.invariant.taken.taken c.args.rows.now.lists.items.items
+          c.offers.rows.lists.items.items c.offers.invariant.taken.taking (λ s has. all s (c.offers.invariant.taken.each s has)) _ its.0,
+      its.1,
+    ))
