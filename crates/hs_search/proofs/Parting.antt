@@ -62,7 +62,7 @@ one_place entries (r ∷ rows) once (suc n) (suc m) it its at other is =
 
 -- ---- both rows of a link were made before
 
-lower_by : (graph : FlowGraph) (rows : List Row) (n up last : ℕ) (row : Row) → LinkedBy graph (take n rows) up last row → (up ≤ n) × (last ≤ n)
+pub lower_by : (graph : FlowGraph) (rows : List Row) (n up last : ℕ) (row : Row) → LinkedBy graph (take n rows) up last row → (up ≤ n) × (last ≤ n)
 lower_by graph rows n zero zero row is = (omega arith, omega arith)
 lower_by graph rows n zero (suc last) row is = absurd is
 lower_by graph rows n (suc up) zero row is = (let below = take_below rows n up is.0 is.1 in omega arith, omega arith)
