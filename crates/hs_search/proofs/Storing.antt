@@ -25,7 +25,7 @@ pub record IsTakenFrom (room most : ℕ) (items : List (Item Reach)) (key at : �
 -- ---- several offers
 
 -- nothing is taken at first
-pub taken_first : (room most : ℕ) (items : List (Item Reach)) (key at : ℕ) (old : List (Item Reach))
+unfoldable pub taken_first : (room most : ℕ) (items : List (Item Reach)) (key at : ℕ) (old : List (Item Reach))
     → Seen items key at (λ n it. Has [] it.value) → IsTakenFrom room most items key at old old
 taken_first room most items key at old seen = record { taken = []; taking = none_taken old; each = λ reach has. absurd has; seen = seen }
 
@@ -70,7 +70,7 @@ pub listed_at : (items : List (Item Reach)) (key n : ℕ) (it : Item Reach) → 
 listed_at items key n it there own = record { n = n; it = it; there = there; own = own; value = refl }
 
 -- the walk, with one offer more
-pub from_more : (room most : ℕ) (heads : List ℕ) (items : List (Item Reach)) (key at : ℕ) (it : Item Reach) (old mid new : List (Item Reach)) (done : Unit {0})
+unfoldable pub from_more : (room most : ℕ) (heads : List ℕ) (items : List (Item Reach)) (key at : ℕ) (it : Item Reach) (old mid new : List (Item Reach)) (done : Unit {0})
     → IsIndex heads items → IsWalk items key at → IsTakenFrom room most items key at old mid → 0 < at → slice_get items (at - 1) ≡ Some it
     → Takes room most it.value mid new (Ok done)
     → IsTakenFrom room most items key it.link old new × IsWalk items key it.link × (it.link < at)
@@ -96,7 +96,7 @@ from_more room most heads items key at it old mid new done right walk from some 
     each reach (inr (inr no_more)) own = absurd no_more
 
 -- all are taken
-pub taken_all : (room most : ℕ) (items : List (Item Reach)) (key : ℕ) (old new : List (Item Reach)) → IsTakenFrom room most items key 0 old new
+unfoldable pub taken_all : (room most : ℕ) (items : List (Item Reach)) (key : ℕ) (old new : List (Item Reach)) → IsTakenFrom room most items key 0 old new
     → IsTakenList room most items key old new
 taken_all room most items key old new from = record {
   taken = from.taken;

@@ -1,5 +1,6 @@
 -- Offers that are compared with rows: what is asked of them holds while offers are taken.
-use Rattle.std.proofs.Common.{◌≡◌, ◌≢◌, ◌<◌, ◌≤◌, ◌+◌, ◌⊎◌, inl, inr, ℕ, zero, suc, true, List, [], ◌∷◌, ◌++◌, Option, Some, None, IfSome, length, slice_get, refl, ap, sym, ◌∙◌, subst, arith}
+use Rattle.std.proofs.Common.{◌≡◌, ◌≢◌, ◌<◌, ◌≤◌, ◌+◌, ◌⊎◌, inl, inr, ℕ, zero, suc, true, List, [], ◌∷◌, ◌++◌, Option, Some, None, IfSome, length, slice_get, refl, ap, sym, ◌∙◌, subst, arith, slice_index_or, take, append_assoc, append-nil}
+use Rattle.std.proofs.lemmas.List.{take_more}
 use Rattle.hs_search.proofs.Adding.{past_or}
 use Rattle.hs_search.proofs.Listing.{get_either}
 use Rattle.hs_search.proofs.Parting.{lower_linked}
@@ -7,8 +8,9 @@ use Rattle.hs_search.proofs.Passing.{waits_fresh}
 use Rattle.hs_search.proofs.PuttingOff.{key_or}
 use Rattle.hs_search.proofs.Setting.{set_get, set_length}
 use Rattle.hs_search.specs.Bringing.{Book}
+use Rattle.hs_search.specs.Choices.{Chooses, Choosing, none_chosen, one_chosen, IsChoice}
 use Rattle.hs_search.specs.Graphs.{FlowGraph, Has}
-use Rattle.hs_search.specs.Laws.Membership.{Has-left, Has-last}
+use Rattle.hs_search.specs.Laws.Membership.{Has-left, Has-right, Has-either, Has-last}
 use Rattle.hs_search.specs.Layout.{IsPlaced}
 use Rattle.hs_search.specs.Links.{LinkedBy}
 use Rattle.hs_search.specs.Rivals.{AreOffered, IsOffered}
@@ -196,3 +198,47 @@ waits_offered graph room most next latest rows book near far within between s wa
 pub ended_within : (most next latest : ℕ) (near : List Reach) → (next ≡ suc most) ⊎ ((next ≤ most) × (near ≡ []) × (latest < next)) → next ≤ most + 1
 ended_within most next latest near (inl is) = omega arith
 ended_within most next latest near (inr early) = let low = early.0 in omega arith
+
+-- ---- which row stays
+
+pub if_both : {A : Type 0} (o : Option A) (P Q R : A → Type 0) → IfSome o P → IfSome o Q → ((x : A) → P x → Q x → R x) → IfSome o R
+if_both None P Q R is also so = tt
+if_both (Some x) P Q R is also so = so x is also
+
+pub if_all : {A : Type 0} (o : Option A) (P : A → Type 0) → ((x : A) → P x) → IfSome o P
+if_all None P so = tt
+if_all (Some x) P so = so x
+
+pub choosing_next : (entries : List (Item ℕ)) (room most : ℕ) (offers : List Reach) (n : ℕ) (d : Reach) (old mid new : List (Item Reach)) → n < length offers
+    → Choosing entries room most (take n offers) old mid → Chooses entries room most (slice_index_or offers n d) mid new
+    → Choosing entries room most (take (n + 1) offers) old new
+choosing_next entries room most offers n d old mid new within choosing chooses =
+    subst (λ os. Choosing entries room most os old new) (sym (take_more offers n d within))
+    (one_chosen (take n offers) (slice_index_or offers n d) old mid new choosing chooses)
+
+pub choosing_then : (entries : List (Item ℕ)) (room most : ℕ) (first second : List Reach) (old mid new : List (Item Reach))
+    → Choosing entries room most first old mid → Choosing entries room most second mid new → Choosing entries room most (first ++ second) old new
+choosing_then entries room most first _ old mid _ choosing (none_chosen _) =
+    subst (λ xs. Choosing entries room most xs old mid) (sym (append-nil first)) choosing
+choosing_then entries room most first _ old mid new choosing (one_chosen offers s _ inner _ more chooses) =
+    subst (λ xs. Choosing entries room most xs old new) (append_assoc first offers (s ∷ []))
+    (one_chosen (first ++ offers) s old inner new (choosing_then entries room most first offers old mid inner choosing more) chooses)
+
+-- those of the last round, and those that are listed
+pub choice_waits : (entries : List (Item ℕ)) (room most : ℕ) (near : List Reach) (far : List (Item Reach)) (key : ℕ) (old mid new : List (Item Reach))
+    → Choosing entries room most near old mid → IsChoice entries room most (IsListed far key) mid new
+    → IsChoice entries room most (Waits near far key) old new
+choice_waits entries room most near far key old mid new first second = record {
+  taken = near ++ second.taken;
+  choosing = choosing_then entries room most near second.taken old mid new first second.choosing;
+  each = λ s has. each s (Has-either near second.taken s has);
+  all = λ s is. all s is;
+}
+  where
+    each : (s : Reach) → Has near s ⊎ Has second.taken s → Has near s ⊎ IsListed far key s
+    each s (inl has) = inl has
+    each s (inr has) = inr (second.each s has)
+
+    all : (s : Reach) → Has near s ⊎ IsListed far key s → Has (near ++ second.taken) s
+    all s (inl has) = Has-left near second.taken s has
+    all s (inr is) = Has-right near second.taken s (second.all s is)

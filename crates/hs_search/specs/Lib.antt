@@ -1,6 +1,7 @@
 pub mod Bringing
 pub mod Calling
 pub mod Chains
+pub mod Choices
 pub mod Comparing
 pub mod Deciding
 pub mod Finding

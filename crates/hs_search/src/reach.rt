@@ -1,6 +1,7 @@
 //! Nodes as the search stores them, and the rows of those that are reached. `specs/Storing.antt` says what is stored.
 
-ghost use Rattle.std.specs.Prelude.{◌≡◌, ◌≢◌, ◌<◌, ◌≤◌, ◌⊎◌, ◌^◌, length, true, false, IfSome};
+ghost use Rattle.std.specs.Prelude.{◌≡◌, ◌≢◌, ◌<◌, ◌≤◌, ◌⊎◌, ◌^◌, length, true, false, IfSome, OnOk};
+ghost use Rattle.hs_search.specs.Choices.{Chooses, Choosing, IsChoice};
 ghost use Rattle.hs_search.specs.Graphs.{Has};
 ghost use Rattle.hs_search.specs.Rivals.{AreOffered, IsOffered, Settles};
 ghost use Rattle.hs_search.specs.Storing.{AllBelow, AllListedBelow, IsListed, IsRowOf, Takes, TakesEach, TakesListed, capped};
@@ -108,6 +109,7 @@ fn take(
     requires short { most ≤ 1000000 }
     requires offered { IfSome ties (λ calls. IsOffered calls.now.entries.items.items rows.old.lists.items.items offer × (offer.length ≤ most)) }
     ensures taken { Takes room most offer rows.old.lists.items.items rows.new.lists.items.items result }
+    ensures chosen { OnOk result (IfSome ties.entry (λ calls. Chooses calls.now.entries.items.items room most offer rows.old.lists.items.items rows.new.lists.items.items)) }
     ensures wide { length rows.new.lists.heads.items ≡ length rows.old.lists.heads.items }
 {
     match rows.find(offer) {
@@ -139,6 +141,7 @@ pub(crate) fn take_each(
     requires short { most ≤ 1000000 }
     requires offered { IfSome ties (λ calls. AreOffered calls.now.entries.items.items most rows.old.lists.items.items (Has offers.now)) }
     ensures taken { TakesEach room most offers.now rows.old.lists.items.items rows.new.lists.items.items result }
+    ensures chosen { OnOk result (IfSome ties.entry (λ calls. Choosing calls.now.entries.items.items room most offers.now rows.old.lists.items.items rows.new.lists.items.items)) }
     ensures wide { length rows.new.lists.heads.items ≡ length rows.old.lists.heads.items }
 {
     for offer in offers {
@@ -160,6 +163,7 @@ pub(crate) fn take_listed(
     requires short { most ≤ 1000000 }
     requires offered { IfSome ties (λ calls. AreOffered calls.now.entries.items.items most rows.old.lists.items.items (IsListed offers.now.items.items key)) }
     ensures taken { TakesListed room most offers.now.items.items key rows.old.lists.items.items rows.new.lists.items.items result }
+    ensures chosen { OnOk result (IfSome ties.entry (λ calls. IsChoice calls.now.entries.items.items room most (IsListed offers.now.items.items key) rows.old.lists.items.items rows.new.lists.items.items)) }
     ensures wide { length rows.new.lists.heads.items ≡ length rows.old.lists.heads.items }
 {
     let mut number = offers.newest(key);

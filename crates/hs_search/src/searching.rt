@@ -2,6 +2,7 @@
 
 ghost use Rattle.std.specs.Prelude.{◌≡◌, ◌<◌, ◌≤◌, ◌⊎◌, [], ℕ, suc, true, length, IfOk, IfSome, OnOk};
 ghost use Rattle.hs_search.specs.Bringing.{book_of};
+ghost use Rattle.hs_search.specs.Choices.{IsChoice};
 ghost use Rattle.hs_search.specs.Graphs.{Has};
 ghost use Rattle.hs_search.specs.Rivals.{AreOffered};
 ghost use Rattle.hs_search.specs.Searching.{AreBelow, Goes, IsBetween, IsPast, IsPutOff, TakesAll, Waits, key_of};
@@ -92,6 +93,7 @@ fn take_waiting(
     requires short { most ≤ 1000000 }
     requires offered { IfSome ties (λ calls. AreOffered calls.now.entries.items.items most rows.old.lists.items.items (Waits near.old.items far.now.items.items key)) }
     ensures taken { TakesAll room most (Waits near.old.items far.now.items.items key) rows.old.lists.items.items rows.new.lists.items.items result }
+    ensures chosen { OnOk result (IfSome ties.entry (λ calls. IsChoice calls.now.entries.items.items room most (Waits near.old.items far.now.items.items key) rows.old.lists.items.items rows.new.lists.items.items)) }
     ensures empty { OnOk result (near.new.items ≡ []) }
     ensures wide { length rows.new.lists.heads.items ≡ length rows.old.lists.heads.items }
 {
