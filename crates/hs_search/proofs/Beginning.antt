@@ -1,5 +1,5 @@
 -- The search before its first round, and what its steps ask.
-use Rattle.std.proofs.Common.{◌≡◌, ◌<◌, ◌≤◌, ℕ, List, [], ◌∷◌, ◌++◌, inl, inr, ◌⊎◌, refl, ap, sym, ◌∙◌, subst, arith, length, Err}
+use Rattle.std.proofs.Common.{◌≡◌, ◌<◌, ◌≤◌, ◌⊎◌, ℕ, zero, suc, List, [], ◌∷◌, ◌++◌, inl, inr, refl, ap, sym, ◌∙◌, subst, arith, length, Err}
 use Rattle.hs_search.proofs.Calling.{IsNumberedRight, node_made, numbered_right, placed_made}
 use Rattle.hs_search.proofs.Expansions.{row_with}
 use Rattle.hs_search.proofs.Passing.{between_full}
@@ -10,9 +10,9 @@ use Rattle.hs_search.specs.Bringing.{Book}
 use Rattle.hs_search.specs.Calling.{IsNumbered}
 use Rattle.hs_search.specs.Graphs.{FlowGraph, Has, IsFramed}
 use Rattle.hs_search.specs.Layout.{IsCalls, IsLaidOut, IsPlaced}
-use Rattle.hs_search.specs.Links.{HasLink}
+use Rattle.hs_search.specs.Links.{HasLink, LinkedBy, OfLink}
 use Rattle.hs_search.specs.Rounds.{Row, first_row}
-use Rattle.hs_search.specs.Searching.{HasExpanded, IsBetween, IsPast, IsTakenAll, IsWaiting, Stops, Stored, TakesAll, Waits}
+use Rattle.hs_search.specs.Searching.{AreFresh, HasExpanded, IsBetween, IsPast, IsTakenAll, IsWaiting, Stops, Stored, TakesAll, Waits}
 use Rattle.hs_search.specs.Storing.{AllListedBelow, call_at, row_of}
 use Rattle.hs_search.specs.declared.graph.Node.{Node}
 use Rattle.hs_search.specs.declared.lists.Item.{Item}
@@ -50,6 +50,7 @@ begun graph framed room most call latest entries none is_none numbered = record 
   short = λ r has. absurd has;
   ready = ready_same graph 1 [] (λ o. first_row graph ≡ o) (Stored entries (λ s. Has (start_of graph call ∷ []) s ⊎ IsWaiting [] 1 s)) (ready_first graph)
       (λ o is. (start_of graph call, inl (inl refl), row_is ∙ is)) (λ o its. back o its.0 its.1 its.2);
+  links = λ up last r is. links up last r is;
   once = tt;
   fits = omega arith;
 }
@@ -82,6 +83,13 @@ begun graph framed room most call latest entries none is_none numbered = record 
     link s (inl (inl is)) = subst (HasLink graph [] entries) is (sym row_is)
     link s (inl (inr no_more)) = absurd no_more
     link s (inr waiting) = absurd (let there = waiting.there in cc)
+
+    links : (up last : ℕ) (r : Row) → LinkedBy graph [] up last r
+        → (r.length < 1) ⊎ OfLink entries (λ s. Has (start_of graph call ∷ []) s ⊎ IsWaiting [] 1 s) up last r
+    links zero zero r is = inr (start_of graph call, inl (inl refl), row_is ∙ is, refl, refl)
+    links zero (suc last) r is = absurd is
+    links (suc up) zero r is = absurd (let there = is.1 in cc)
+    links (suc up) (suc last) r is = absurd (let there = is.2 in cc)
 
     back : (o : Row) (s : Reach) → Has (start_of graph call ∷ []) s ⊎ IsWaiting [] 1 s → row_of entries s ≡ o → first_row graph ≡ o
     back o s (inl (inl is)) row = sym row_is ∙ ap (row_of entries) is ∙ row
@@ -121,10 +129,11 @@ far_below graph room most next latest rows book near far width is between n it t
     subst (λ w. it.value.at < w) (sym is) (between.far_right n it there).placed.within
 
 pub laid_taken : (graph : FlowGraph) (room most : ℕ) (Offers : Reach → Type 0) (old mid : List (Item Reach)) (book : Book) → most ≤ 1000000
-    → IsLaidOut graph old book (length old) → ((s : Reach) → Offers s → IsPlaced graph book.entries s) → IsTakenAll room most Offers old mid
-    → (length old ≤ length mid) × IsLaidOut graph mid book (length old)
-laid_taken graph room most Offers old mid book short laid placed taken =
-    let its = grown graph room most book (length old) taken.taken old mid short (omega arith) laid (λ s has. placed s (taken.each s has)) taken.taking in
+    → IsLaidOut graph old book (length old) → AreFresh most old Offers → ((s : Reach) → Offers s → IsPlaced graph book.entries s)
+    → IsTakenAll room most Offers old mid → (length old ≤ length mid) × IsLaidOut graph mid book (length old)
+laid_taken graph room most Offers old mid book short laid fresh placed taken =
+    let its = grown graph room most book (length old) taken.taken old mid short (omega arith) laid (λ s has. placed s (taken.each s has))
+    (λ s has. fresh s (taken.each s has)) taken.taking in
     (subst (λ xs. length old ≤ length xs) (sym its.more) (longer its.layer old), its.laid_out)
   where
     longer : (layer xs : List (Item Reach)) → length xs ≤ length (xs ++ layer)

@@ -18,7 +18,7 @@ under_trans : (rows : List (Item Reach)) (a b c : ℕ) → Under rows a b → Un
 under_trans rows a _ _ first (itself _) = first
 under_trans rows a b _ first (before _ n it there under) = before a n it there (under_trans rows a b it.value.origin.up first under)
 
-under_size : (rows : List (Item Reach)) (base size : ℕ → ℕ) → IsTree rows base size → (a b : ℕ) → Under rows a b → size a ≤ size b
+pub under_size : (rows : List (Item Reach)) (base size : ℕ → ℕ) → IsTree rows base size → (a b : ℕ) → Under rows a b → size a ≤ size b
 under_size rows base size tree _ _ (itself z) = omega arith
 under_size rows base size tree _ _ (before z n it there under) =
     let rest = under_size rows base size tree z it.value.origin.up under in

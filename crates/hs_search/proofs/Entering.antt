@@ -8,7 +8,7 @@ use Rattle.hs_search.proofs.Making.{Done, IsMade, done_has, in_call, item_last, 
 use Rattle.hs_search.specs.Bringing.{Book, CallOffered, IsEntering, item_of, origin_back, step_back, step_in}
 use Rattle.hs_search.specs.Graphs.{FlowGraph, Has, IsFramed}
 use Rattle.hs_search.specs.Layout.{Grows, IsCaller, IsCalls, IsItem, IsLaidOut, IsPlaced}
-use Rattle.hs_search.specs.Links.{HasLink}
+use Rattle.hs_search.specs.Links.{HasLink, OfLink}
 use Rattle.hs_search.specs.Rounds.{BroughtBy, by_call, as_caller, entered_by, returned}
 use Rattle.hs_search.specs.Storing.{call_at, node_of, row_of, rows_of}
 use Rattle.hs_search.specs.declared.graph.Node.{Node}
@@ -36,11 +36,11 @@ pub record AfterCall (graph : FlowGraph) (rows : List (Item Reach)) (number : �
   pub from : (s : Reach) → Has (steps ++ returns) s
       → BroughtBy graph (Done mid.entries rows number) (row_of mid.entries it.value) (row_of mid.entries s)
   pub by_call : (b : Node) → graph.enters (node_of mid.entries it.value) ≡ Some b
-      → (s : Reach) × Has (steps ++ returns) s × (row_of mid.entries s ≡ entered_by (row_of mid.entries it.value) b)
+      → OfLink mid.entries (Has (steps ++ returns)) (suc number) 0 (entered_by (row_of mid.entries it.value) b)
   pub as_caller : (k : ℕ) (e : Item Reach) (y : Node) → k < suc number → slice_get rows k ≡ Some e
       → graph.enters (node_of mid.entries it.value) ≡ Some (graph.entry (node_of mid.entries e.value))
       → graph.leaves (node_of mid.entries it.value) (node_of mid.entries e.value) ≡ Some y
-      → (s : Reach) × Has (steps ++ returns) s × (row_of mid.entries s ≡ returned (row_of mid.entries it.value) (row_of mid.entries e.value) y)
+      → OfLink mid.entries (Has (steps ++ returns)) (suc number) (suc k) (returned (row_of mid.entries it.value) (row_of mid.entries e.value) y)
 
 none_entered : (graph : FlowGraph) (rows : List (Item Reach)) (number : ℕ) (it : Item Reach) (old : Book) (near jumps : List Reach)
     → slice_get rows number ≡ Some it → IsLaidOut graph rows old number → graph.enters (node_of old.entries it.value) ≡ None
@@ -103,6 +103,8 @@ one_entered graph framed rows number it old mid near near' jumps jumps' there la
     step_in (suc number) it.value entering.call b,
     inl refl,
     made_call.1 ∙ ap (entered_by (row_of mid.entries it.value)) (some_is (sym enters_now ∙ enter')),
+    refl,
+    refl,
   );
   as_caller = λ k e y below at enter' leave. as_caller_of k e y below at enter' leave;
 }
@@ -243,7 +245,8 @@ one_entered graph framed rows number it old mid near near' jumps jumps' there la
         → graph.enters (node_of mid.entries it.value) ≡ Some (graph.entry (node_of mid.entries e.value))
         → graph.leaves (node_of mid.entries it.value) (node_of mid.entries e.value) ≡ Some y
         → (s : Reach) × ((step_in (suc number) it.value entering.call b ≡ s) ⊎ Has entering.returns.added s)
-        × (row_of mid.entries s ≡ returned (row_of mid.entries it.value) (row_of mid.entries e.value) y)
+        × (row_of mid.entries s ≡ returned (row_of mid.entries it.value) (row_of mid.entries e.value) y) × (s.origin.up ≡ suc number)
+        × (s.origin.last ≡ suc k)
     as_caller_of k e y below at enter' leave = at_end (cases_order k number)
       where
         e_placed : IsPlaced graph old.entries e.value
@@ -257,7 +260,8 @@ one_entered graph framed rows number it old mid near near' jumps jumps' there la
 
         at_end : (k ≡ number) ⊎ (k < number) ⊎ (number < k)
             → (s : Reach) × ((step_in (suc number) it.value entering.call b ≡ s) ⊎ Has entering.returns.added s)
-            × (row_of mid.entries s ≡ returned (row_of mid.entries it.value) (row_of mid.entries e.value) y)
+            × (row_of mid.entries s ≡ returned (row_of mid.entries it.value) (row_of mid.entries e.value) y) × (s.origin.up ≡ suc number)
+            × (s.origin.last ≡ suc k)
         at_end (inr (inr more)) = absurd (omega arith)
         at_end (inl same) =
             let is : it ≡ e = some_is (sym there ∙ subst (λ j. slice_get rows j ≡ Some e) same at) in
@@ -284,6 +288,8 @@ one_entered graph framed rows number it old mid near near' jumps jumps' there la
               step_back (origin_back (suc number) (suc has.it.value)) it.value e.value y,
               inr added,
               (on_return graph framed mid.entries (origin_back (suc number) (suc has.it.value)) it.value e.value y placed_now leave).1,
+              refl,
+              ap (λ n. suc n) has.value,
             )
 
 pub call_offered : (graph : FlowGraph) → IsFramed graph → (rows : List (Item Reach)) (number : ℕ) (it : Item Reach) (to : Option Node) (old mid : Book)

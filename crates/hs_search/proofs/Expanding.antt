@@ -1,17 +1,18 @@
 -- A row is expanded: what it brings is offered, and it is listed as a caller or an end.
-use Rattle.std.proofs.Common.{◌≡◌, ◌<◌, ℕ, suc, Bool, true, false, List, [], ◌∷◌, ◌++◌, inl, inr, ◌⊎◌, refl, ap, sym, ◌∙◌, Some, subst, arith, length, slice_get, map, append_assoc, append-nil, Result, Ok, Err, OnOk}
+use Rattle.std.proofs.Common.{◌≡◌, ◌<◌, ℕ, zero, suc, Bool, true, false, List, [], ◌∷◌, ◌++◌, inl, inr, ◌⊎◌, refl, ap, sym, ◌∙◌, Some, subst, arith, length, slice_get, map, append_assoc, append-nil, Result, Ok, Err, OnOk}
 use Rattle.std.proofs.lemmas.Bool.{cases_order}
 use Rattle.hs_search.proofs.Calling.{node_kept, placed_kept}
 use Rattle.hs_search.proofs.Linking.{link_back, link_on}
 use Rattle.hs_search.proofs.Listing.{some_is, get_within, get_either}
 use Rattle.hs_search.specs.Laws.Membership.{Has-left, Has-right, Has-either, Has-map, map-Has}
 use Rattle.hs_search.proofs.Making.{Done, done_has, done_of, item_last, item_more, on_return, on_step}
+use Rattle.hs_search.proofs.Parting.{row_there, take_below, take_there}
 use Rattle.hs_search.proofs.Entering.{AfterCall, call_offered}
 use Rattle.hs_search.specs.Bringing.{AreFit, AreRows, Book, CallOffered, EndOffered, item_of, origin_back, step_back, step_on}
 use Rattle.hs_search.specs.Graphs.{FlowGraph, Has, IsFramed}
 use Rattle.hs_search.specs.Layout.{IsCaller, IsCalls, IsEnd, IsExpanded, IsItem, IsLaidOut, IsPlaced}
-use Rattle.hs_search.specs.Links.{HasLink}
-use Rattle.hs_search.specs.Rounds.{Row, BroughtBy, by_step, by_call, as_caller, as_end, entered_by, returned}
+use Rattle.hs_search.specs.Links.{HasLink, IsFrom, LinkedBy, OfLink}
+use Rattle.hs_search.specs.Rounds.{Row, BroughtBy, by_step, by_call, as_caller, as_end, entered_by, returned, stepped}
 use Rattle.hs_search.specs.Storing.{call_at, node_of, row_of, rows_of}
 use Rattle.hs_search.specs.declared.graph.Node.{Node}
 use Rattle.hs_search.specs.declared.lists.Item.{Item}
@@ -72,6 +73,9 @@ module _ (graph : FlowGraph) (framed : IsFramed graph) (rows : List (Item Reach)
     brought = λ o by. subst (λ es. (s : Reach) × Has ((map (step_on (suc number) it.value) (graph.steps (node_of old.entries it.value)) ++ after.steps)
         ++ (after.returns ++ backs)) s × (row_of es s ≡ o)) (sym same)
         (brought o (subst (λ es. BroughtBy graph (Done es rows number) (row_of es it.value) o) same by));
+    links = subst (λ es. (up last : ℕ) (r : Row) → LinkedBy graph (Done es rows number) up last r → IsFrom number up last
+        → OfLink es (Has ((map (step_on (suc number) it.value) (graph.steps (node_of old.entries it.value)) ++ after.steps) ++ (after.returns ++ backs)))
+        up last r) (sym same) links;
   }
     where
       placed_now : IsPlaced graph mid.entries it.value
@@ -202,7 +206,8 @@ module _ (graph : FlowGraph) (framed : IsFramed graph) (rows : List (Item Reach)
             (Has-map (step_on (suc number) it.value) (graph.steps (node_of old.entries it.value)) y (subst (λ n. Has (graph.steps n) y) node_now step))),
         (on_step graph framed mid.entries (suc number) it.value y placed_now step).1,
       )
-      brought _ (by_call b enter) = made_after (entered_by (row_of mid.entries it.value) b) (after.by_call b enter)
+      brought _ (by_call b enter) =
+          (let its = after.by_call b enter in made_after (entered_by (row_of mid.entries it.value) b) (its.0, its.1, its.2))
       brought _ (as_caller e y has enter leave) = from_row (done_of mid.entries rows number e has)
         where
           from_row : (k : ℕ) × (x : Item Reach) × (k < suc number) × (slice_get rows k ≡ Some x) × (row_of mid.entries x.value ≡ e)
@@ -212,8 +217,8 @@ module _ (graph : FlowGraph) (framed : IsFramed graph) (rows : List (Item Reach)
           from_row its =
               let enter' = subst (λ (r : Row). graph.enters (node_of mid.entries it.value) ≡ Some (graph.entry r.node)) (sym its.4) enter in
               let leave' = subst (λ (r : Row). graph.leaves (node_of mid.entries it.value) r.node ≡ Some y) (sym its.4) leave in
-              let made = made_after (returned (row_of mid.entries it.value) (row_of mid.entries its.1.value) y)
-              (after.as_caller its.0 its.1 y its.2 its.3 enter' leave') in
+              let one = after.as_caller its.0 its.1 y its.2 its.3 enter' leave' in
+              let made = made_after (returned (row_of mid.entries it.value) (row_of mid.entries its.1.value) y) (one.0, one.1, one.2) in
               (made.0, made.1, made.2 ∙ ap (λ (r : Row). returned (row_of mid.entries it.value) r y) its.4)
       brought _ (as_end c y has enter leave) = from_row (done_of mid.entries rows number c has)
         where
@@ -232,6 +237,84 @@ module _ (graph : FlowGraph) (framed : IsFramed graph) (rows : List (Item Reach)
                 (on_return graph framed mid.entries (origin_back (suc its.0) (suc number)) its.1.value it.value y c_placed leave').1
                     ∙ ap (λ (r : Row). returned r (row_of mid.entries it.value) y) its.4,
               )
+
+      -- the row itself
+      own : (k : ℕ) (x : Row) → slice_get (Done mid.entries rows number) k ≡ Some x → number < suc k → (k ≡ number) × (row_of mid.entries it.value ≡ x)
+      own k x at low =
+          let below = take_below (rows_of mid.entries rows) (suc number) k x at in
+          let its = row_there mid.entries rows k x (take_there (rows_of mid.entries rows) (suc number) k x at) in
+          let same : k ≡ number = omega arith in
+          (same, ap (λ (i : Item Reach). row_of mid.entries i.value) (some_is (sym there ∙ ap (slice_get rows) (sym same) ∙ its.1)) ∙ its.2)
+
+      -- or one before it
+      done : (k : ℕ) (x : Row) → slice_get (Done mid.entries rows number) k ≡ Some x
+          → (its : Item Reach) × (k < suc number) × (slice_get rows k ≡ Some its) × (row_of mid.entries its.value ≡ x)
+      done k x at =
+          let its = row_there mid.entries rows k x (take_there (rows_of mid.entries rows) (suc number) k x at) in
+          (its.0, take_below (rows_of mid.entries rows) (suc number) k x at, its.1, its.2)
+
+      links : (up last : ℕ) (r : Row) → LinkedBy graph (Done mid.entries rows number) up last r → IsFrom number up last
+          → OfLink mid.entries (Has ((map (step_on (suc number) it.value) (graph.steps (node_of old.entries it.value)) ++ after.steps) ++
+          (after.returns ++ backs))) up last r
+      links zero zero r is (inl low) = absurd (omega arith)
+      links zero zero r is (inr low) = absurd (omega arith)
+      links zero (suc last) r is from = absurd is
+      links (suc up) zero r is (inr low) = absurd (omega arith)
+      links (suc up) zero r (x, at, inl (y, step, made)) (inl low) =
+          let its = own up x at low in
+          let step' : Has (graph.steps (node_of mid.entries it.value)) y = subst (λ (z : Row). Has (graph.steps z.node) y) (sym its.1) step in (
+            step_on (suc number) it.value y,
+            in_near (step_on (suc number) it.value y) (Has-left (map (step_on (suc number) it.value) (graph.steps (node_of old.entries it.value))) after.steps
+                (step_on (suc number) it.value y)
+                (Has-map (step_on (suc number) it.value) (graph.steps (node_of old.entries it.value)) y (subst (λ n. Has (graph.steps n) y) node_now step'))),
+            (on_step graph framed mid.entries (suc number) it.value y placed_now step').1 ∙ ap (λ z. stepped z y) its.1 ∙ made,
+            ap (λ n. suc n) (sym its.0),
+            refl,
+          )
+      links (suc up) zero r (x, at, inr (b, enter, made)) (inl low) =
+          let its = own up x at low in
+          let one = after.by_call b (subst (λ (z : Row). graph.enters z.node ≡ Some b) (sym its.1) enter) in (
+            one.0,
+            in_after one.0 (Has-either after.steps after.returns one.0 one.1),
+            one.2 ∙ ap (λ z. entered_by z b) its.1 ∙ made,
+            one.3 ∙ ap (λ n. suc n) (sym its.0),
+            one.4,
+          )
+      links (suc up) (suc last) r (c, e, at_c, at_e, (y, enter, leave, made)) (inl low) =
+          let its = own up c at_c low in
+          let end_ = done last e at_e in
+          let enter' : graph.enters (node_of mid.entries it.value) ≡ Some (graph.entry (node_of mid.entries end_.0.value)) =
+          subst (λ (z : Row). graph.enters z.node ≡ Some (graph.entry (node_of mid.entries end_.0.value))) (sym its.1)
+          (subst (λ (z : Row). graph.enters c.node ≡ Some (graph.entry z.node)) (sym end_.3) enter) in
+          let leave' : graph.leaves (node_of mid.entries it.value) (node_of mid.entries end_.0.value) ≡ Some y =
+          subst (λ (z : Row). graph.leaves z.node (node_of mid.entries end_.0.value) ≡ Some y) (sym its.1)
+          (subst (λ (z : Row). graph.leaves c.node z.node ≡ Some y) (sym end_.3) leave) in
+          let one = after.as_caller last end_.0 y end_.1 end_.2 enter' leave' in (
+            one.0,
+            in_after one.0 (Has-either after.steps after.returns one.0 one.1),
+            one.2 ∙ ap (λ z. returned z (row_of mid.entries end_.0.value) y) its.1 ∙ ap (λ z. returned c z y) end_.3 ∙ made,
+            one.3 ∙ ap (λ n. suc n) (sym its.0),
+            one.4,
+          )
+      links (suc up) (suc last) r (c, e, at_c, at_e, (y, enter, leave, made)) (inr low) =
+          let its = own last e at_e low in
+          let caller = done up c at_c in
+          let enter' : graph.enters (node_of mid.entries caller.0.value) ≡ Some (graph.entry (node_of mid.entries it.value)) =
+          subst (λ (z : Row). graph.enters z.node ≡ Some (graph.entry (node_of mid.entries it.value))) (sym caller.3)
+          (subst (λ (z : Row). graph.enters c.node ≡ Some (graph.entry z.node)) (sym its.1) enter) in
+          let leave' : graph.leaves (node_of mid.entries caller.0.value) (node_of mid.entries it.value) ≡ Some y =
+          subst (λ (z : Row). graph.leaves z.node (node_of mid.entries it.value) ≡ Some y) (sym caller.3)
+          (subst (λ (z : Row). graph.leaves c.node z.node ≡ Some y) (sym its.1) leave) in
+          let c_placed = placed_kept graph old.entries mid.entries after.grows caller.0.value (laid.placed up caller.0 caller.2) in (
+            step_back (origin_back (suc up) (suc number)) caller.0.value it.value y,
+            in_far (step_back (origin_back (suc up) (suc number)) caller.0.value it.value y)
+                (Has-right after.returns backs (step_back (origin_back (suc up) (suc number)) caller.0.value it.value y)
+                (all up caller.0 y caller.1 caller.2 enter' leave')),
+            (on_return graph framed mid.entries (origin_back (suc up) (suc number)) caller.0.value it.value y c_placed leave').1
+                ∙ ap (λ z. returned z (row_of mid.entries it.value) y) caller.3 ∙ ap (λ z. returned c z y) its.1 ∙ made,
+            refl,
+            ap (λ n. suc n) (sym its.0),
+          )
 
 -- a row is expanded
 pub expanded : (graph : FlowGraph) → IsFramed graph → (rows : List (Item Reach)) (number : ℕ) (it : Item Reach) (node : Node) (old mid new : Book)

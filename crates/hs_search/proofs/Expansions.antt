@@ -1,13 +1,15 @@
 -- Rows are expanded, one after the other.
-use Rattle.std.proofs.Common.{◌≡◌, ◌<◌, ◌≤◌, ℕ, suc, List, [], ◌∷◌, ◌++◌, inl, inr, ◌⊎◌, refl, ap, sym, ◌∙◌, Some, subst, length, slice_get, take, append_assoc, zero}
+use Rattle.std.proofs.Common.{◌≡◌, ◌<◌, ◌≤◌, ℕ, suc, List, [], ◌∷◌, ◌++◌, inl, inr, ◌⊎◌, refl, ap, sym, ◌∙◌, Some, subst, length, slice_get, take, append_assoc, zero, arith}
+use Rattle.std.proofs.lemmas.Bool.{cases_order}
 use Rattle.hs_search.proofs.Listing.{some_is}
+use Rattle.hs_search.proofs.Parting.{lower_by, take_there}
 use Rattle.hs_search.proofs.Calling.{grows_none, node_kept, placed_kept}
 use Rattle.hs_search.specs.Laws.Membership.{Has-left, Has-right, Has-either}
 use Rattle.hs_search.proofs.Rounding.{AllBrought-none, AllBrought-next}
 use Rattle.hs_search.specs.Bringing.{Book}
 use Rattle.hs_search.specs.Graphs.{FlowGraph, Has}
 use Rattle.hs_search.specs.Layout.{Grows, IsExpanded, IsLaidOut, IsPlaced}
-use Rattle.hs_search.specs.Links.{HasLink, IsLinked}
+use Rattle.hs_search.specs.Links.{HasLink, IsFrom, IsLinked, LinkedBy, OfLink}
 use Rattle.hs_search.specs.Rounds.{Row, AllBrought, BroughtBy}
 use Rattle.hs_search.specs.Searching.{HasExpanded, Stored}
 use Rattle.hs_search.specs.Storing.{row_of, rows_of}
@@ -48,11 +50,38 @@ expanded_none graph rows first book near jumps no_near no_jumps laid = record {
   placed = λ s has. absurd (none s has);
   linked = λ s has. absurd (none s has);
   all = AllBrought-none graph (rows_of book.entries rows) first (Stored book.entries (Has (near ++ jumps))) (λ o its. none its.0 its.1);
+  links = λ up last r is from. absurd (late up last (lower_by graph (rows_of book.entries rows) first up last r is) from);
   long = λ s has. absurd (none s (Has-left near jumps s has));
 }
   where
     none : (s : Reach) → Has (near ++ jumps) s → ⊥
     none s has = subst (λ xs. Has xs s) (ap (λ ns. ns ++ jumps) no_near ∙ no_jumps) has
+
+    late : (up last : ℕ) → (up ≤ first) × (last ≤ first) → IsFrom first up last → ⊥
+    late up last low (inl more) = absurd (let up_low = low.0 in omega arith)
+    late up last low (inr more) = absurd (let last_low = low.1 in omega arith)
+
+-- a link to rows before a place
+link_take : (graph : FlowGraph) (rows : List Row) (m n up last : ℕ) (r : Row) → LinkedBy graph (take m rows) up last r → up ≤ n → last ≤ n
+    → LinkedBy graph (take n rows) up last r
+link_take graph rows m n zero zero r is up_low last_low = is
+link_take graph rows m n zero (suc last) r is up_low last_low = is
+link_take graph rows m n (suc up) zero r (x, at, after) up_low last_low =
+    (x, row_take rows n up x (omega arith) (take_there rows m up x at), after)
+  where
+    row_take : (xs : List Row) (n k : ℕ) (x : Row) → k < n → slice_get xs k ≡ Some x → slice_get (take n xs) k ≡ Some x
+    row_take xs zero k x less at = absurd (omega arith)
+    row_take [] (suc n) k x less at = absurd cc
+    row_take (y ∷ xs) (suc n) zero x less at = at
+    row_take (y ∷ xs) (suc n) (suc k) x less at = row_take xs n k x (omega arith) at
+link_take graph rows m n (suc up) (suc last) r (c, e, at_c, at_e, back) up_low last_low =
+    (c, e, row_take rows n up c (omega arith) (take_there rows m up c at_c), row_take rows n last e (omega arith) (take_there rows m last e at_e), back)
+  where
+    row_take : (xs : List Row) (n k : ℕ) (x : Row) → k < n → slice_get xs k ≡ Some x → slice_get (take n xs) k ≡ Some x
+    row_take xs zero k x less at = absurd (omega arith)
+    row_take [] (suc n) k x less at = absurd cc
+    row_take (y ∷ xs) (suc n) zero x less at = at
+    row_take (y ∷ xs) (suc n) (suc k) x less at = row_take xs n k x (omega arith) at
 
 pub expanded_next : (graph : FlowGraph) (rows : List (Item Reach)) (first count : ℕ) (it : Item Reach) (old mid new : Book)
     (near near' jumps jumps' : List Reach) → first ≤ count → slice_get rows count ≡ Some it → HasExpanded graph rows first count old mid near jumps
@@ -67,6 +96,7 @@ expanded_next graph rows first count it old mid new near near' jumps jumps' orde
       (sym same_rows)
       (kept_all before.all)) (rows_at new.entries rows count it there) (λ o its. (its.0, wider its.0 its.1, its.2))
       (λ o its. from o its (parts its.0 its.1)) (λ o by. let its = step.brought o by in (its.0, newer its.0 its.1, its.2));
+  links = λ up last r is from. links up last r is from (cases_order count up) (cases_order count last);
   long = λ s has. long s (Has-either near step.steps s (subst (λ ns. Has ns s) step.near_is has));
 }
   where
@@ -132,3 +162,27 @@ expanded_next graph rows first count it old mid new near near' jumps jumps' orde
         → Stored new.entries (Has (near ++ jumps)) o ⊎ BroughtBy graph (take (suc count) (rows_of new.entries rows)) (row_of new.entries it.value) o
     from o its (inl has) = inl (its.0, has, its.2)
     from o its (inr has) = inr (subst (BroughtBy graph (take (suc count) (rows_of new.entries rows)) (row_of new.entries it.value)) its.2 (step.from its.0 has))
+
+    links : (up last : ℕ) (r : Row) → LinkedBy graph (take (suc count) (rows_of new.entries rows)) up last r → IsFrom first up last
+        → (count ≡ up) ⊎ (count < up) ⊎ (up < count) → (count ≡ last) ⊎ (count < last) ⊎ (last < count)
+        → OfLink new.entries (Has (near' ++ jumps')) up last r
+    links up last r is from up_order last_order = by up_order last_order
+      where
+        of_row : IsFrom count up last → OfLink new.entries (Has (near' ++ jumps')) up last r
+        of_row late = let one = step.links up last r is late in (one.0, newer one.0 one.1, one.2, one.3, one.4)
+
+        of_old : up ≤ count → last ≤ count → OfLink new.entries (Has (near' ++ jumps')) up last r
+        of_old up_low last_low =
+            let one = before.links up last r (subst (λ rs. LinkedBy graph (take count rs) up last r) same_rows
+            (link_take graph (rows_of new.entries rows) (suc count) count up last r is up_low last_low)) from in
+            (one.0, wider one.0 one.1, stays one.0 one.1 ∙ one.2, one.3, one.4)
+
+        by : (count ≡ up) ⊎ (count < up) ⊎ (up < count) → (count ≡ last) ⊎ (count < last) ⊎ (last < count)
+            → OfLink new.entries (Has (near' ++ jumps')) up last r
+        by (inr (inl late)) other = of_row (inl late)
+        by (inl low) (inr (inl late)) = of_row (inr late)
+        by (inl low) (inl also) = of_old (omega arith) (omega arith)
+        by (inl low) (inr (inr also)) = of_old (omega arith) (omega arith)
+        by (inr (inr low)) (inr (inl late)) = of_row (inr late)
+        by (inr (inr low)) (inl also) = of_old (omega arith) (omega arith)
+        by (inr (inr low)) (inr (inr also)) = of_old (omega arith) (omega arith)

@@ -197,7 +197,7 @@ put_still spot other (first ∷ rest) v has = step (same_spot spot first.0) (sam
 -- ---- rows that are kept and added
 
 -- the row of a node is said in two ways
-spot_row : (items : List (Item Reach)) (reach : Reach) (n : ℕ) → IsRowOf items reach n → IsSpotAt items reach n
+pub spot_row : (items : List (Item Reach)) (reach : Reach) (n : ℕ) → IsRowOf items reach n → IsSpotAt items reach n
 spot_row items reach n row = record {
   within = get_within items n row.it row.there;
   at = λ it there. subst (λ (i : Item Reach). i.key ≡ reach.at) (some_is (sym row.there ∙ there)) row.at;

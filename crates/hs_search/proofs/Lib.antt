@@ -1,7 +1,9 @@
 mod Adding
+mod Basing
 mod Beginning
 mod Calling
 mod Closing
+mod Comparing
 mod Deciding
 mod Entering
 mod Expanding
@@ -19,8 +21,10 @@ mod Past
 mod PuttingOff
 mod Rounding
 mod Rows
+mod Setting
 mod Standing
 mod Storing
 mod Taking
 mod Telling
 mod Tracing
+mod Tying

@@ -1,5 +1,5 @@
 -- Rows that are linked: the rows of their links were made before, and two rows after one row differ in their first entries.
-use Rattle.std.proofs.Common.{◌≡◌, ◌<◌, ◌≤◌, ℕ, zero, suc, List, [], ◌∷◌, inl, inr, refl, ap, sym, ◌∙◌, Some, None, subst, arith, slice_get, take}
+use Rattle.std.proofs.Common.{◌≡◌, ◌<◌, ◌≤◌, ℕ, zero, suc, List, [], ◌∷◌, inl, inr, refl, ap, sym, ◌∙◌, Some, None, subst, arith, slice_get, take, length, ◌⊎◌}
 use Rattle.hs_search.proofs.Listing.{some_is}
 use Rattle.hs_search.specs.Chains.{IsOnce}
 use Rattle.hs_search.specs.Deciding.{AreParted}
@@ -10,6 +10,7 @@ use Rattle.hs_search.specs.Layout.{IsPlaced}
 use Rattle.hs_search.specs.Links.{AreLinked, HasLink, IsAfter, LinkedBy}
 use Rattle.hs_search.specs.Meeting.{AreLower}
 use Rattle.hs_search.specs.Orders.{IsAlike}
+use Rattle.hs_search.specs.Rivals.{IsJoined, IsRival}
 use Rattle.hs_search.specs.Rounds.{Row}
 use Rattle.hs_search.specs.Searching.{nodes_in}
 use Rattle.hs_search.specs.Storing.{node_of, row_of, rows_of}
@@ -61,7 +62,7 @@ one_place entries (r ∷ rows) once (suc n) (suc m) it its at other is =
 
 -- ---- both rows of a link were made before
 
-lower_by : (graph : FlowGraph) (rows : List Row) (n up last : ℕ) (row : Row) → LinkedBy graph (take n rows) up last row → (up ≤ n) × (last ≤ n)
+pub lower_by : (graph : FlowGraph) (rows : List Row) (n up last : ℕ) (row : Row) → LinkedBy graph (take n rows) up last row → (up ≤ n) × (last ≤ n)
 lower_by graph rows n zero zero row is = (omega arith, omega arith)
 lower_by graph rows n zero (suc last) row is = absurd is
 lower_by graph rows n (suc up) zero row is = (let below = take_below rows n up is.0 is.1 in omega arith, omega arith)
@@ -128,14 +129,25 @@ one_node graph framed x y z one other alike =
 no_ends : (x : ℕ × ℕ) → Some x ≡ None → ⊥
 no_ends x is = cc
 
--- they are one row, or their first entries are not alike
+-- not a return
+abbrev IsPlain : Link → Type 0
+IsPlain link.Step = Unit {0}
+IsPlain link.Entry = Unit {0}
+IsPlain (link.Return end) = ⊥
+
+-- they have one node, and are no returns, or their first entries are not alike
 parts : (graph : FlowGraph) → IsFramed graph → (rows : List Row) (up p q : ℕ) (l r : Link) (node other first its_first : Node)
-    → IsFirst graph rows up l node first → IsFirst graph rows up r other its_first → inner_ends l r p q ≡ None → IsAlike first its_first → node ≡ other
-parts graph framed rows zero p q l r node other first its_first left right none alike = left.1 ∙ sym right.1
+    → IsFirst graph rows up l node first → IsFirst graph rows up r other its_first → inner_ends l r p q ≡ None → IsAlike first its_first
+    → (node ≡ other) × IsPlain l × IsPlain r
+parts graph framed rows zero p q l r node other first its_first left right none alike =
+    (left.1 ∙ sym right.1, subst IsPlain (sym left.0) tt, subst IsPlain (sym right.0) tt)
 parts graph framed rows (suc up) p q link.Step link.Step node other first its_first left right none alike =
-    let same : left.0 ≡ right.0 = some_is (sym left.1 ∙ right.1) in
-    one_node graph framed right.0.node node other (subst (λ (x : Row). Has (graph.steps x.node) node) same left.2) right.2
-    (subst (λ n. IsAlike n other) left.3 (subst (IsAlike first) right.3 alike))
+    let same : left.0 ≡ right.0 = some_is (sym left.1 ∙ right.1) in (
+      one_node graph framed right.0.node node other (subst (λ (x : Row). Has (graph.steps x.node) node) same left.2) right.2
+          (subst (λ n. IsAlike n other) left.3 (subst (IsAlike first) right.3 alike)),
+      tt,
+      tt,
+    )
 parts graph framed rows (suc up) p q link.Step link.Entry node other first its_first left right none alike =
     let same : left.0 ≡ right.0 = some_is (sym left.1 ∙ right.1) in
     absurd (framed.apart right.0.node node other (subst (λ (x : Row). Has (graph.steps x.node) node) same left.2) right.2
@@ -150,7 +162,7 @@ parts graph framed rows (suc up) p q link.Entry link.Step node other first its_f
     (ap (λ (n : Node). n.at) (sym right.3) ∙ sym alike.0 ∙ ap (λ (n : Node). n.at) left.3))
 parts graph framed rows (suc up) p q link.Entry link.Entry node other first its_first left right none alike =
     let same : left.0 ≡ right.0 = some_is (sym left.1 ∙ right.1) in
-    some_node (sym (subst (λ (x : Row). graph.enters x.node ≡ Some node) same left.2) ∙ right.2)
+    (some_node (sym (subst (λ (x : Row). graph.enters x.node ≡ Some node) same left.2) ∙ right.2), tt, tt)
 parts graph framed rows (suc up) p q link.Entry (link.Return e) node other first its_first left right none alike = absurd (no_ends (p, e) none)
 parts graph framed rows (suc up) p q (link.Return e) link.Step node other first its_first left right none alike =
     let same : left.0 ≡ right.0 = some_is (sym left.1 ∙ right.1) in
@@ -159,14 +171,34 @@ parts graph framed rows (suc up) p q (link.Return e) link.Step node other first 
 parts graph framed rows (suc up) p q (link.Return e) link.Entry node other first its_first left right none alike = absurd (no_ends (e, q) none)
 parts graph framed rows (suc up) p q (link.Return e) (link.Return f) node other first its_first left right none alike = absurd (no_ends (e, f) none)
 
--- so the rows of the search part in entries that are not alike
-pub parted_linked : (graph : FlowGraph) → IsFramed graph → (most : ℕ) (entries : List (Item ℕ)) (rows : List (Item Reach))
-    → IsOnce (nodes_in (rows_of entries rows)) → ((n : ℕ) (it : Item Reach) → slice_get rows n ≡ Some it → IsPlaced graph entries it.value)
-    → AreLinked graph most entries rows → ((n : ℕ) (it : Item Reach) → slice_get rows n ≡ Some it → it.value.length ≤ most) → AreParted entries rows
-parted_linked graph framed most entries rows once placed linked short n m p q it its at other two up_same none alike =
-    two (one_place entries rows once n m it its at other
-    (parts graph framed (rows_of entries rows) its.value.origin.up p q (link_of it.value) (link_of its.value) (node_of entries it.value)
-    (node_of entries its.value) (first_entry entries rows it.value) (first_entry entries rows its.value)
-    (subst (λ up. IsFirst graph (rows_of entries rows) up (link_of it.value) (node_of entries it.value) (first_entry entries rows it.value)) up_same
-    (first_of graph entries rows placed n it (linked n it at (short n it at))))
-    (first_of graph entries rows placed m its (linked m its other (short m its other))) none alike))
+plain_last : (last level : ℕ) → IsPlain (link_by last level) → last ≡ 0
+plain_last zero level plain = refl
+plain_last (suc last) level plain = absurd plain
+
+-- so the rows of the search, and an offer after them, part in entries that are not alike
+pub parted_joined : (graph : FlowGraph) → IsFramed graph → (entries : List (Item ℕ)) (rows all : List (Item Reach)) → IsJoined graph entries rows all
+    → AreParted entries all
+parted_joined graph framed entries rows all joined n m p q it its at other two up_same none alike =
+    by (joined.inside n it at) (joined.inside m its other)
+  where
+    same : (node_of entries it.value ≡ node_of entries its.value) × IsPlain (link_of it.value) × IsPlain (link_of its.value)
+    same =
+        parts graph framed (rows_of entries all) its.value.origin.up p q (link_of it.value) (link_of its.value) (node_of entries it.value)
+        (node_of entries its.value) (first_entry entries all it.value) (first_entry entries all its.value)
+        (subst (λ up. IsFirst graph (rows_of entries all) up (link_of it.value) (node_of entries it.value) (first_entry entries all it.value)) up_same
+        (first_of graph entries all joined.placed n it (joined.linked n it at)))
+        (first_of graph entries all joined.placed m its (joined.linked m its other)) none alike
+
+    last_same : it.value.origin.last ≡ its.value.origin.last
+    last_same =
+        plain_last it.value.origin.last it.value.level same.1 ∙ sym (plain_last its.value.origin.last its.value.level same.2)
+
+    link_same : it.value.origin ≡ its.value.origin
+    link_same = λ i. record { up = up_same i; last = last_same i }
+
+    by : (slice_get rows n ≡ Some it) ⊎ ((n ≡ length rows) × IsRival entries rows it)
+        → (slice_get rows m ≡ Some its) ⊎ ((m ≡ length rows) × IsRival entries rows its) → ⊥
+    by (inl here) (inl there) = two (one_place entries rows joined.once n m it its here there same.0)
+    by (inl here) (inr rival) = rival.1.other n it here same.0 link_same
+    by (inr rival) (inl there) = rival.1.other m its there (sym same.0) (sym link_same)
+    by (inr rival) (inr other) = two (rival.0 ∙ sym other.0)

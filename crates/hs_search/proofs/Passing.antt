@@ -1,23 +1,23 @@
 -- A round of the search, and a pass past the most.
-use Rattle.std.proofs.Common.{◌≡◌, ◌<◌, ◌≤◌, ℕ, suc, List, [], ◌∷◌, ◌++◌, inl, inr, ◌⊎◌, refl, ap, sym, ◌∙◌, Some, subst, arith, length, slice_get, map, true}
+use Rattle.std.proofs.Common.{◌≡◌, ◌<◌, ◌≤◌, ℕ, zero, suc, take, List, [], ◌∷◌, ◌++◌, inl, inr, ◌⊎◌, refl, ap, sym, ◌∙◌, Some, subst, arith, length, slice_get, map, true, ◌≢◌}
 use Rattle.std.proofs.lemmas.Bool.{cases_order}
 use Rattle.hs_search.proofs.Calling.{placed_kept}
 use Rattle.hs_search.proofs.Closing.{built_within, candidate_within}
 use Rattle.hs_search.proofs.Expansions.{row_kept, rows_at, rows_kept}
 use Rattle.hs_search.proofs.Linking.{link_kept, link_more, linked_next}
-use Rattle.hs_search.specs.Laws.Membership.{Has-left, Has-right, Has-either}
+use Rattle.hs_search.specs.Laws.Membership.{Has-left, Has-right, Has-either, Has-map}
 use Rattle.hs_search.proofs.PuttingOff.{key_or}
 use Rattle.hs_search.proofs.Rounding.{behind, ready_next, ready_same}
-use Rattle.hs_search.proofs.Adding.{past_or, rows_more}
+use Rattle.hs_search.proofs.Adding.{get_Has, past_or, rows_more}
 use Rattle.hs_search.proofs.Taking.{IsGrown, grown, too_many}
 use Rattle.hs_search.specs.Bringing.{Book}
 use Rattle.hs_search.specs.Chains.{IsOnce, IsTooMany}
 use Rattle.hs_search.specs.Graphs.{FlowGraph, Has, IsFramed}
 use Rattle.hs_search.specs.Layout.{IsPlaced}
-use Rattle.hs_search.specs.Links.{HasLink}
+use Rattle.hs_search.specs.Links.{HasLink, IsFrom, LinkedBy, OfLink}
 use Rattle.hs_search.specs.Rounds.{Row, AllBrought, IsReady, IsTaken, IsWithin, Known}
-use Rattle.hs_search.specs.Searching.{AreBelow, HasExpanded, IsBetween, IsFarItem, IsPutOff, IsTakenAll, IsWaiting, Stored, Waits, key_of, nodes_in}
-use Rattle.hs_search.specs.Storing.{IsFull, capped, capped_if, node_of, row_of, rows_of}
+use Rattle.hs_search.specs.Searching.{AreBelow, AreFresh, HasExpanded, IsBetween, IsFarItem, IsPutOff, IsTakenAll, IsWaiting, Stored, Waits, key_of, nodes_in}
+use Rattle.hs_search.specs.Storing.{IsFull, IsListed, capped, capped_if, node_of, row_of, rows_of}
 use Rattle.hs_search.specs.declared.lists.Item.{Item}
 use Rattle.hs_search.specs.declared.reach.Reach.{Reach}
 
@@ -27,6 +27,52 @@ map_long f (x ∷ xs) = ap (λ n. suc n) (map_long f xs)
 
 pub rows_long : (entries : List (Item ℕ)) (rows : List (Item Reach)) → length (rows_of entries rows) ≡ length rows
 rows_long entries rows = map_long (λ (it : Item Reach). row_of entries it.value) rows
+
+-- ---- links to the rows in front
+
+take_all : (xs : List Row) (n : ℕ) → length xs ≤ n → take n xs ≡ xs
+take_all [] zero low = refl
+take_all [] (suc n) low = refl
+take_all (x ∷ xs) zero low = absurd (omega arith)
+take_all (x ∷ xs) (suc n) low = ap (λ ys. x ∷ ys) (take_all xs n (omega arith))
+
+get_front : (xs ys : List Row) (k : ℕ) (x : Row) → k < length xs → slice_get (xs ++ ys) k ≡ Some x → slice_get xs k ≡ Some x
+get_front [] ys k x low at = absurd (omega arith)
+get_front (y ∷ xs) ys zero x low at = at
+get_front (y ∷ xs) ys (suc k) x low at = get_front xs ys k x (omega arith) at
+
+link_front : (graph : FlowGraph) (xs ys : List Row) (up last : ℕ) (r : Row) → LinkedBy graph (xs ++ ys) up last r → up ≤ length xs → last ≤ length xs
+    → LinkedBy graph xs up last r
+link_front graph xs ys zero zero r is up_low last_low = is
+link_front graph xs ys zero (suc last) r is up_low last_low = is
+link_front graph xs ys (suc up) zero r (x, at, after) up_low last_low = (x, get_front xs ys up x (omega arith) at, after)
+link_front graph xs ys (suc up) (suc last) r (c, e, at_c, at_e, back) up_low last_low =
+    (c, e, get_front xs ys up c (omega arith) at_c, get_front xs ys last e (omega arith) at_e, back)
+
+-- ---- offers that are taken
+
+-- they are longer than the rows
+pub waits_fresh : (graph : FlowGraph) (room most next latest : ℕ) (rows : List (Item Reach)) (book : Book) (near : List Reach) (far : List (Item Reach))
+    (key : ℕ) → next ≤ key → IsBetween graph room most next latest rows book near far → AreFresh most rows (Waits near far key)
+waits_fresh graph room most next latest rows book near far key low between s waits short n it at = by waits
+  where
+    early : it.value.length < next
+    early =
+        between.short (row_of book.entries it.value)
+        (Has-map (λ (i : Item Reach). row_of book.entries i.value) rows it (get_Has rows n it at))
+
+    far_long : (listed : IsListed far key s) → ((most < s.length) × (key_of most s.length ≡ suc most)) ⊎ ((s.length ≤ most) × (key_of most s.length ≡ s.length))
+        → next ≤ s.length
+    far_long listed (inl past) = absurd (let more = past.0 in omega arith)
+    far_long listed (inr within) =
+        let its = between.far_right listed.n listed.it listed.there in
+        let is : key_of most s.length ≡ key = sym (its.key ∙ ap (λ (r : Reach). key_of most r.length) listed.value) ∙ listed.own in
+        let same = within.1 in
+        omega arith
+
+    by : Has near s ⊎ IsListed far key s → it.value.length ≢ s.length
+    by (inl has) = λ is. absurd (let less = early in let long = between.near_long s has in omega arith)
+    by (inr listed) = λ is. absurd (let less = early in let long = far_long listed (key_or most s.length) in omega arith)
 
 -- ---- a round
 
@@ -63,7 +109,8 @@ module _ (graph : FlowGraph) (framed : IsFramed graph) (room most next latest la
 
   grows_to : IsGrown graph room most book (length old) taken.taken old mid
   grows_to =
-      grown graph room most book (length old) taken.taken old mid short (omega arith) between.laid_out (λ s has. waits_placed s (taken.each s has)) taken.taking
+      grown graph room most book (length old) taken.taken old mid short (omega arith) between.laid_out (λ s has. waits_placed s (taken.each s has))
+      (λ s has. waits_fresh graph room most next latest old book near far next (omega arith) between s (taken.each s has)) taken.taking
 
   mid_is : rows_of book.entries mid ≡ rows_of book.entries old ++ rows_of book.entries grows_to.layer
   mid_is = ap (rows_of book.entries) grows_to.more ∙ rows_more book.entries old grows_to.layer
@@ -156,6 +203,7 @@ module _ (graph : FlowGraph) (framed : IsFramed graph) (room most next latest la
         (ready_same graph (suc next) (rows_of book.entries old ++ rows_of book.entries grows_to.layer) (λ o. Left o ⊎ Stored book'.entries (Has
         (near' ++ jumps)) o)
         (Stored book'.entries (λ s. Has near' s ⊎ IsWaiting far' (suc next) s)) next_ready there back);
+    links = λ up last r is. links up last r is (cases_order (length old) up) (cases_order (length old) last);
     once = subst (λ rs. IsOnce (nodes_in rs)) (sym rows_same) (grows_to.once between.once);
     fits = grows_to.fits between.fits;
   }
@@ -206,6 +254,65 @@ module _ (graph : FlowGraph) (framed : IsFramed graph) (room most next latest la
         stays its.0 (waiting_placed its.0 (suc next) its.1) ∙ its.2,
       )
       there o (inr its) = there_new o its (next_ready.later o (inr its)) (Has-either near' jumps its.0 its.1)
+
+      -- what a link makes is shorter, or is offered with it
+      links : (up last : ℕ) (r : Row) → LinkedBy graph (rows_of book'.entries mid) up last r
+          → (length old ≡ up) ⊎ (length old < up) ⊎ (up < length old) → (length old ≡ last) ⊎ (length old < last) ⊎ (last < length old)
+          → (r.length < suc next) ⊎ OfLink book'.entries (λ s. Has near' s ⊎ IsWaiting far' (suc next) s) up last r
+      links up last r is = by
+        where
+          of_new : IsFrom (length old) up last
+              → (r.length < suc next) ⊎ OfLink book'.entries (λ s. Has near' s ⊎ IsWaiting far' (suc next) s) up last r
+          of_new late =
+              let one = expanded.links up last r (subst (λ rs. LinkedBy graph rs up last r)
+              (sym (take_all (rows_of book'.entries mid) (length mid) (let same = rows_long book'.entries mid in omega arith))) is) late in
+              let long : suc next ≤ one.0.length =
+              subst (λ (x : Row). suc next ≤ x.length) (sym one.2) (next_ready.later r (inr (one.0, one.1, one.2))) in
+              inr (one.0, pick one.0 long (Has-either near' jumps one.0 one.1), one.2, one.3, one.4)
+            where
+              pick : (s : Reach) → suc next ≤ s.length → Has near' s ⊎ Has jumps s → Has near' s ⊎ IsWaiting far' (suc next) s
+              pick s long (inl has) = inl has
+              pick s long (inr has) = inr (new_waiting s has long)
+
+          of_old : up ≤ length old → last ≤ length old
+              → (r.length < suc next) ⊎ OfLink book'.entries (λ s. Has near' s ⊎ IsWaiting far' (suc next) s) up last r
+          of_old up_low last_low =
+              from (between.links up last r
+              (link_front graph (rows_of book.entries old) (rows_of book.entries grows_to.layer) up last r
+              (subst (λ rs. LinkedBy graph rs up last r) (rows_same ∙ mid_is) is)
+              (let same = rows_long book.entries old in omega arith) (let same = rows_long book.entries old in omega arith)))
+            where
+              at_key : (s : Reach) → row_of book.entries s ≡ r → s.origin.up ≡ up → s.origin.last ≡ last → (w : IsWaiting far next s)
+                  → (w.it.key ≡ next) ⊎ (w.it.key < next) ⊎ (next < w.it.key)
+                  → (r.length < suc next) ⊎ OfLink book'.entries (λ s. Has near' s ⊎ IsWaiting far' (suc next) s) up last r
+              at_key s row ups lasts w (inl same) =
+                  inl (let long = waits_long s (inr (record { n = w.n; it = w.it; there = w.there; own = same; value = w.value })) in
+                  let is = ap (λ (x : Row). x.length) row in omega arith)
+              at_key s row ups lasts w (inr (inl less)) = absurd (let later = w.later in omega arith)
+              at_key s row ups lasts w (inr (inr more)) = inr (
+                s,
+                inr (record { n = w.n; it = w.it; there = put.kept w.n w.it w.there; later = omega arith; value = w.value }),
+                stays s (waiting_placed s next w) ∙ row,
+                ups,
+                lasts,
+              )
+
+              from : (r.length < next) ⊎ OfLink book.entries (λ s. Has near s ⊎ IsWaiting far next s) up last r
+                  → (r.length < suc next) ⊎ OfLink book'.entries (λ s. Has near' s ⊎ IsWaiting far' (suc next) s) up last r
+              from (inl less) = inl (omega arith)
+              from (inr (s, inl has, row, ups, lasts)) =
+                  inl (let long = between.near_long s has in let is = ap (λ (x : Row). x.length) row in omega arith)
+              from (inr (s, inr w, row, ups, lasts)) = at_key s row ups lasts w (cases_order w.it.key next)
+
+          by : (length old ≡ up) ⊎ (length old < up) ⊎ (up < length old) → (length old ≡ last) ⊎ (length old < last) ⊎ (last < length old)
+              → (r.length < suc next) ⊎ OfLink book'.entries (λ s. Has near' s ⊎ IsWaiting far' (suc next) s) up last r
+          by (inr (inl late)) other = of_new (inl late)
+          by (inl low) (inr (inl late)) = of_new (inr late)
+          by (inl low) (inl also) = of_old (omega arith) (omega arith)
+          by (inl low) (inr (inr also)) = of_old (omega arith) (omega arith)
+          by (inr (inr low)) (inr (inl late)) = of_new (inr late)
+          by (inr (inr low)) (inl also) = of_old (omega arith) (omega arith)
+          by (inr (inr low)) (inr (inr also)) = of_old (omega arith) (omega arith)
 
       back_waiting : (o : Row) (s : Reach) → row_of book'.entries s ≡ o → (w : IsWaiting far' (suc next) s)
           → (slice_get far w.n ≡ Some w.it) ⊎ (Has jumps w.it.value × (w.it.key ≡ key_of most w.it.value.length))
@@ -263,7 +370,8 @@ pub between_full : (graph : FlowGraph) → IsFramed graph → (room most next la
     (far : List (Item Reach)) → most ≤ 1000000 → IsBetween graph room most next latest rows book near far
     → IsFull room most (Waits near far next) rows → IsTooMany graph room
 between_full graph framed room most next latest rows book near far short between full =
-    too_many graph room most book (length rows) (Waits near far next) rows short (omega arith) between.laid_out placed sound within between.once full
+    too_many graph room most book (length rows) (Waits near far next) rows short (omega arith) between.laid_out
+    (waits_fresh graph room most next latest rows book near far next (omega arith) between) placed sound within between.once full
   where
     placed : (s : Reach) → Waits near far next s → IsPlaced graph book.entries s
     placed s (inl has) = between.near_placed s has

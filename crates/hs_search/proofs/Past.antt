@@ -17,7 +17,7 @@ use Rattle.hs_search.specs.Finding.{pair_of, pairs_in}
 use Rattle.hs_search.specs.Graphs.{FlowGraph, Has, IsFramed}
 use Rattle.hs_search.specs.Layout.{IsPlaced}
 use Rattle.hs_search.specs.Rounds.{Row, AllBrought, BroughtBy, by_step, by_call, as_caller, as_end, IsClosing, Known}
-use Rattle.hs_search.specs.Searching.{HasExpanded, IsBetween, IsPast, IsTakenAll, IsWaiting, Stored, Waits, key_of, nodes_in}
+use Rattle.hs_search.specs.Searching.{AreFresh, HasExpanded, IsBetween, IsPast, IsTakenAll, IsWaiting, Stored, Waits, key_of, nodes_in}
 use Rattle.hs_search.specs.Storing.{IsFull, capped, capped_if, node_of, row_of, rows_of}
 use Rattle.hs_search.specs.declared.found.Pair.{Pair}
 use Rattle.hs_search.specs.declared.graph.Node.{Node}
@@ -129,12 +129,18 @@ brought_past graph rows most x _ long level (by_call b enter) = omega arith
 brought_past graph rows most x _ long level (as_caller e y has enter leave) = omega arith
 brought_past graph rows most x _ long level (as_end c y has enter leave) = omega arith
 
+-- the offers are longer than the most
+pub past_fresh : (graph : FlowGraph) (room most : ℕ) (base : List Row) (rows : List (Item Reach)) (book : Book) (Offers : Reach → Type 0)
+    → IsPast graph room most base rows book Offers → AreFresh most rows Offers
+past_fresh graph room most base rows book Offers past s offered short = absurd (let long = past.later s offered in omega arith)
+
 module _ (graph : FlowGraph) (framed : IsFramed graph) (room most : ℕ) (base : List Row) (old mid : List (Item Reach)) (book book' : Book)
     (Offers : Reach → Type 0) (near' jumps : List Reach) (short : most ≤ 1000000) (before : IsPast graph room most base old book Offers)
     (taken : IsTakenAll room most Offers old mid) where
   grows_to : IsGrown graph room most book (length old) taken.taken old mid
   grows_to =
-      grown graph room most book (length old) taken.taken old mid short (omega arith) before.laid_out (λ s has. before.placed s (taken.each s has)) taken.taking
+      grown graph room most book (length old) taken.taken old mid short (omega arith) before.laid_out (λ s has. before.placed s (taken.each s has))
+      (λ s has. past_fresh graph room most base old book Offers before s (taken.each s has)) taken.taking
 
   mid_is : rows_of book.entries mid ≡ rows_of book.entries old ++ rows_of book.entries grows_to.layer
   mid_is = ap (rows_of book.entries) grows_to.more ∙ rows_more book.entries old grows_to.layer
@@ -255,7 +261,8 @@ past_two graph room most base rows book near jumps past = record {
 pub past_full : (graph : FlowGraph) (room most : ℕ) (base : List Row) (rows : List (Item Reach)) (book : Book) (Offers : Reach → Type 0) → most ≤ 1000000
     → IsPast graph room most base rows book Offers → IsFull room most Offers rows → IsTooMany graph room
 past_full graph room most base rows book Offers short past full =
-    too_many graph room most book (length rows) Offers rows short (omega arith) past.laid_out past.placed
+    too_many graph room most book (length rows) Offers rows short (omega arith) past.laid_out
+    (past_fresh graph room most base rows book Offers past) past.placed
     (λ s is. past.closing.sound (row_of book.entries s) (s, is, refl)) past.closing.within past.once full
 
 -- ---- the end

@@ -5,7 +5,7 @@ use Rattle.hs_search.proofs.Listing.{walk_back, walk_own}
 use Rattle.hs_search.specs.Laws.Membership.{Has-left, Has-either, Has-last}
 use Rattle.hs_search.specs.Graphs.{Has}
 use Rattle.hs_search.specs.Listing.{IsIndex, IsWalk, Seen}
-use Rattle.hs_search.specs.Storing.{HasRow, IsListed, IsOther, IsTakenList, Takes, TakesEach, TakesListed, Taking, none_taken, one_known, one_added}
+use Rattle.hs_search.specs.Storing.{HasRow, IsListed, IsOther, IsTakenList, Takes, TakesEach, TakesListed, Taking, none_taken, one_known, one_replaced, one_added}
 use Rattle.hs_search.specs.declared.lists.Item.{Item}
 use Rattle.hs_search.specs.declared.reach.Reach.{Reach}
 use Rattle.hs_search.specs.declared.reach.SearchEnd.{SearchEnd}
@@ -25,7 +25,7 @@ pub record IsTakenFrom (room most : ℕ) (items : List (Item Reach)) (key at : �
 -- ---- several offers
 
 -- nothing is taken at first
-pub taken_first : (room most : ℕ) (items : List (Item Reach)) (key at : ℕ) (old : List (Item Reach))
+unfoldable pub taken_first : (room most : ℕ) (items : List (Item Reach)) (key at : ℕ) (old : List (Item Reach))
     → Seen items key at (λ n it. Has [] it.value) → IsTakenFrom room most items key at old old
 taken_first room most items key at old seen = record { taken = []; taking = none_taken old; each = λ reach has. absurd has; seen = seen }
 
@@ -34,7 +34,8 @@ pub taking_more : (room most : ℕ) (offers : List Reach) (reach : Reach) (old m
     → Takes room most reach mid new (Ok done) → Taking room most (offers ++ reach ∷ []) old new
 taking_more room most offers reach old mid new done taking (inl same) =
     subst (Taking room most (offers ++ reach ∷ []) old) (sym same.0) (one_known offers reach old mid taking same.1)
-taking_more room most offers reach old mid new done taking (inr added) = one_added offers reach old mid new taking added
+taking_more room most offers reach old mid new done taking (inr (inl replaced)) = one_replaced offers reach old mid new taking replaced
+taking_more room most offers reach old mid new done taking (inr (inr added)) = one_added offers reach old mid new taking added
 
 pub taking_next : (room most : ℕ) (offers : List Reach) (n : ℕ) (d : Reach) (old mid new : List (Item Reach)) (done : Unit {0}) → n < length offers
     → Taking room most (take n offers) old mid → Takes room most (slice_index_or offers n d) mid new (Ok done) → Taking room most (take (n + 1) offers) old new
@@ -69,7 +70,7 @@ pub listed_at : (items : List (Item Reach)) (key n : ℕ) (it : Item Reach) → 
 listed_at items key n it there own = record { n = n; it = it; there = there; own = own; value = refl }
 
 -- the walk, with one offer more
-pub from_more : (room most : ℕ) (heads : List ℕ) (items : List (Item Reach)) (key at : ℕ) (it : Item Reach) (old mid new : List (Item Reach)) (done : Unit {0})
+unfoldable pub from_more : (room most : ℕ) (heads : List ℕ) (items : List (Item Reach)) (key at : ℕ) (it : Item Reach) (old mid new : List (Item Reach)) (done : Unit {0})
     → IsIndex heads items → IsWalk items key at → IsTakenFrom room most items key at old mid → 0 < at → slice_get items (at - 1) ≡ Some it
     → Takes room most it.value mid new (Ok done)
     → IsTakenFrom room most items key it.link old new × IsWalk items key it.link × (it.link < at)
@@ -95,7 +96,7 @@ from_more room most heads items key at it old mid new done right walk from some 
     each reach (inr (inr no_more)) own = absurd no_more
 
 -- all are taken
-pub taken_all : (room most : ℕ) (items : List (Item Reach)) (key : ℕ) (old new : List (Item Reach)) → IsTakenFrom room most items key 0 old new
+unfoldable pub taken_all : (room most : ℕ) (items : List (Item Reach)) (key : ℕ) (old new : List (Item Reach)) → IsTakenFrom room most items key 0 old new
     → IsTakenList room most items key old new
 taken_all room most items key old new from = record {
   taken = from.taken;

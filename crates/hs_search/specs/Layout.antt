@@ -7,7 +7,7 @@
 use Rattle.std.specs.Prelude.{◌≡◌, ◌<◌, ◌≤◌, ℕ, suc, true, List, ◌++◌, length, slice_get, Some, take}
 use Rattle.hs_search.specs.Bringing.{Book}
 use Rattle.hs_search.specs.Graphs.{FlowGraph, Has}
-use Rattle.hs_search.specs.Links.{HasLink}
+use Rattle.hs_search.specs.Links.{HasLink, IsFrom, LinkedBy, OfLink}
 use Rattle.hs_search.specs.Rounds.{Row, BroughtBy}
 use Rattle.hs_search.specs.Storing.{call_at, node_of, row_of, rows_of}
 use Rattle.hs_search.specs.declared.graph.Node.{Node}
@@ -82,3 +82,5 @@ pub record IsExpanded (graph : FlowGraph) (rows : List (Item Reach)) (number : �
       → BroughtBy graph (take (suc number) (rows_of new.entries rows)) (row_of new.entries it.value) (row_of new.entries s)
   pub brought : (o : Row) → BroughtBy graph (take (suc number) (rows_of new.entries rows)) (row_of new.entries it.value) o
       → (s : Reach) × Has (steps ++ returns) s × (row_of new.entries s ≡ o)
+  pub links : (up last : ℕ) (r : Row) → LinkedBy graph (take (suc number) (rows_of new.entries rows)) up last r → IsFrom number up last
+      → OfLink new.entries (Has (steps ++ returns)) up last r

@@ -1,6 +1,7 @@
 pub mod Bringing
 pub mod Calling
 pub mod Chains
+pub mod Choices
 pub mod Comparing
 pub mod Deciding
 pub mod Finding
@@ -14,6 +15,7 @@ pub mod Links
 pub mod Listing
 pub mod Meeting
 pub mod Orders
+pub mod Rivals
 pub mod Rounds
 pub mod Searching
 pub mod Sorting

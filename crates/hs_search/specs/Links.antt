@@ -4,7 +4,8 @@
 --     IsLinked graph rows origin row   the row is what its link says, of these rows
 --     HasLink                   the same of a stored row
 --     AreLinked                 each stored row has a link to rows that were made before it
-use Rattle.std.specs.Prelude.{◌≡◌, ◌≤◌, ◌⊎◌, ℕ, zero, suc, List, Some, slice_get, take}
+--     OfLink entries Offers up last row   one of the offers has that link, and the row
+use Rattle.std.specs.Prelude.{◌≡◌, ◌<◌, ◌≤◌, ◌⊎◌, ℕ, zero, suc, List, Some, slice_get, take}
 use Rattle.hs_search.specs.Graphs.{FlowGraph, Has}
 use Rattle.hs_search.specs.Rounds.{Row, entered_by, first_row, returned, stepped}
 use Rattle.hs_search.specs.Storing.{row_of, rows_of}
@@ -44,3 +45,11 @@ HasLink graph rows entries reach = IsLinked graph rows reach.origin (row_of entr
 abbrev pub AreLinked : FlowGraph → ℕ → List (Item ℕ) → List (Item Reach) → Type 0
 AreLinked graph most entries rows =
     (n : ℕ) (it : Item Reach) → slice_get rows n ≡ Some it → it.value.length ≤ most → HasLink graph (take n (rows_of entries rows)) entries it.value
+
+-- a link to one of the rows from that place on
+abbrev pub IsFrom : ℕ → ℕ → ℕ → Type 0
+IsFrom first up last = (first < up) ⊎ (first < last)
+
+-- what a link makes is offered, with that link
+abbrev pub OfLink : List (Item ℕ) → (Reach → Type 0) → ℕ → ℕ → Row → Type 0
+OfLink entries Offers up last row = (s : Reach) × Offers s × (row_of entries s ≡ row) × (s.origin.up ≡ up) × (s.origin.last ≡ last)

@@ -4,12 +4,12 @@
 --     IsWaiting far next s        the offer waits for that round or a later one
 --     IsBetween                   before a round
 --     IsPast                      past the most
-use Rattle.std.specs.Prelude.{◌≡◌, ◌<◌, ◌≤◌, ◌⊎◌, ℕ, suc, nat_lt, Bool, true, false, List, ◌++◌, map, length, slice_get, Some, Result, Ok, Err}
+use Rattle.std.specs.Prelude.{◌≡◌, ◌≢◌, ◌<◌, ◌≤◌, ◌⊎◌, ℕ, suc, nat_lt, Bool, true, false, List, ◌++◌, map, length, slice_get, take, Some, Result, Ok, Err}
 use Rattle.hs_search.specs.Bringing.{Book}
 use Rattle.hs_search.specs.Chains.{IsOnce, IsTooMany}
 use Rattle.hs_search.specs.Graphs.{FlowGraph, Has}
 use Rattle.hs_search.specs.Layout.{Grows, IsLaidOut, IsPlaced}
-use Rattle.hs_search.specs.Links.{AreLinked, HasLink}
+use Rattle.hs_search.specs.Links.{AreLinked, HasLink, IsFrom, LinkedBy, OfLink}
 use Rattle.hs_search.specs.Rounds.{Row, AllBrought, Built, Closed, IsClosing, IsReady, Known}
 use Rattle.hs_search.specs.Storing.{IsFull, IsListed, Taking, row_of, rows_of}
 use Rattle.hs_search.specs.declared.graph.Node.{Node}
@@ -29,6 +29,8 @@ pub record HasExpanded (graph : FlowGraph) (rows : List (Item Reach)) (first cou
   pub placed : (s : Reach) → Has (near ++ jumps) s → IsPlaced graph new.entries s
   pub linked : (s : Reach) → Has (near ++ jumps) s → HasLink graph (rows_of new.entries rows) new.entries s
   pub all : AllBrought graph (rows_of new.entries rows) first count (Stored new.entries (Has (near ++ jumps)))
+  pub links : (up last : ℕ) (r : Row) → LinkedBy graph (take count (rows_of new.entries rows)) up last r → IsFrom first up last
+      → OfLink new.entries (Has (near ++ jumps)) up last r
   pub long : (s : Reach) → Has near s → (n : ℕ) × (it : Item Reach) × (first ≤ n) × (slice_get rows n ≡ Some it) × (s.length ≡ suc it.value.length)
 
 -- ---- offers that are taken
@@ -45,6 +47,11 @@ abbrev pub TakesAll : ℕ → ℕ → (Reach → Type 0) → List (Item Reach) �
 TakesAll room most Offers old new (Ok _) = IsTakenAll room most Offers old new
 TakesAll room most Offers old new (Err Limit) = IsFull room most Offers old
 TakesAll room most Offers old new (Err NoMemory) = Unit {0}
+
+-- no row has the length of one of these offers, if that is up to the most
+abbrev pub AreFresh : ℕ → List (Item Reach) → (Reach → Type 0) → Type 0
+AreFresh most rows Offers =
+    (s : Reach) → Offers s → s.length ≤ most → (n : ℕ) (it : Item Reach) → slice_get rows n ≡ Some it → it.value.length ≢ s.length
 
 -- those that wait: of the last round, or by their length
 abbrev pub Waits : List Reach → List (Item Reach) → ℕ → Reach → Type 0
@@ -105,6 +112,9 @@ pub record IsBetween (graph : FlowGraph) (room most next latest : ℕ) (rows : L
   pub far_right : AreFar graph most latest book.entries far
   pub short : (r : Row) → Has (rows_of book.entries rows) r → r.length < next
   pub ready : IsReady graph next (rows_of book.entries rows) (Stored book.entries (λ s. Has near s ⊎ IsWaiting far next s))
+  -- what each link makes is shorter, or is offered with that link
+  pub links : (up last : ℕ) (r : Row) → LinkedBy graph (rows_of book.entries rows) up last r
+      → (r.length < next) ⊎ OfLink book.entries (λ s. Has near s ⊎ IsWaiting far next s) up last r
   pub once : IsOnce (nodes_in (rows_of book.entries rows))
   pub fits : length rows ≤ room
 

@@ -4,7 +4,7 @@
 --     row_of, rows_of           and its row, and all of them
 --     IsRowOf items reach n     the stored row of that number has the node
 --     Takes                     what becomes of one offer, and of several
-use Rattle.std.specs.Prelude.{◌≡◌, ◌<◌, ◌≤◌, ◌⊎◌, ℕ, suc, nat_lt, Bool, true, false, List, [], ◌∷◌, ◌++◌, map, length, slice_get, Option, Some, None, Result, Ok, Err}
+use Rattle.std.specs.Prelude.{◌≡◌, ◌<◌, ◌≤◌, ◌⊎◌, ℕ, suc, nat_lt, Bool, true, false, List, [], ◌∷◌, ◌++◌, map, length, slice_get, slice_set, Option, Some, None, Result, Ok, Err}
 use Rattle.hs_search.specs.Graphs.{Has}
 use Rattle.hs_search.specs.Rounds.{Row}
 use Rattle.hs_search.specs.declared.graph.Node.{Node}
@@ -84,9 +84,19 @@ pub record IsAdded (room most : ℕ) (reach : Reach) (old new : List (Item Reach
   pub more : new ≡ old ++ it ∷ []
   pub fits : length old < room
 
--- one offer: its node has a row, or gets one, or there is no room
+-- the row of its node is replaced by the offer, which has the same length
+pub record IsReplaced (reach : Reach) (n : ℕ) (old new : List (Item Reach)) : Type 0 where
+  pub row : IsRowOf old reach n
+  pub long : row.it.value.length ≡ reach.length
+  pub more : new ≡ slice_set old n (record row.it { value = reach })
+
+-- with a length up to the most
+abbrev pub Replaces : ℕ → Reach → List (Item Reach) → List (Item Reach) → Type 0
+Replaces most reach old new = (n : ℕ) × IsReplaced reach n old new × (reach.length ≤ most)
+
+-- one offer: its node has a row, which may be replaced, or gets one, or there is no room
 abbrev pub Takes : ℕ → ℕ → Reach → List (Item Reach) → List (Item Reach) → Result (Unit {0}) SearchEnd → Type 0
-Takes room most reach old new (Ok _) = ((new ≡ old) × HasRow old reach) ⊎ IsAdded room most reach old new
+Takes room most reach old new (Ok _) = ((new ≡ old) × HasRow old reach) ⊎ Replaces most reach old new ⊎ IsAdded room most reach old new
 Takes room most reach old new (Err Limit) = (¬ (HasRow old reach)) × (room ≤ length old)
 Takes room most reach old new (Err NoMemory) = Unit {0}
 
@@ -94,6 +104,8 @@ Takes room most reach old new (Err NoMemory) = Unit {0}
 pub data Taking (room most : ℕ) : List Reach → List (Item Reach) → List (Item Reach) → Type 0 where
   none_taken : (items : List (Item Reach)) → Taking room most [] items items
   one_known : (offers : List Reach) (reach : Reach) (old new : List (Item Reach)) → Taking room most offers old new → HasRow new reach
+      → Taking room most (offers ++ reach ∷ []) old new
+  one_replaced : (offers : List Reach) (reach : Reach) (old mid new : List (Item Reach)) → Taking room most offers old mid → Replaces most reach mid new
       → Taking room most (offers ++ reach ∷ []) old new
   one_added : (offers : List Reach) (reach : Reach) (old mid new : List (Item Reach)) → Taking room most offers old mid → IsAdded room most reach mid new
       → Taking room most (offers ++ reach ∷ []) old new

@@ -1,9 +1,11 @@
 //! The rows that are found, listed by operation. A hash finds those of long lists. `specs/Hashing.antt` says which it has.
 
-ghost use Rattle.std.specs.Prelude.{◌≡◌, ◌<◌, ◌++◌, ◌∷◌, ℕ, [], length, true, false, IfOk, OnOk, IfSome};
+ghost use Rattle.std.specs.Prelude.{◌≡◌, ◌<◌, ◌++◌, ◌∷◌, ℕ, [], length, slice_get, slice_set, Some, true, false, IfOk, OnOk, IfSome};
 ghost use Rattle.hs_search.specs.Hashing.{IsFinding, IsHashed, IsOldest, IsReady, Leaves, nearest, spot_of};
 ghost use Rattle.hs_search.specs.Listing.{Seen, last_in};
 ghost use Rattle.hs_search.specs.Storing.{IsOther};
+ghost use Rattle.hs_search.specs.declared.lists.Item.{Item};
+ghost use Rattle.hs_search.specs.declared.reach.Reach.{Reach};
 
 use crate::lists::Lists;
 use crate::reach::Reach;
@@ -149,6 +151,16 @@ impl Rows {
     {
         self.keep(leaving)?;
         self.lists.push(at, value)
+    }
+
+    /// Replaces the row of that number by an offer to its node.
+    pub(crate) fn replace(&mut self, number: usize, offer: Reach)
+        requires row { (it : Item Reach) → slice_get self.old.lists.items.items number ≡ Some it → (it.value.fact ≡ offer.fact) × (it.value.call ≡ offer.call) }
+        requires known { number < length self.old.lists.items.items }
+        ensures items { (it : Item Reach) → slice_get self.old.lists.items.items number ≡ Some it → self.new.lists.items.items ≡ slice_set self.old.lists.items.items number (record it { value = offer }) }
+        ensures wide { length self.new.lists.heads.items ≡ length self.old.lists.heads.items }
+    {
+        self.lists.set(number, offer);
     }
 
     /// The rows alone.

@@ -1,12 +1,15 @@
 //! Which of the chains of two rows comes first, by the links of rows. `specs/Judging.antt` says how it is told.
 
-ghost use Rattle.std.specs.Prelude.{◌≡◌, ◌≢◌, ◌<◌, ◌≤◌, ◌⊎◌, ℕ, length, IfSome, IfNone};
+ghost use Rattle.std.specs.Prelude.{◌≡◌, ◌≢◌, ◌<◌, ◌≤◌, ◌⊎◌, ◌-◌, ℕ, length, slice_get, Some, true, false, IfSome, IfNone};
 ghost use Rattle.std.specs.declared.cmp.Ordering.TheVariants.{Less, Equal, Greater};
 ghost use Rattle.hs_search.specs.Deciding.{Decides};
 ghost use Rattle.hs_search.specs.Judging.{Told, first_entry, inner_ends, link_of};
 ghost use Rattle.hs_search.specs.Meeting.{AreLower, Follows, Hangs, Under};
 ghost use Rattle.hs_search.specs.Orders.{IsAlike, IsBefore};
+ghost use Rattle.hs_search.specs.Rivals.{IsDecided, IsOffered, IsReachAt, OfferFirst, RowFirst, with_offer};
 ghost use Rattle.hs_search.specs.Storing.{AllKnown};
+ghost use Rattle.hs_search.specs.declared.lists.Item.{Item};
+ghost use Rattle.hs_search.specs.declared.reach.Reach.{Reach};
 
 use crate::calls::Calls;
 use crate::graph::Node;
@@ -49,24 +52,43 @@ fn read_link(row: Reach) -> Link
     }
 }
 
-/// The row before the one of that number.
-fn up(rows: &Lists<Reach>, number: u32) -> u32
+/// The row of that number, counted from 1. The offer is the last one, if there is one.
+fn row_at(rows: &Lists<Reach>, offer: Option<Reach>, number: u32) -> Reach
     requires some { 0 < number }
-    requires known { number ≤ length rows.now.items.items }
-    ensures { Follows rows.now.items.items result number }
+    requires known { number ≤ length (with_offer rows.now.items.items offer) }
+    ensures { IsReachAt (with_offer rows.now.items.items offer) (number - 1) result }
 {
-    rows.item((number - 1) as usize).value.origin.up
+    let place = (number - 1) as usize;
+    match offer {
+        Some(offer) => {
+            if place < rows.len() {
+                rows.item(place).value
+            } else {
+                offer
+            }
+        }
+        None => rows.item(place).value,
+    }
+}
+
+/// The row before the one of that number.
+fn up(rows: &Lists<Reach>, offer: Option<Reach>, number: u32) -> u32
+    requires some { 0 < number }
+    requires known { number ≤ length (with_offer rows.now.items.items offer) }
+    ensures { Follows (with_offer rows.now.items.items offer) result number }
+{
+    row_at(rows, offer, number).origin.up
 }
 
 /// Where the chains of two rows part, unless one of the rows is in the chain of the other.
-fn meet(rows: &Lists<Reach>, p: u32, q: u32) -> Option<Meeting>
-    requires p_within { p ≤ length rows.now.items.items }
-    requires q_within { q ≤ length rows.now.items.items }
-    requires lower { AreLower rows.now.items.items }
-    ensures left { IfSome result (λ it. Hangs rows.now.items.items it.at it.left p) }
-    ensures right { IfSome result (λ it. Hangs rows.now.items.items it.at it.right q) }
+fn meet(rows: &Lists<Reach>, offer: Option<Reach>, p: u32, q: u32) -> Option<Meeting>
+    requires p_within { p ≤ length (with_offer rows.now.items.items offer) }
+    requires q_within { q ≤ length (with_offer rows.now.items.items offer) }
+    requires lower { AreLower (with_offer rows.now.items.items offer) }
+    ensures left { IfSome result (λ it. Hangs (with_offer rows.now.items.items offer) it.at it.left p) }
+    ensures right { IfSome result (λ it. Hangs (with_offer rows.now.items.items offer) it.at it.right q) }
     ensures parted { IfSome result (λ it. it.left ≢ it.right) }
-    ensures above { IfNone result (Under rows.now.items.items p q ⊎ Under rows.now.items.items q p) }
+    ensures above { IfNone result (Under (with_offer rows.now.items.items offer) p q ⊎ Under (with_offer rows.now.items.items offer) q p) }
 {
     let mut x = p;
     let mut y = q;
@@ -75,10 +97,10 @@ fn meet(rows: &Lists<Reach>, p: u32, q: u32) -> Option<Meeting>
     'back: while x != y {
         if x > y {
             left = Some(x);
-            x = up(rows, x);
+            x = up(rows, offer, x);
         } else {
             right = Some(y);
-            y = up(rows, y);
+            y = up(rows, offer, y);
         }
     }
     let Some(left) = left else {
@@ -103,16 +125,16 @@ fn inner(left: Link, right: Link, p: u32, q: u32) -> Option<(u32, u32)>
 }
 
 /// The first entry that the row's link adds.
-fn entry(rows: &Lists<Reach>, calls: &Calls, row: Reach) -> Node
+fn entry(rows: &Lists<Reach>, offer: Option<Reach>, calls: &Calls, row: Reach) -> Node
     requires own { row.call < length calls.now.entries.items.items }
-    requires known { AllKnown (length calls.now.entries.items.items) rows.now.items.items }
-    requires lower { row.origin.last ≤ length rows.now.items.items }
-    ensures { result ≡ first_entry calls.now.entries.items.items rows.now.items.items row }
+    requires known { AllKnown (length calls.now.entries.items.items) (with_offer rows.now.items.items offer) }
+    requires lower { row.origin.last ≤ length (with_offer rows.now.items.items offer) }
+    ensures { result ≡ first_entry calls.now.entries.items.items (with_offer rows.now.items.items offer) row }
 {
     if row.origin.last == 0 {
         return calls.node(row);
     }
-    let end = rows.item((row.origin.last - 1) as usize).value;
+    let end = row_at(rows, offer, row.origin.last);
     calls.first(end.call)
 }
 
@@ -135,28 +157,53 @@ fn compare(left: Node, right: Node) -> Ordering
     }
 }
 
-/// Which of the chains of two rows comes first. `Equal` tells nothing: one row is in the chain of the other, or the entries at which the chains part are
+/// Which of the chains of two rows comes first. The offer counts as one. `Equal` tells nothing: one row is in the chain of the other, or the entries at which the chains part are
 /// alike.
-pub(crate) fn judge(rows: &Lists<Reach>, calls: &Calls, p: u32, q: u32) -> Ordering
-    requires p_within { p ≤ length rows.now.items.items }
-    requires q_within { q ≤ length rows.now.items.items }
-    requires lower { AreLower rows.now.items.items }
-    requires known { AllKnown (length calls.now.entries.items.items) rows.now.items.items }
-    ensures less { result ≡ Less → Told calls.now.entries.items.items rows.now.items.items p q }
-    ensures greater { result ≡ Greater → Told calls.now.entries.items.items rows.now.items.items q p }
-    ensures decided { Decides calls.now.entries.items.items rows.now.items.items p q → result ≢ Equal }
+fn judge(rows: &Lists<Reach>, offer: Option<Reach>, calls: &Calls, p: u32, q: u32) -> Ordering
+    requires p_within { p ≤ length (with_offer rows.now.items.items offer) }
+    requires q_within { q ≤ length (with_offer rows.now.items.items offer) }
+    requires lower { AreLower (with_offer rows.now.items.items offer) }
+    requires known { AllKnown (length calls.now.entries.items.items) (with_offer rows.now.items.items offer) }
+    ensures less { result ≡ Less → Told calls.now.entries.items.items (with_offer rows.now.items.items offer) p q }
+    ensures greater { result ≡ Greater → Told calls.now.entries.items.items (with_offer rows.now.items.items offer) q p }
+    ensures decided { Decides calls.now.entries.items.items (with_offer rows.now.items.items offer) p q → result ≢ Equal }
 {
     let mut left_end = p;
     let mut right_end = q;
-    'calls: while let Some(meeting) = meet(rows, left_end, right_end) {
-        let left = rows.item((meeting.left - 1) as usize).value;
-        let right = rows.item((meeting.right - 1) as usize).value;
+    'calls: while let Some(meeting) = meet(rows, offer, left_end, right_end) {
+        let left = row_at(rows, offer, meeting.left);
+        let right = row_at(rows, offer, meeting.right);
         let Some((inside, beside)) = inner(read_link(left), read_link(right), left_end, right_end)
         else {
-            return compare(entry(rows, calls, left), entry(rows, calls, right));
+            return compare(
+                entry(rows, offer, calls, left),
+                entry(rows, offer, calls, right),
+            );
         };
         left_end = inside;
         right_end = beside;
     }
     Ordering::Equal
+}
+
+/// Whether the chain of an offer comes before that of the row of its node, which has as many entries.
+pub(crate) fn precedes(rows: &Lists<Reach>, calls: &Calls, offer: Reach, number: usize) -> bool
+    requires number { number < length rows.now.items.items }
+    requires offered { IsOffered calls.now.entries.items.items rows.now.items.items offer }
+    ensures first { result ≡ true → (it : Item Reach) → slice_get rows.now.items.items number ≡ Some it → OfferFirst offer.level calls.now.entries.items.items rows.now.items.items offer number it.value }
+    ensures second { result ≡ false → (it : Item Reach) → slice_get rows.now.items.items number ≡ Some it → IsDecided offer.level calls.now.entries.items.items rows.now.items.items offer number it.value → RowFirst offer.level calls.now.entries.items.items rows.now.items.items offer number it.value }
+{
+    let order = if offer.level == 0 {
+        let row = rows.item(number).value;
+        judge(rows, None, calls, offer.origin.up, row.origin.up)
+    } else {
+        judge(
+            rows,
+            Some(offer),
+            calls,
+            rows.len() as u32 + 1,
+            number as u32 + 1,
+        )
+    };
+    matches!(order, Ordering::Less)
 }

@@ -1,7 +1,8 @@
 //! Items by a key, the newest first. `specs/Listing.antt` says what is kept.
 
-ghost use Rattle.std.specs.Prelude.{◌≡◌, ◌<◌, ◌≤◌, ◌++◌, ◌∷◌, ◌^◌, [], length, slice_get, Some, suc, OnOk, OnErr, IfOk};
+ghost use Rattle.std.specs.Prelude.{◌≡◌, ◌<◌, ◌≤◌, ◌++◌, ◌∷◌, ◌^◌, [], length, slice_get, slice_set, Some, suc, OnOk, OnErr, IfOk};
 ghost use Rattle.hs_search.specs.Listing.{IsIndex, last_in};
+ghost use Rattle.hs_search.specs.declared.lists.Item.{Item};
 
 use hs_base::NoMemory;
 use std::alloc::Global;
@@ -27,7 +28,7 @@ pub(crate) struct Lists<T: Copy> {
     /// The heads and links say what they should.
     pub ghost right: { IsIndex heads.items items.items },
     /// Numbers of items fit.
-    pub ghost few: { length items.items < 2 ^ 32 },
+    pub ghost few: { suc (length items.items) < 2 ^ 32 },
 }
 
 impl<T: Copy> Lists<T> {
@@ -77,7 +78,7 @@ impl<T: Copy> Lists<T> {
         &self.items[number]
     }
 
-    /// Adds an item. With 2^32 - 1 items there is no memory for another.
+    /// Adds an item. With 2^32 - 2 items there is no memory for another.
     pub(crate) fn push(&mut self, key: u32, value: T) -> Result<(), NoMemory>
         requires known { key < length self.old.heads.items }
         ensures items { OnOk result (self.new.items.items ≡ self.old.items.items ++ (record { key = key; link = last_in key self.old.items.items; value = value }) ∷ []) }
@@ -85,13 +86,27 @@ impl<T: Copy> Lists<T> {
         ensures wide { length self.new.heads.items ≡ length self.old.heads.items }
         ensures one { length self.new.items.items ≤ suc (length self.old.items.items) }
     {
-        if self.items.len() >= u32::MAX as usize {
+        if self.items.len() >= u32::MAX as usize - 1 {
             return Err(NoMemory);
         }
         let link = self.last(key);
         self.items.push(Item { key, link, value })?;
         self.heads[key as usize] = self.items.len() as u32;
         Ok(())
+    }
+
+    /// Replaces what the item of that number lists.
+    pub(crate) fn set(&mut self, number: usize, value: T)
+        requires known { number < length self.old.items.items }
+        ensures items { (it : Item T) → slice_get self.old.items.items number ≡ Some it → self.new.items.items ≡ slice_set self.old.items.items number (record it { value = value }) }
+        ensures wide { self.new.heads.items ≡ self.old.heads.items }
+    {
+        let item = *self.item(number);
+        self.items[number] = Item {
+            key: item.key,
+            link: item.link,
+            value,
+        };
     }
 
     /// Adds keys, up to that one.

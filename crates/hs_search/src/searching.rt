@@ -1,8 +1,10 @@
 //! The search: rounds by length, and what is left past the most. `specs/Searching.antt` has the state between them.
 
-ghost use Rattle.std.specs.Prelude.{◌≡◌, ◌<◌, ◌≤◌, ◌⊎◌, [], ℕ, suc, true, length, IfOk, OnOk};
+ghost use Rattle.std.specs.Prelude.{◌≡◌, ◌<◌, ◌≤◌, ◌⊎◌, [], ℕ, suc, true, length, IfOk, IfSome, OnOk};
 ghost use Rattle.hs_search.specs.Bringing.{book_of};
+ghost use Rattle.hs_search.specs.Choices.{IsChoice};
 ghost use Rattle.hs_search.specs.Graphs.{Has};
+ghost use Rattle.hs_search.specs.Rivals.{AreOffered};
 ghost use Rattle.hs_search.specs.Searching.{AreBelow, Goes, IsBetween, IsPast, IsPutOff, TakesAll, Waits, key_of};
 ghost use Rattle.hs_search.specs.States.{Explores, IsComplete, IsEnded, IsPassing, IsRound};
 ghost use Rattle.hs_search.specs.Storing.{AllBelow, AllListedBelow, rows_of};
@@ -79,6 +81,7 @@ fn later(a: u32, b: u32) -> u32
 /// Takes the offers of a round: those of the last round, and those that are listed by a number.
 fn take_waiting(
     rows: &mut Rows,
+    ties: Option<&Calls>,
     near: &mut Vec<Reach>,
     far: &Lists<Reach>,
     key: u32,
@@ -88,13 +91,15 @@ fn take_waiting(
     requires near { AllBelow (length rows.old.lists.heads.items) near.old.items }
     requires far { AllListedBelow (length rows.old.lists.heads.items) far.now.items.items }
     requires short { most ≤ 1000000 }
+    requires offered { IfSome ties (λ calls. AreOffered calls.now.entries.items.items most rows.old.lists.items.items (Waits near.old.items far.now.items.items key)) }
     ensures taken { TakesAll room most (Waits near.old.items far.now.items.items key) rows.old.lists.items.items rows.new.lists.items.items result }
+    ensures chosen { OnOk result (IfSome ties.entry (λ calls. IsChoice calls.now.entries.items.items room most (Waits near.old.items far.now.items.items key) rows.old.lists.items.items rows.new.lists.items.items)) }
     ensures empty { OnOk result (near.new.items ≡ []) }
     ensures wide { length rows.new.lists.heads.items ≡ length rows.old.lists.heads.items }
 {
-    take_each(rows, near.as_slice(), room, most)?;
+    take_each(rows, ties, near.as_slice(), room, most)?;
     near.clear();
-    take_listed(rows, far, key, room, most)
+    take_listed(rows, ties, far, key, room, most)
 }
 
 /// Takes the offers of a pass past the most.
@@ -113,8 +118,8 @@ fn take_offers(
     ensures jumps_empty { OnOk result (jumps.new.items ≡ []) }
     ensures wide { length rows.new.lists.heads.items ≡ length rows.old.lists.heads.items }
 {
-    take_each(rows, near.as_slice(), room, most)?;
-    take_each(rows, jumps.as_slice(), room, most)?;
+    take_each(rows, None, near.as_slice(), room, most)?;
+    take_each(rows, None, jumps.as_slice(), room, most)?;
     near.clear();
     jumps.clear();
     Ok(())
@@ -165,6 +170,7 @@ fn round<G: Graph>(
     let first = search.rows.len();
     take_waiting(
         &mut search.rows,
+        Some(&search.calls),
         &mut search.near,
         &search.far,
         length,
@@ -250,6 +256,7 @@ fn first_pass<G: Graph>(
     let first = search.rows.len();
     take_waiting(
         &mut search.rows,
+        None,
         &mut search.near,
         &search.far,
         most + 1,

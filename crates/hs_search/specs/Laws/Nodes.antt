@@ -3,7 +3,7 @@ use Rattle.std.proofs.Common.{◌≡◌, ℕ, ◌==◌, Bool, true, false, ◌&&
 use Rattle.std.proofs.lemmas.Bool.Decides.{nat_tests}
 use Rattle.hs_search.specs.declared.graph.Node.{Node}
 
-abbrev same_node : Node → Node → Bool
+abbrev pub same_node : Node → Node → Bool
 same_node a b = (a.at == b.at) && ((a.fact == b.fact) && (a.entered == b.entered))
 
 -- nodes of the same numbers are one
@@ -18,10 +18,10 @@ node_is a b at fact entered =
     the : ℕ → ℕ → ℕ → Node
     the at fact entered = record { at = at; fact = fact; entered = entered }
 
-same_is : (a b : Node) → same_node a b ≡ true → a ≡ b
+pub same_is : (a b : Node) → same_node a b ≡ true → a ≡ b
 same_is a b same = node_is a b (grind (arith, nat_tests)) (grind (arith, nat_tests)) (grind (arith, nat_tests))
 
-itself : (a : Node) → same_node a a ≡ true
+pub itself : (a : Node) → same_node a a ≡ true
 itself a = grind (arith, nat_tests)
 
 -- two nodes are one or not

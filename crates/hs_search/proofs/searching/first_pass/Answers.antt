@@ -1,6 +1,8 @@
 use Rattle.std.proofs.Common.{rules, arith, add-one, ◌+◌, ◌≡◌, ◌∙◌, Err, length, suc, subst, sym}
 use Rattle.hs_search.proofs.Beginning.{far_below, laid_taken, pass_done, past_end, waits_placed}
+use Rattle.hs_search.proofs.Passing.{waits_fresh}
 use Rattle.hs_search.proofs.Past.{past_first}
+use Rattle.hs_search.proofs.Tying.{ended_within}
 use Rattle.hs_search.specs.Bringing.{book_of}
 use Rattle.hs_search.specs.Layout.{IsLaidOut}
 use Rattle.hs_search.specs.Searching.{TakesAll, Waits}
@@ -32,6 +34,10 @@ expand_from-requires-clause-first g c =
     rw c.len-first.ensures (laid_taken (g.G.Graph.flow c.args.graph.now) c.args.room c.args.most
     (Waits c.args.search.now.near.items c.args.search.now.far.items.items (c.args.most + 1)) c.args.search.now.rows.lists.items.items
     c.take_waiting.new.rows.lists.items.items (book_of c.args.search.now.calls) c.requires.short c.requires.ended.round.between.laid_out
+    (waits_fresh (g.G.Graph.flow c.args.graph.now) c.args.room c.args.most c.requires.ended.next c.args.search.now.latest
+    c.args.search.now.rows.lists.items.items (book_of c.args.search.now.calls) c.args.search.now.near.items c.args.search.now.far.items.items
+    (c.args.most + 1) (ended_within c.args.most c.requires.ended.next c.args.search.now.latest c.args.search.now.near.items c.requires.ended.last)
+    c.requires.ended.round.between)
     (waits_placed (g.G.Graph.flow c.args.graph.now) c.args.room c.args.most c.requires.ended.next c.args.search.now.latest
     c.args.search.now.rows.lists.items.items (book_of c.args.search.now.calls) c.args.search.now.near.items c.args.search.now.far.items.items (c.args.most + 1)
     c.requires.ended.round.between) c.in_ok-take_waiting.ensures.taken).0
@@ -42,6 +48,10 @@ expand_from-requires-clause-laid_out g c =
     (laid_taken (g.G.Graph.flow c.args.graph.now) c.args.room c.args.most
     (Waits c.args.search.now.near.items c.args.search.now.far.items.items (c.args.most + 1)) c.args.search.now.rows.lists.items.items
     c.take_waiting.new.rows.lists.items.items (book_of c.args.search.now.calls) c.requires.short c.requires.ended.round.between.laid_out
+    (waits_fresh (g.G.Graph.flow c.args.graph.now) c.args.room c.args.most c.requires.ended.next c.args.search.now.latest
+    c.args.search.now.rows.lists.items.items (book_of c.args.search.now.calls) c.args.search.now.near.items c.args.search.now.far.items.items
+    (c.args.most + 1) (ended_within c.args.most c.requires.ended.next c.args.search.now.latest c.args.search.now.near.items c.requires.ended.last)
+    c.requires.ended.round.between)
     (waits_placed (g.G.Graph.flow c.args.graph.now) c.args.room c.args.most c.requires.ended.next c.args.search.now.latest
     c.args.search.now.rows.lists.items.items (book_of c.args.search.now.calls) c.args.search.now.near.items c.args.search.now.far.items.items (c.args.most + 1)
     c.requires.ended.round.between) c.in_ok-take_waiting.ensures.taken).1

@@ -1,6 +1,7 @@
-use Rattle.std.proofs.Common.{rules, ◌≡◌, length, ◌∙◌, Err, subst, sym}
+use Rattle.std.proofs.Common.{rules, arith, ◌≡◌, length, ◌∙◌, Err, subst, sym}
 use Rattle.hs_search.proofs.Beginning.{far_below, laid_taken, round_end, waits_placed}
-use Rattle.hs_search.proofs.Passing.{between_next}
+use Rattle.hs_search.proofs.Passing.{between_next, waits_fresh}
+use Rattle.hs_search.proofs.Tying.{waits_offered}
 use Rattle.hs_search.specs.Bringing.{book_of}
 use Rattle.hs_search.specs.Layout.{IsLaidOut}
 use Rattle.hs_search.specs.Searching.{HasExpanded, Waits}
@@ -24,6 +25,8 @@ expand_from-requires-clause-first g c =
     rw c.len-first.ensures (laid_taken (g.G.Graph.flow c.args.graph.now) c.args.room c.args.most
     (Waits c.args.search.now.near.items c.args.search.now.far.items.items c.args.length) c.args.search.now.rows.lists.items.items
     c.take_waiting.new.rows.lists.items.items (book_of c.args.search.now.calls) c.requires.short c.requires.round.between.laid_out
+    (waits_fresh (g.G.Graph.flow c.args.graph.now) c.args.room c.args.most c.args.length c.args.search.now.latest c.args.search.now.rows.lists.items.items
+    (book_of c.args.search.now.calls) c.args.search.now.near.items c.args.search.now.far.items.items c.args.length (omega arith) c.requires.round.between)
     (waits_placed (g.G.Graph.flow c.args.graph.now) c.args.room c.args.most c.args.length c.args.search.now.latest c.args.search.now.rows.lists.items.items
     (book_of c.args.search.now.calls) c.args.search.now.near.items c.args.search.now.far.items.items c.args.length c.requires.round.between)
     c.in_ok-take_waiting.ensures.taken).0
@@ -34,6 +37,8 @@ expand_from-requires-clause-laid_out g c =
     (laid_taken (g.G.Graph.flow c.args.graph.now) c.args.room c.args.most
     (Waits c.args.search.now.near.items c.args.search.now.far.items.items c.args.length) c.args.search.now.rows.lists.items.items
     c.take_waiting.new.rows.lists.items.items (book_of c.args.search.now.calls) c.requires.short c.requires.round.between.laid_out
+    (waits_fresh (g.G.Graph.flow c.args.graph.now) c.args.room c.args.most c.args.length c.args.search.now.latest c.args.search.now.rows.lists.items.items
+    (book_of c.args.search.now.calls) c.args.search.now.near.items c.args.search.now.far.items.items c.args.length (omega arith) c.requires.round.between)
     (waits_placed (g.G.Graph.flow c.args.graph.now) c.args.room c.args.most c.args.length c.args.search.now.latest c.args.search.now.rows.lists.items.items
     (book_of c.args.search.now.calls) c.args.search.now.near.items c.args.search.now.far.items.items c.args.length c.requires.round.between)
     c.in_ok-take_waiting.ensures.taken).1
@@ -59,3 +64,8 @@ returns g c =
         calls = c.expand_from.ensures.operations ∙ c.requires.round.wide.calls;
       };
     }
+
+pub take_waiting-requires-clause-offered : goal.take_waiting-requires-clause-offered
+take_waiting-requires-clause-offered g c =
+    waits_offered (g.G.Graph.flow c.args.graph.now) c.args.room c.args.most c.args.length c.args.search.now.latest c.args.search.now.rows.lists.items.items
+    (book_of c.args.search.now.calls) c.args.search.now.near.items c.args.search.now.far.items.items c.requires.within c.requires.round.between
