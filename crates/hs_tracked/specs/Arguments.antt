@@ -14,18 +14,18 @@ use Rattle.hs_chains.specs.Knowledge.{Knowledge}
 use Rattle.hs_code.specs.declared.function_code.Placed.{Placed}
 use Rattle.hs_code.specs.declared.op.Op.TheVariants as op
 use Rattle.hs_code_run.specs.Codes.{CodeFunction}
-use Rattle.hs_facts.specs.Effects.{WholeCode}
 use Rattle.hs_code_run.specs.Steps.{below, taken, taken_onto}
+use Rattle.hs_facts.specs.Effects.{WholeCode}
 use Rattle.hs_flow.specs.Calls.{base_of}
 use Rattle.hs_flow.specs.Laws.Parameters.{parameter_there, some_parameter}
 use Rattle.hs_flow.specs.Programs.{class_slot, object_slot, parameter_slot, parameters_in, parameters_of}
-use Rattle.hs_flow.specs.declared.fact.Slot.{Slot}
 use Rattle.hs_flow.specs.declared.fact.Slot.TheVariants as flow_slot
+use Rattle.hs_flow.specs.declared.fact.Slot.{Slot}
 use Rattle.hs_hiding.specs.Calls.{SameOutside}
 use Rattle.hs_lowering.specs.Laws.Listing.{AllAmong, Among, all_back, all_front, listed_all, placed_in}
 use Rattle.hs_meaning.specs.Classes.{class_if, class_of_type, classes_of, named_block, named_functions, named_globals, named_object, named_variables, same_class}
-use Rattle.hs_meaning.specs.Machine.{Machine, Binding, done, slot, object_at}
 use Rattle.hs_meaning.specs.Frames.{opened}
+use Rattle.hs_meaning.specs.Machine.{Machine, Binding, done, slot, object_at}
 use Rattle.hs_meaning.specs.Objects.{bindings}
 use Rattle.hs_meaning.specs.Settings.{Setting, access_by, class_number, setting_of}
 use Rattle.hs_meaning.specs.Values.{Value}
@@ -148,6 +148,20 @@ taken_there (suc n) [] place it there = there
 taken_there (suc n) (one ∷ rest) zero it there = there
 taken_there (suc n) (one ∷ rest) (suc place) it there = taken_there n rest place it there
 
+-- ---- values that are taken from a stack
+
+module _ (whole : WholeCode) (known : Knowledge) (here : Here) (machine : Machine) (ws : List Wait) where
+  -- the values from a place of the stack on are tracked
+  abbrev pub TrackedFrom : ℕ → List Value → Type 0
+  TrackedFrom place [] = Unit {0}
+  TrackedFrom place (v ∷ values) = Tracked whole known here machine ws (flow_slot.Place place) v × TrackedFrom (suc place) values
+
+  pub taken_tracked : (k : ℕ) (stack onto : List Value) → TrackedPlaces whole known here machine ws stack → TrackedFrom (length stack) onto
+      → TrackedFrom (length (below k stack)) (taken_onto k stack onto)
+  taken_tracked zero stack onto are above = above
+  taken_tracked (suc k) [] onto are above = above
+  taken_tracked (suc k) (v ∷ stack) onto are above = taken_tracked k stack (v ∷ onto) are.1 (are.0, above)
+
 -- ---- the parameters of a function
 
 module _ (whole : WholeCode) (known : Knowledge) (here : Here) (machine : Machine) (ws : List Wait) (its : Placed) (is_at : IsAt whole known here its)
@@ -245,14 +259,7 @@ module _ (whole : WholeCode) (known : Knowledge) (here : Here) (machine : Machin
 
   -- the values from a place of the caller's stack on
   abbrev FromPlace : ℕ → List Value → Type 0
-  FromPlace place [] = Unit {0}
-  FromPlace place (v ∷ values) = Tracked whole known here machine ws (flow_slot.Place place) v × FromPlace (suc place) values
-
-  taken_tracked : (k : ℕ) (stack onto : List Value) → TrackedPlaces whole known here machine ws stack → FromPlace (length stack) onto
-      → FromPlace (length (below k stack)) (taken_onto k stack onto)
-  taken_tracked zero stack onto are above = above
-  taken_tracked (suc k) [] onto are above = above
-  taken_tracked (suc k) (v ∷ stack) onto are above = taken_tracked k stack (v ∷ onto) are.1 (are.0, above)
+  FromPlace = TrackedFrom whole known here machine ws
 
   as_arguments : (place : ℕ) (values : List Value) → FromPlace (base_of (parameters_of whole fn) (known.at here.fn here.at) + place) values
       → AreArguments whole known here machine ws its is_at fn function calls of_function right setting place values
@@ -273,7 +280,7 @@ module _ (whole : WholeCode) (known : Knowledge) (here : Here) (machine : Machin
   are_arguments k low are =
       as_arguments 0 (taken k here.stack)
       (subst (λ n. FromPlace n (taken k here.stack)) (sym low ∙ no_more (base_of (parameters_of whole fn) (known.at here.fn here.at)))
-      (taken_tracked k here.stack [] are tt))
+      (taken_tracked whole known here machine ws k here.stack [] are tt))
     where
       no_more : (n : ℕ) → n ≡ n + 0
       no_more n = omega arith

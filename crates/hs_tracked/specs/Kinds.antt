@@ -48,17 +48,20 @@ bare machine = record { machine = machine; schedule = []; turns = 0 }
 
 -- ---- calls over code with tags
 
+-- the call that goes on
 abbrev pub tag_here : Here → Here
 tag_here here = record here { function = with_tag here.fn here.function }
 
+-- a call that waits, and the function that it called
 abbrev pub tag_wait : Wait → Wait
 tag_wait w = record { here = tag_here w.here; machine = w.machine; called = w.called; callee = with_tag w.called w.callee }
 
 module _ (whole : WholeCode) (are : IsCode whole.program whole.classes whole.functions) (fits : Fits whole.program) where
-  -- the program with its code, and over code with tags
+  -- the program with its code
   abbrev plain : CodeProgram
   plain = code_program whole.program whole.functions
 
+  -- the same program over code with tags
   abbrev pub with_tags : CodeProgram
   with_tags = code_program whole.program (all_tagged 0 whole.functions)
 
@@ -146,13 +149,13 @@ module _ (whole : WholeCode) (are : IsCode whole.program whole.classes whole.fun
     after next before each (went it t) kinds = each it t kinds
     after next before each (over outcome t) kinds = tt
 
-    on : (stack : List Value) (t : State) → IsKindPoint with_tags (onward other stack) t → KindsAt (onward point stack) t
-    on stack t kinds = record { call = kinds.call; waiting = kinds.waiting; globals = kinds.globals }
+    goes_onward : (stack : List Value) (t : State) → IsKindPoint with_tags (onward other stack) t → KindsAt (onward point stack) t
+    goes_onward stack t kinds = record { call = kinds.call; waiting = kinds.waiting; globals = kinds.globals }
 
-    on_if : (b : Bool) (target : ℕ) (stack : List Value) (t : State) → IsKindPoint with_tags (onto_if b other target stack) t
+    goes_if : (b : Bool) (target : ℕ) (stack : List Value) (t : State) → IsKindPoint with_tags (onto_if b other target stack) t
         → KindsAt (onto_if b point target stack) t
-    on_if true target stack t kinds = record { call = kinds.call; waiting = kinds.waiting; globals = kinds.globals }
-    on_if false target stack t kinds = record { call = kinds.call; waiting = kinds.waiting; globals = kinds.globals }
+    goes_if true target stack t kinds = record { call = kinds.call; waiting = kinds.waiting; globals = kinds.globals }
+    goes_if false target stack t kinds = record { call = kinds.call; waiting = kinds.waiting; globals = kinds.globals }
 
     picked : (b : Bool) (target : ℕ) (stack : List Value) (later : List Bool)
         → IsKindPoint with_tags (record (onto_if b other target stack) { choices = later }) s
@@ -164,7 +167,7 @@ module _ (whole : WholeCode) (are : IsCode whole.program whole.classes whole.fun
         → AfterPlain (operates_if plain at point b count its s)
     operates_on true count its kinds =
         after (λ value. onward point (value ∷ below count here.stack)) (λ value. onward other (value ∷ below count here.stack))
-        (λ value. on (value ∷ below count here.stack)) (perform plain.setting at its (taken count here.stack) s) kinds
+        (λ value. goes_onward (value ∷ below count here.stack)) (perform plain.setting at its (taken count here.stack) s) kinds
     operates_on false count its kinds = tt
 
     routine_on : (place : ℕ) (count : Option ℕ) → AfterOther (routine_called with_tags at other place count s)
@@ -179,37 +182,37 @@ module _ (whole : WholeCode) (are : IsCode whole.program whole.classes whole.fun
     -- A step of an operation inside a call is the same over both.
     same_step : (its : Op) (stack : List Value) → is_inside its ≡ true → AfterOther (by_stack with_tags at other its stack s)
         → AfterPlain (by_stack plain at point its stack s)
-    same_step (op.Num bits) stack is kinds = on _ s kinds
-    same_step op.Nil stack is kinds = on _ s kinds
+    same_step (op.Num bits) stack is kinds = goes_onward _ s kinds
+    same_step op.Nil stack is kinds = goes_onward _ s kinds
     same_step (op.Address its) stack is kinds =
-        after (λ value. onward point (value ∷ stack)) (λ value. onward other (value ∷ stack)) (λ value. on (value ∷ stack))
+        after (λ value. onward point (value ∷ stack)) (λ value. onward other (value ∷ stack)) (λ value. goes_onward (value ∷ stack))
         (address_at at plain.setting its s) kinds
     same_step op.Drop [] is kinds = tt
-    same_step op.Drop (value ∷ stack) is kinds = on stack s kinds
+    same_step op.Drop (value ∷ stack) is kinds = goes_onward stack s kinds
     same_step op.Dup [] is kinds = tt
-    same_step op.Dup (value ∷ stack) is kinds = on _ s kinds
+    same_step op.Dup (value ∷ stack) is kinds = goes_onward _ s kinds
     same_step op.Tuck [] is kinds = tt
     same_step op.Tuck (value ∷ []) is kinds = tt
-    same_step op.Tuck (value ∷ under ∷ stack) is kinds = on _ s kinds
+    same_step op.Tuck (value ∷ under ∷ stack) is kinds = goes_onward _ s kinds
     same_step (op.Jump target) stack is kinds = record { call = kinds.call; waiting = kinds.waiting; globals = kinds.globals }
     same_step (op.Zero target) [] is kinds = tt
     same_step (op.Zero target) (value ∷ stack) is kinds =
         after (λ bits. onto_if (bits == 0) point target stack) (λ bits. onto_if (bits == 0) other target stack)
-        (λ bits. on_if (bits == 0) target stack) (used at value s) kinds
+        (λ bits. goes_if (bits == 0) target stack) (used at value s) kinds
     same_step (op.Choose goal) [] is kinds = tt
     same_step (op.Choose goal) (value ∷ stack) is kinds =
         after (λ bits. onto point (case_for bits goal here.function.code.cases) stack)
         (λ bits. onto other (case_for bits goal here.function.code.cases) stack)
         (λ bits t so. record { call = so.call; waiting = so.waiting; globals = so.globals }) (used at value s) kinds
     same_step (op.Shift place) stack is kinds =
-        after (λ it. onward point stack) (λ it. onward other stack) (λ it. on stack) (decided_by (slice_get plain.setting.routines place) s) kinds
+        after (λ it. onward point stack) (λ it. onward other stack) (λ it. goes_onward stack) (decided_by (slice_get plain.setting.routines place) s) kinds
     same_step (op.Routine place) stack is kinds = routine_on place (routine_arguments (slice_get plain.setting.routines place)) kinds
     same_step (op.Call place) stack is kinds = absurd (true≢false (sym is))
     same_step op.Return stack is kinds = absurd (true≢false (sym is))
-    same_step op.Turn stack is kinds = after (λ it. onward point stack) (λ it. onward other stack) (λ it. on stack) (turn s) kinds
-    same_step op.Mark stack is kinds = on stack s kinds
+    same_step op.Turn stack is kinds = after (λ it. onward point stack) (λ it. onward other stack) (λ it. goes_onward stack) (turn s) kinds
+    same_step op.Mark stack is kinds = goes_onward stack s kinds
     same_step (op.Pick target) stack is kinds = picked (next_choice choices) target stack (later_choices choices) kinds
-    same_step (op.Bring place) stack is kinds = on (brought place stack) s kinds
+    same_step (op.Bring place) stack is kinds = goes_onward (brought place stack) s kinds
     same_step its stack is kinds = operation_on (operation_of its) kinds
 
   -- kinds do not depend on choices, nor on schedule and turns

@@ -3,7 +3,7 @@
 --     IsUsable kind p machine     the pointer is not stale; or its block is not purged, if it is a handle
 --     usable_or                   a value of the stack that is tracked is usable, or the operation that uses it is a hazard
 --     uses_or_hazard              so it is of all operands that the next operation of a call tests
-use Rattle.std.proofs.Common.{◌≡◌, ◌⊎◌, inl, inr, ℕ, zero, suc, ◌+◌, ◌-◌, ◌==◌, nat_lt, Bool, true, false, not, ◌&&◌, ◌||◌, List, [], ◌∷◌, length, map, reverse, slice_get, Some, refl, sym, ap, ◌∙◌, subst, arith, true≢false}
+use Rattle.std.proofs.Common.{◌≡◌, ◌⊎◌, inl, inr, ℕ, suc, ◌+◌, ◌-◌, ◌==◌, nat_lt, Bool, true, false, not, ◌&&◌, ◌||◌, List, [], ◌∷◌, length, map, reverse, slice_get, Some, refl, sym, ap, ◌∙◌, subst, arith, true≢false}
 use Rattle.std.proofs.lemmas.Bool.Decides.{nat_tests}
 use Rattle.std.proofs.lemmas.List.{length-map, length-reverse}
 use Rattle.hs_calls.specs.Calls.{Here, Wait}
@@ -19,7 +19,7 @@ use Rattle.hs_code.specs.declared.op.Op.TheVariants as op
 use Rattle.hs_code.specs.declared.op.Op.{Op}
 use Rattle.hs_code.specs.declared.op.Unary.TheVariants as unary
 use Rattle.hs_code_run.specs.Codes.{CodeProgram, code_program}
-use Rattle.hs_code_run.specs.Steps.{arguments_of, below, holds, routine_arguments, taken, taken_onto}
+use Rattle.hs_code_run.specs.Steps.{arguments_of, below, holds, routine_arguments, taken}
 use Rattle.hs_facts.specs.Effects.{WholeCode, ops_in}
 use Rattle.hs_facts.specs.Names.{is_pointer_in, parameter_count, role_at, role_in, taken as taken_by, takes_handle}
 use Rattle.hs_flow.specs.Programs.{scope_at}
@@ -36,6 +36,7 @@ use Rattle.hs_still.specs.Tests.{AllUsed, CallUses, RoutineUses}
 use Rattle.hs_still.specs.Uses.{Current, Unpurged, current_there, unpurged_there}
 use Rattle.hs_table.specs.declared.role.Role.TheVariants as role
 use Rattle.hs_table.specs.declared.role.Role.{Role}
+use Rattle.hs_tracked.specs.Arguments.{TrackedFrom, taken_tracked}
 use Rattle.hs_tracked.specs.Going.{IsAt}
 use Rattle.hs_tracked.specs.Tracking.{HasChain, Tracked, TrackedHandle, TrackedPlaces, TrackedPointer, TrackedSpot, AreTracked}
 use Rattle.hs_tree.specs.Kinds.{is_pointer, is_struct_row}
@@ -251,17 +252,10 @@ module _ (whole : WholeCode) (known : Knowledge) (knowledge : IsKnowledge whole 
 
     -- the values from a place of the stack on are tracked
     abbrev FromPlace : ℕ → List Value → Type 0
-    FromPlace place [] = Unit {0}
-    FromPlace place (v ∷ values) = Tracked whole known here machine ws (slot.Place place) v × FromPlace (suc place) values
-
-    taken_tracked : (k : ℕ) (stack onto : List Value) → TrackedPlaces whole known here machine ws stack → FromPlace (length stack) onto
-        → FromPlace (length (below k stack)) (taken_onto k stack onto)
-    taken_tracked zero stack onto places above = above
-    taken_tracked (suc k) [] onto places above = above
-    taken_tracked (suc k) (v ∷ stack) onto places above = taken_tracked k stack (v ∷ onto) places.1 (places.0, above)
+    FromPlace = TrackedFrom whole known here machine ws
 
     arguments : FromPlace base (taken count here.stack)
-    arguments = subst (λ n. FromPlace n (taken count here.stack)) (sym base_is) (taken_tracked count here.stack [] are.places tt)
+    arguments = subst (λ n. FromPlace n (taken count here.stack)) (sym base_is) (taken_tracked whole known here machine ws count here.stack [] are.places tt)
 
     -- ---- pointers among the arguments
 
