@@ -10,6 +10,7 @@ mod Expanding
 mod Expansions
 mod Gathering
 mod Hashed
+mod Leading
 mod Linking
 mod Listing
 mod Making
