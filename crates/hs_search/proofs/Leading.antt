@@ -1,13 +1,19 @@
 -- The traces that links make from those of earlier rounds.
 use Rattle.std.proofs.Common.{◌≡◌, ◌<◌, ◌≤◌, ◌+◌, ℕ, zero, suc, List, [], ◌∷◌, ◌++◌, Some, length, slice_get, refl, ap, sym, ◌∙◌, subst, arith, inl, inr, length-append}
 use Rattle.hs_search.proofs.Adding.{get_Has, get_of_Has}
-use Rattle.hs_search.proofs.Listing.{some_is}
+use Rattle.hs_search.proofs.Listing.{get_left, get_there, get_within, some_is}
+use Rattle.hs_search.proofs.Standing.{AllStand, stand_from, traced_stands}
+use Rattle.hs_search.proofs.Tracing.{Differs-told}
+use Rattle.hs_search.specs.Comparing.{Differs}
 use Rattle.hs_search.specs.Graphs.{FlowGraph, Has, IsFramed}
-use Rattle.hs_search.specs.Judging.{IsEndBelow, first_entry, link_by, link_of}
+use Rattle.hs_search.specs.Judging.{IsEndBelow, Told, call_of, entry_by, first_entry, link_by, link_of}
 use Rattle.hs_search.specs.Links.{LinkedBy}
+use Rattle.hs_search.specs.Meeting.{AreLower}
+use Rattle.hs_search.specs.Rivals.{IsJoined}
+use Rattle.hs_search.specs.Rounds.{Row}
 use Rattle.hs_search.specs.Storing.{row_of}
-use Rattle.hs_search.specs.Traces.{Trace, rows_in, trace_on, trace_in, trace_back, Continues, starts, goes, enters, leaves}
-use Rattle.hs_search.specs.Tracing.{Makes, trace_at}
+use Rattle.hs_search.specs.Traces.{Trace, entries_of, rows_in, trace_on, trace_in, trace_back, Continues, starts, goes, enters, leaves}
+use Rattle.hs_search.specs.Tracing.{Makes, Stands, trace_at}
 use Rattle.hs_search.specs.declared.graph.Node.{Node}
 use Rattle.hs_search.specs.declared.judging.Link.{Link}
 use Rattle.hs_search.specs.declared.judging.Link.TheVariants as link
@@ -165,3 +171,76 @@ continues_link graph framed traces _ (leaves c e b y has_c has_e enter own leave
       linked = (c.row, e.row, rows_at traces k.0 c k.1, rows_at traces j.0 e j.1, (y, enter ∙ ap (λ n. Some n) (sym own), leave, refl));
       made = (c, e, b, y, k.1, j.1, enter, own, leave, refl, refl);
     }
+
+-- ---- what is told of rows that follow those of earlier rounds
+
+-- the first entry that a link to those rows adds
+first_same : (entries : List (Item ℕ)) (old items : List (Item Reach)) (s : Reach) → s.origin.last ≤ length old
+    → first_entry entries (old ++ items) s ≡ first_entry entries old s
+first_same entries old items s low = by s.origin.last low
+  where
+    by : (last : ℕ) → last ≤ length old → entry_by entries (old ++ items) last s ≡ entry_by entries old last s
+    by zero low = refl
+    by (suc e) low =
+        let row = get_there old e (omega arith) in
+        ap (call_of entries) (get_left old items e row.0 row.1 ∙ sym row.1)
+
+end_within : (last level n : ℕ) → last ≤ n → IsEndBelow (link_by last level) n
+end_within (suc last) level n low = low
+end_within zero zero n low = tt
+end_within zero (suc level) n low = tt
+
+-- its link names rows of earlier rounds
+pub record IsLate (old : List (Item Reach)) (s : Reach) : Type 0 where
+  pub up : s.origin.up ≤ length old
+  pub last : s.origin.last ≤ length old
+
+module _ (graph : FlowGraph) (framed : IsFramed graph) (entries : List (Item ℕ)) (old items rows : List (Item Reach)) (traces : List Trace)
+    (long : length traces ≡ length old) (lower : AreLower old)
+    (stands : (n : ℕ) (it : Item Reach) → slice_get old n ≡ Some it → Stands graph entries old traces n it)
+    (joined : IsJoined graph entries rows (old ++ items)) where
+  -- the old rows stand among all of them
+  stands_wider : (n : ℕ) (it : Item Reach) → n < length old → slice_get (old ++ items) n ≡ Some it → Stands graph entries (old ++ items) traces n it
+  stands_wider n it low at =
+      let there = get_front old items n it low at in
+      let s = stands n it there in
+      let last : it.value.origin.last ≤ length old = (let below = (lower n it there).1 in omega arith) in
+      record {
+        t = s.t;
+        there = s.there;
+        row = s.row;
+        made = subst (λ first. Makes graph traces it.value.origin.up (link_of it.value) first s.t) (sym (first_same entries old items it.value last)) s.made;
+        base = s.base;
+        u = s.u;
+        at_base = s.at_base;
+        own = s.own;
+        down = s.down;
+        low = s.low;
+      }
+
+  -- so what is told by links is so of the traces of links to old rows
+  pub differs_late : (a b : ℕ) (x y : Item Reach) → slice_get (old ++ items) a ≡ Some x → slice_get (old ++ items) b ≡ Some y → IsLate old x.value
+      → IsLate old y.value → Told entries (old ++ items) (suc a) (suc b) → (t u : Trace) → IsTraceOf graph entries old traces x.value t
+      → IsTraceOf graph entries old traces y.value u → Differs (entries_of t) (entries_of u)
+  differs_late a b x y at_a at_b late late' told t u one other =
+      let all_long = length-append old items in
+      let its = stand_from graph framed entries (old ++ items) joined.placed joined.linked (length items) (length old) traces long (omega arith) stands_wider in
+      let count : length old + length items ≡ length (old ++ items) = omega arith in
+      let stand = subst (AllStand graph entries (old ++ items) (traces ++ its.0)) count its.2 in
+      let traced = traced_stands graph entries rows (old ++ items) (traces ++ its.0) joined (its.1 ∙ count) stand in
+      let p = stand a x (get_within (old ++ items) a x at_a) at_a in
+      let q = stand b y (get_within (old ++ items) b y at_b) at_b in
+      let first = same its.0 a x p late t one in
+      let second = same its.0 b y q late' u other in
+      subst (λ v. Differs (entries_of v) (entries_of u)) first
+      (subst (λ v. Differs (entries_of p.t) (entries_of v)) second
+      (Differs-told graph entries (old ++ items) (traces ++ its.0) traced (suc a) (suc b) p.t q.t told p.there q.there))
+    where
+      same : (more : List Trace) (n : ℕ) (z : Item Reach) (s : Stands graph entries (old ++ items) (traces ++ more) n z) → IsLate old z.value → (v : Trace)
+          → IsTraceOf graph entries old traces z.value v → s.t ≡ v
+      same more n z s late v is =
+          makes_same graph traces z.value.origin.up (link_of z.value) (first_entry entries (old ++ items) z.value) (first_entry entries old z.value) s.t v
+          (makes_front graph traces more z.value.origin.up (link_of z.value) (first_entry entries (old ++ items) z.value) s.t
+          (let up = late.up in omega arith)
+          (end_within z.value.origin.last z.value.level (length traces) (let last = late.last in omega arith)) s.made) is.made
+          (ap (λ (r : Row). r.node) (s.row ∙ sym is.row))
