@@ -10,6 +10,8 @@ mod Expanding
 mod Expansions
 mod Gathering
 mod Hashed
+mod Joining
+mod Leading
 mod Linking
 mod Listing
 mod Making

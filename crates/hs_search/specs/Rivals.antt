@@ -59,10 +59,18 @@ abbrev pub RowFirst : ℕ → List (Item ℕ) → List (Item Reach) → Reach �
 RowFirst zero entries rows offer n row = Told entries rows row.origin.up offer.origin.up
 RowFirst (suc level) entries rows offer n row = Told entries (with_offer rows (Some offer)) (suc n) (suc (length rows))
 
+-- of the row of that number
+abbrev pub OfferLeads : List (Item ℕ) → List (Item Reach) → Reach → ℕ → Type 0
+OfferLeads entries rows offer n = (it : Item Reach) → slice_get rows n ≡ Some it → OfferFirst offer.level entries rows offer n it.value
+
 -- it is told for certain
 abbrev pub IsDecided : ℕ → List (Item ℕ) → List (Item Reach) → Reach → ℕ → Reach → Type 0
 IsDecided zero entries rows offer n row = Decides entries rows offer.origin.up row.origin.up
 IsDecided (suc level) entries rows offer n row = Decides entries (with_offer rows (Some offer)) (suc (length rows)) (suc n)
+
+abbrev pub RowLeads : List (Item ℕ) → List (Item Reach) → Reach → ℕ → Type 0
+RowLeads entries rows offer n =
+    (it : Item Reach) → slice_get rows n ≡ Some it → IsDecided offer.level entries rows offer n it.value → RowFirst offer.level entries rows offer n it.value
 
 -- what is asked of an offer that is compared
 pub record IsOffered (entries : List (Item ℕ)) (rows : List (Item Reach)) (offer : Reach) : Type 0 where

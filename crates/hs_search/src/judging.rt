@@ -1,15 +1,13 @@
 //! Which of the chains of two rows comes first, by the links of rows. `specs/Judging.antt` says how it is told.
 
-ghost use Rattle.std.specs.Prelude.{◌≡◌, ◌≢◌, ◌<◌, ◌≤◌, ◌⊎◌, ◌-◌, ℕ, length, slice_get, Some, true, false, IfSome, IfNone};
+ghost use Rattle.std.specs.Prelude.{◌≡◌, ◌≢◌, ◌<◌, ◌≤◌, ◌⊎◌, ◌-◌, ℕ, length, true, false, IfSome, IfNone};
 ghost use Rattle.std.specs.declared.cmp.Ordering.TheVariants.{Less, Equal, Greater};
 ghost use Rattle.hs_search.specs.Deciding.{Decides};
 ghost use Rattle.hs_search.specs.Judging.{Told, first_entry, inner_ends, link_of};
 ghost use Rattle.hs_search.specs.Meeting.{AreLower, Follows, Hangs, Under};
 ghost use Rattle.hs_search.specs.Orders.{IsAlike, IsBefore};
-ghost use Rattle.hs_search.specs.Rivals.{IsDecided, IsOffered, IsReachAt, OfferFirst, RowFirst, with_offer};
+ghost use Rattle.hs_search.specs.Rivals.{IsOffered, IsReachAt, OfferLeads, RowLeads, with_offer};
 ghost use Rattle.hs_search.specs.Storing.{AllKnown};
-ghost use Rattle.hs_search.specs.declared.lists.Item.{Item};
-ghost use Rattle.hs_search.specs.declared.reach.Reach.{Reach};
 
 use crate::calls::Calls;
 use crate::graph::Node;
@@ -190,8 +188,8 @@ fn judge(rows: &Lists<Reach>, offer: Option<Reach>, calls: &Calls, p: u32, q: u3
 pub(crate) fn precedes(rows: &Lists<Reach>, calls: &Calls, offer: Reach, number: usize) -> bool
     requires number { number < length rows.now.items.items }
     requires offered { IsOffered calls.now.entries.items.items rows.now.items.items offer }
-    ensures first { result ≡ true → (it : Item Reach) → slice_get rows.now.items.items number ≡ Some it → OfferFirst offer.level calls.now.entries.items.items rows.now.items.items offer number it.value }
-    ensures second { result ≡ false → (it : Item Reach) → slice_get rows.now.items.items number ≡ Some it → IsDecided offer.level calls.now.entries.items.items rows.now.items.items offer number it.value → RowFirst offer.level calls.now.entries.items.items rows.now.items.items offer number it.value }
+    ensures first { result ≡ true → OfferLeads calls.now.entries.items.items rows.now.items.items offer number }
+    ensures second { result ≡ false → RowLeads calls.now.entries.items.items rows.now.items.items offer number }
 {
     let order = if offer.level == 0 {
         let row = rows.item(number).value;
